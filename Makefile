@@ -1,16 +1,16 @@
 ## bplint: `rt` of the kit proves and builds, python3 runs the tests on what is built.
 ##
 ##   make build          proves and builds the program, crates/bplint/out/bplint; half an hour the first time
-##   make look FILE=F    lints F by the program as it stands, unproved, in a minute and a half
+##   make look FILE=F    lints F with the program unproved, in a minute and a half
 ##   make lib            proves and builds the C library, into crates/bplist_c/out
 ##   make wheel          the Python package for pip, with the library in it, into dist/
 ##   make dist           archive, Debian packages, wheel and SHA256SUMS, into dist/
 ##   make install        program, manual page, completions, C library, header and bplist.pc, below PREFIX
-##   make uninstall      takes all of it away; give it the words that install was given
-##   make gate           every test, as .ci/run; `make test` is the same
-##   make edits          every must-fail edit, also those that the gate leaves out
-##   make bench          times of program and library
-##   make clean          takes away what was built
+##   make uninstall      removes all of it; give it the same words as install
+##   make gate           runs every test, as .ci/run does; `make test` is the same
+##   make edits          tries every must-fail edit, also those that the gate leaves out
+##   make bench          times program and library
+##   make clean          removes what was built
 ##
 ## PREFIX is /usr/local. DESTDIR, bindir, libdir, includedir, datadir, mandir, INSTALL, CC, AR, LD and LDFLAGS mean what they
 ## usually mean.
@@ -86,7 +86,7 @@ wheel:
 
 # The package's tests, over the wheel in a folder of its own.
 test-wheel: wheel
-	$(PYTHON) -B tests/python_package.py $(DIST)/bplist-*.whl
+	$(PYTHON) -B tests/gate/python_package.py $(DIST)/bplist-*.whl
 
 # What is made depends on the commit and its date alone; outside a clone it is the date of today.
 dist wheel: export SOURCE_DATE_EPOCH ?= $(or $(shell git log -1 --format=%ct 2>/dev/null),$(shell date +%s))
@@ -99,11 +99,11 @@ gate test:
 	.ci/run
 
 edits: build lib
-	python3 -B tests/edits.py --all
+	python3 -B tests/gate/edits.py --all
 
 bench: build lib wheel
-	python3 -B tests/bench.py $(BPLINT)
-	$(PYTHON) -B tests/bench_library.py $(LIBRARY) $(DIST)/bplist-*.whl
+	python3 -B tests/benchmarks/bench.py $(BPLINT)
+	$(PYTHON) -B tests/benchmarks/bench_library.py $(LIBRARY) $(DIST)/bplist-*.whl
 
 install: build lib
 	@made=$$(for folder in $(FOLDERS); do \

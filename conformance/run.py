@@ -1,17 +1,18 @@
 #!/usr/bin/env python3
 """run.py [options] COMMAND..
 
-Runs COMMAND on every file of cases.tsv and compares its exit status with the expected answer: 0 if it takes the file,
-anything else if it refuses it. The word {} in COMMAND stands for the file; without one the file is the last word.
+Runs COMMAND on every file of cases.tsv, and compares its exit status with the expected answer: 0 if COMMAND accepts the file,
+anything else if it refuses it. The word {} in COMMAND is replaced by the file's name; without it the name becomes the last
+word.
 
     python3 run.py bplint lint --quiet
     python3 run.py --values sh -c 'my-parser --spell "$0"'
 
-A file on which this suite's project decides more strictly or more widely than the format asks has the basis `profile`.
-Other answers to it are printed as choices and do not count; with --strict they count. With --values, COMMAND prints the
-value as README.md spells it, and it is compared too.
+If the project that made this suite is stricter or laxer about a file than the format asks, the file has the basis `profile`.
+Another answer to such a file is printed as a choice and does not count; with --strict it counts. With --values, COMMAND
+prints the value as README.md spells it, and run.py compares it too.
 
-The last line printed is `N passed, M failed`, with `, K choices` if there were any. The exit status is 1 if one failed.
+The last line is `N passed, M failed`, with `, K choices` if there were any. The exit status is 1 if one failed.
 """
 import argparse
 import concurrent.futures

@@ -1,6 +1,6 @@
 /*
- * print_value FILE [PATH]: prints the value that PATH (a JSON Pointer) leads to in a binary property list,
- * or what keeps the file from holding one. A container is printed as its kind and how many members it has.
+ * print_value FILE [PATH]: prints the value at PATH (a JSON Pointer) in a binary property list, or why the file
+ * holds no value. For a container it prints the kind and the number of members.
  *
  *     cc -o print_value print_value.c $(pkg-config --cflags --libs bplist)
  */
@@ -63,7 +63,7 @@ static void print_hex(const uint8_t *bytes, uint64_t length)
         printf("%02x", bytes[i]);
 }
 
-/* The number of a real or a date, whose greatest byte comes first. */
+/* Decodes the big-endian number of a real or a date. */
 static double number_of(const uint8_t *bytes, uint64_t length)
 {
     uint64_t bits = 0;
@@ -82,7 +82,7 @@ static double number_of(const uint8_t *bytes, uint64_t length)
     return narrow;
 }
 
-/* A text of two bytes a unit as UTF-8; a surrogate that stands alone is printed as U+FFFD. */
+/* Prints a wide text as UTF-8, with U+FFFD in place of each unpaired surrogate. */
 static bool print_units(bplist_handle *handle, const struct file *file, uint32_t object)
 {
     uint16_t units[256];

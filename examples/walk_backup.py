@@ -1,8 +1,9 @@
 #!/usr/bin/env python3
 """walk_backup.py FOLDER [PATH]
 
-Goes through a folder, as that of a device's backup. Of each file that begins as binary property lists do it prints a line: of an
-unsound one the reason, of a sound one the value at PATH (a JSON Pointer; "" is the top). What can't be read has a line too.
+Walks through a folder, for example a backup of a device. For each file that begins like a binary property list it
+prints a line: the value at PATH (a JSON Pointer; "" is the top), or why the file is refused. A file that cannot be read
+has a line too.
 """
 import os
 import pathlib
@@ -14,7 +15,7 @@ HEADER = b"bplist00"
 
 
 def say(name, words):
-    """Prints a line on a file, whose name may have bytes that are no text."""
+    """Prints a line about a file. Its name may have bytes that are not text."""
     print(os.fsencode(name).decode(errors="backslashreplace"), words, sep=": ")
 
 
@@ -30,7 +31,7 @@ def files(folder):
 
 
 def begins_right(file):
-    """Whether this is a file, and begins as binary property lists do."""
+    """Whether this is a regular file that begins like a binary property list."""
     if not file.is_file():
         return False
     with file.open("rb") as opened:
@@ -38,7 +39,7 @@ def begins_right(file):
 
 
 def words_on(file, path):
-    """What is said of a property list."""
+    """Returns the value of a property list as text, or why there is none."""
     try:
         with bplist.open(file) as plist:
             return repr(plist.at(path))

@@ -1,6 +1,6 @@
 /*
- * bplist.h: lint Apple's binary property lists (version bplist00) and read
- * single values of them, without building a tree.
+ * bplist.h: lint Apple's binary property lists (version bplist00), and read single
+ * values of them without building a tree.
  *
  *     bplist_handle handle = {0};
  *     bplist_verdict verdict;
@@ -15,49 +15,48 @@
  *     bplist_close(&handle);
  *
  * FILES AND OBJECTS
- *   A file is the `length` bytes at `file`, in the caller's memory. Places are
- *   counted in bytes from its first byte, from 0. A file is a table of objects,
- *   each of which has a number, from 0, and holds a value. An object may be a
- *   member of many others, so that a small file may hold a very large tree.
- *   Calls name values by the numbers of their objects; the top object holds the
- *   value of the file. No call builds a tree, and only the calls that say so take
- *   memory; what is taken is given back before the call returns, save what an
- *   open handle holds: 4 bytes for each object, and with sorted keys 4 more for
- *   each object and for each pair of a dictionary.
+ *   A file is the `length` bytes at `file`, in the caller's memory. A place is the
+ *   number of a byte in the file, counted from 0. A file is a table of objects. Each
+ *   object has a number, counted from 0, and holds a value. The top object holds the
+ *   value of the file. An object may be a member of many others, so a small file may
+ *   hold a very large tree. Calls name a value by the number of its object.
  *
- * WHAT IS ANSWERED
- *   Each call but bplist_version returns a status. BPLIST_OK means that the
- *   answer is in the outputs; with another status an output is left as it was,
- *   save where the call says otherwise. An output need not be set before the
- *   call. No call prints, exits, or keeps a pointer that it was given.
+ *   No call builds a tree. A call takes memory only if its description says so, and
+ *   frees it before it returns. An open handle keeps 4 bytes for each object. With
+ *   sorted keys it keeps 4 more bytes for each object and 4 for each pair of a
+ *   dictionary.
  *
- * WHAT THE CALLER UPHOLDS
- *   1. No pointer is NULL, and each points to as many elements as the call says,
- *      which no one else writes during the call; where that number is 0, it points
- *      to anything. What the call writes to overlaps with nothing else that the
- *      call is given.
- *   2. A handle is all zeros before it is opened for the first time. Only the
- *      calls below change it. It is not used after a copy of it was handed to a
- *      call.
- *   3. The file that goes with an open handle is the one that was opened: the
- *      same bytes, at the same or at another place in memory. (Another length is
- *      answered with BPLIST_OTHER_FILE.)
- *   4. malloc, realloc and free are those of one allocator. No call is made from
- *      a signal handler, or in a child of fork() of a process with threads.
- *   Everything else may be handed in: any bytes as file, certificate and path, a
- *   closed handle, an object number that does not exist, a buffer that is too
- *   short.
+ * RETURN VALUES
+ *   Each call except bplist_version returns a status. BPLIST_OK means that the answer
+ *   is in the outputs. With any other status the outputs are unchanged, unless the
+ *   description of the call says otherwise. An output need not be initialized. No call
+ *   prints, exits, or keeps a pointer that it was given.
+ *
+ * WHAT THE CALLER MUST ENSURE
+ *   1. No pointer is NULL. Each pointer points to as many elements as the call says,
+ *      and nobody else writes to them during the call. If that number is 0, it may
+ *      point anywhere. Memory that the call writes to does not overlap any other
+ *      memory that is passed to the call.
+ *   2. A handle is all zeros before it is opened for the first time. Only the calls
+ *      below change it. It is not used after a copy of it was passed to a call.
+ *   3. The file passed with an open handle is the file that was opened: the same bytes,
+ *      at the same or at another place in memory. (If the length differs, the call
+ *      returns BPLIST_OTHER_FILE.)
+ *   4. malloc, realloc and free belong to one allocator. No call is made from a signal
+ *      handler, or in the child of a fork() of a process with threads.
+ *   Everything else may be passed: any bytes as file, certificate or path, a closed
+ *   handle, an object number that does not exist, a buffer that is too short.
  *
  * THREADS
- *   The proofs are of one thread. What a caller upholds who has more:
- *   1. One call at a time for each handle. Threads that share one hold a lock round
- *      each call, and a handle is handed on to another thread as other memory is: by
- *      a lock, a join or the like.
+ *   The proofs cover one thread. A caller with several threads must also ensure:
+ *   1. Only one call at a time uses a handle. Threads that share a handle hold a lock
+ *      during each call. A handle is passed to another thread like other memory: by a
+ *      lock, a join or the like.
  *   2. malloc, realloc and free may be called by several threads at once.
- *   Calls on different handles, and calls without a handle, may then run at the same
- *   time, also over the same file: the library has no variables that it writes, and a
- *   call touches nothing but what it is given, what its handle holds, and memory that
- *   it takes for itself. That is tested, and not proved.
+ *   Then calls on different handles, and calls without a handle, may run at the same
+ *   time, even on the same file. The library has no variables that it writes. A call
+ *   touches only what it is given, what its handle holds, and memory that it takes for
+ *   itself. This is tested, not proved.
  */
 #ifndef BPLIST_H
 #define BPLIST_H
@@ -76,45 +75,45 @@ extern "C" {
 #define BPLIST_VERSION_PATCH 0
 #define BPLIST_VERSION "0.3.0"
 
-/* The same as one number, by which two versions can be compared: 0x000300. */
+/* The version as one number, for comparing versions: 0x000300. */
 #define BPLIST_VERSION_NUM (BPLIST_VERSION_MAJOR << 16 | BPLIST_VERSION_MINOR << 8 | BPLIST_VERSION_PATCH)
 
-/* What a call returns. */
+/* The status that a call returns. */
 typedef uint32_t bplist_status;
 
 enum {
     /* The answer is in the outputs. */
     BPLIST_OK = 0,
-    /* The file, or the certificate, breaks a rule; the verdict says which. */
+    /* The file or the certificate breaks a rule. The verdict says which one. */
     BPLIST_FAULT = 1,
-    /* A growth of memory was refused. Nothing is said, nothing is lost, and the
-       call can be made again. */
+    /* Memory was refused. There is no answer, nothing is lost, and the call can be
+       repeated. */
     BPLIST_MEMORY = 2,
     /* The handle is closed. */
     BPLIST_CLOSED = 3,
-    /* The handle that was to be opened is open. */
+    /* The handle to open is already open. */
     BPLIST_OPENED = 4,
     /* The file is not the one that was opened. */
     BPLIST_OTHER_FILE = 5,
-    /* The file has no object with that number, or its top object does not reach it. */
+    /* The object number does not exist, or the object is not reachable from the top. */
     BPLIST_NO_OBJECT = 6,
-    /* The object is of another kind than the call asks for. */
+    /* The object is not of the kind that the call needs. */
     BPLIST_OTHER_KIND = 7,
     /* The object has no such member. */
     BPLIST_NO_MEMBER = 8,
     /* A step of a path: the dictionary has no such key. */
     BPLIST_NO_KEY = 9,
-    /* A step of a path: it is no index of the array. */
+    /* A step of a path: the step is not an index of the array. */
     BPLIST_NO_INDEX = 10,
     /* A step of a path: the value is neither a dictionary nor an array. */
     BPLIST_NOT_STEPPABLE = 11,
-    /* The path is not written as a path is. */
+    /* The path is not a JSON Pointer. */
     BPLIST_PATH_TEXT = 12,
     /* The path is not UTF-8. */
     BPLIST_NOT_UTF8 = 13,
-    /* The buffer is too short. The length that is wanted is in the outputs. */
+    /* The buffer is too short. The length that is needed is in the outputs. */
     BPLIST_SHORT = 14,
-    /* The value has no old-style text: one of its parts is neither data, text, array nor
+    /* The value has no old-style text: a part of it is neither data, text, array nor
        dictionary. */
     BPLIST_NO_TEXT = 15,
     /* There is no rule with that number. */
@@ -123,27 +122,27 @@ enum {
     BPLIST_NO_STATUS = 17
 };
 
-/* What an object holds. */
+/* The kinds of objects. */
 enum {
     BPLIST_NULL = 1,
     BPLIST_FALSE = 2,
     BPLIST_TRUE = 3,
     BPLIST_INT = 4,
-    BPLIST_REAL = 5,  /* 4 or 8 bytes: an IEEE 754 number, the first byte the greatest */
-    BPLIST_DATE = 6,  /* 8 bytes: such a number, of seconds since 2001-01-01 00:00:00 UTC */
+    BPLIST_REAL = 5,  /* 4 or 8 bytes: an IEEE 754 number, big-endian */
+    BPLIST_DATE = 6,  /* 8 bytes: such a number, in seconds since 2001-01-01 00:00:00 UTC */
     BPLIST_DATA = 7,  /* bytes */
-    BPLIST_ASCII = 8, /* a text of one byte a unit, each below 128 */
-    BPLIST_WIDE = 9,  /* a text of two bytes a unit: UTF-16, the greater byte first, where
-                         surrogates may stand alone */
-    BPLIST_UID = 10,  /* a number, as NSKeyedArchiver writes them */
+    BPLIST_ASCII = 8, /* a text with one byte for each unit, each below 128 */
+    BPLIST_WIDE = 9,  /* a text with two bytes for each unit: big-endian UTF-16 that may
+                         contain unpaired surrogates */
+    BPLIST_UID = 10,  /* a number, as NSKeyedArchiver writes it */
     BPLIST_ARRAY = 11,
     BPLIST_SET = 12,
     BPLIST_DICT = 13
 };
 
 /*
- * A file that was opened: what a check of its bytes has found, and not the bytes.
- * {0} is a closed handle. The members are the library's.
+ * An open file: the results of checking its bytes, but not the bytes. {0} is a closed
+ * handle. The members are private to the library.
  */
 typedef struct bplist_handle {
     void *at;
@@ -151,20 +150,21 @@ typedef struct bplist_handle {
 } bplist_handle;
 
 /*
- * What was found of a file. Members of which nothing is said are 0.
+ * The verdict on a file. Members that are not described for a status are 0.
  *
  * BPLIST_OK: `objects` is the number of objects in the file's table, `top` the top
- * object, `top_kind` its kind and `height` its height: how many objects the longest
- * way down from it has (by a certificate of other origin the height that it gives).
- * Of bplist_lint and bplist_open `reached` is how many objects the top reaches, itself
- * among them, and `references` how many references these have.
+ * object, `top_kind` its kind and `height` its height, which is the number of objects
+ * on the longest way down from it. (bplist_open_certified gives the height of the
+ * certificate, which may be greater.) bplist_lint and bplist_open also set `reached`,
+ * the number of objects reachable from the top, including the top, and `references`,
+ * the number of references in these objects.
  *
- * BPLIST_FAULT: `rule` is the number of the first broken rule, 1 to 32, `has_object`
- * 1 where an object breaks it and else 0, `object` that object and `place` the place
- * that shows it: for rules 24 to 27 and 32 in the certificate, else in the file. For
- * rule 23, where references go round in a circle, `has_object` is 1, `object` is the
- * first object of the circle, `circle` is how many it has, and bplist_circle gives
- * them all; `place` is 0 and means nothing.
+ * BPLIST_FAULT: `rule` is the number of the first broken rule, 1 to 32. `has_object` is
+ * 1 if an object breaks it, otherwise 0; `object` is that object. `place` is the place
+ * of the fault: in the certificate for rules 24 to 27 and 32, otherwise in the file.
+ * Rule 23 means that references form a circle. Then `has_object` is 1, `object` is the
+ * first object of the circle, `circle` is the number of its objects, and bplist_circle
+ * lists them; `place` is 0 and has no meaning.
  */
 typedef struct bplist_verdict {
     uint32_t rule;
@@ -180,160 +180,170 @@ typedef struct bplist_verdict {
     uint64_t references;
 } bplist_verdict;
 
-/* Where a path leads. */
+/* The object that a path leads to, or where the path fails. */
 typedef struct bplist_found {
-    /* The object that it leads to. */
+    /* The object that the path leads to. */
     uint32_t object;
-    /* Where it leads nowhere: the number of the step that can't be taken, from 0, or
-       the place in a wrong path text. */
+    /* If the path leads nowhere: the number of the step that fails, counted from 0, or
+       the place at which the path text is wrong. */
     uint64_t step;
 } bplist_found;
 
-/* What an object shows of itself. */
+/* The kind of an object, and its body. */
 typedef struct bplist_body {
     /* BPLIST_NULL to BPLIST_DICT. */
     uint32_t kind;
-    /* Of a wide text its units, of an array or a set its members, of a dictionary its
-       pairs; of null, false and true 0; of all others bytes. */
+    /* The number of units of a wide text, members of an array or a set, or pairs of a
+       dictionary; 0 for null, false and true; the number of bytes for all others. */
     uint64_t count;
     /* The place of the body in the file. */
     uint64_t place;
-    /* How many bytes the body has. It ends within the file. */
+    /* The length of the body in bytes. It ends within the file. */
     uint64_t length;
 } bplist_body;
 
-/* An integer of 128 bits, in two's complement: its low and its high half. It fits
-   int64_t where `high` is 0 and `low` is below 2^63, and where `high` is 2^64 - 1 and
-   `low` is 2^63 or more. */
+/* A 128-bit integer in two's complement, as its low and high half. It fits int64_t if
+   `high` is 0 and `low` is below 2^63, or if `high` is 2^64 - 1 and `low` is at least
+   2^63. */
 typedef struct bplist_integer {
     uint64_t low;
     uint64_t high;
 } bplist_integer;
 
-/* How large a value is. */
+/* The size of a value. */
 typedef struct bplist_sizes {
-    /* How many nodes its tree has, keys of dictionaries among them; 2^64 - 1 where it
-       has that many or more. */
+    /* The number of nodes of its tree, including the keys of dictionaries; 2^64 - 1 if it
+       is that large or larger. */
     uint64_t nodes;
-    /* How many bytes its old-style text has; 2^64 - 1 where it has that many or more.
-       0 where it has none. */
+    /* The length of its old-style text in bytes; 2^64 - 1 if it is that long or longer;
+       0 if the value has no such text. */
     uint64_t text;
-    /* 1 where it has an old-style text, else 0. */
+    /* 1 if the value has an old-style text, otherwise 0. */
     uint32_t has_text;
 } bplist_sizes;
 
-/* What became of a text. */
+/* The length of a text, or why there is none. */
 typedef struct bplist_written {
-    /* How many bytes the text has. */
+    /* The length of the text in bytes. */
     uint64_t length;
-    /* Where the value has no text: the first object, in the order of writing, whose
-       kind has none. */
+    /* If the value has no text: the first object, in the order of writing, whose kind
+       has none. */
     uint32_t object;
 } bplist_written;
 
 /*
- * Says whether a file holds a value. BPLIST_OK, BPLIST_FAULT or BPLIST_MEMORY; `out`
- * is written with each. After BPLIST_FAULT bplist_open refuses the file too, and so does
- * bplist_open_certified, whatever the certificate. Takes memory by the number of
- * objects.
+ * Decides whether a file holds a value. Returns BPLIST_OK, BPLIST_FAULT or
+ * BPLIST_MEMORY, and writes `out` in each case. If it returns BPLIST_FAULT, bplist_open
+ * refuses the file too, and so does bplist_open_certified with any certificate. Takes
+ * memory in proportion to the number of objects.
  */
 bplist_status bplist_lint(const uint8_t *file, size_t length, bplist_verdict *out);
 
 /*
- * The objects of the circle for which bplist_lint refuses a file (rule 23): each
- * refers to the next, and the last to the first. They are written to the first
- * `*count` of the `room` elements at `objects`. BPLIST_SHORT: there are `*count`, more
- * than `room`, and none was written. BPLIST_FAULT: the file is refused for another
- * rule. BPLIST_NO_RULE: it is not refused. BPLIST_MEMORY. Lints the file.
+ * Lists the objects of the circle for which bplist_lint refuses a file (rule 23). Each
+ * refers to the next, and the last to the first. Writes them to the first `*count` of
+ * the `room` elements at `objects`.
+ *
+ * BPLIST_SHORT: there are `*count` objects, more than `room`, and none was written.
+ * BPLIST_FAULT: the file is refused for another rule. BPLIST_NO_RULE: it is not refused.
+ * BPLIST_MEMORY. This call lints the file.
  */
 bplist_status bplist_circle(const uint8_t *file, size_t length, uint32_t *objects, size_t room,
                             uint64_t *count);
 
 /*
- * The name of rule 1 to 32, for example "Marker": `*count` letters, at most 15, with no
- * 0 behind them, at the first of the `room` bytes at `name`. BPLIST_SHORT: it has
- * `*count` letters, more than `room`, and none was written. BPLIST_NO_RULE.
+ * Writes the name of a rule, 1 to 32, for example "Marker", to the first `*count` of
+ * the `room` bytes at `name`. A name has at most 15 letters. No 0 byte follows it.
+ *
+ * BPLIST_SHORT: the name has `*count` letters, more than `room`, and none was written.
+ * BPLIST_NO_RULE.
  */
 bplist_status bplist_rule_name(uint32_t rule, char *name, size_t room, uint64_t *count);
 
 /*
- * What rule 1 to 32 asks of a file, as one sentence, for example "The keys of a
- * dictionary differ.": `*count` bytes of ASCII, at most 200, written as by
+ * Writes what a rule, 1 to 32, requires of a file, for example "The keys of a dictionary
+ * differ.": one sentence of at most 200 bytes of ASCII, written like a name by
  * bplist_rule_name. BPLIST_SHORT, BPLIST_NO_RULE.
  */
 bplist_status bplist_rule_text(uint32_t rule, char *text, size_t room, uint64_t *count);
 
 /*
- * What a status means, as one sentence, for example "The handle is closed.": `*count`
- * bytes of ASCII, at most 200, written as by bplist_rule_name. BPLIST_SHORT.
+ * Writes what a status means, for example "The handle is closed.": one sentence of at
+ * most 200 bytes of ASCII, written like a name by bplist_rule_name. BPLIST_SHORT.
  * BPLIST_NO_STATUS: `status` is not one of BPLIST_OK to BPLIST_NO_STATUS.
  */
 bplist_status bplist_status_text(bplist_status status, char *text, size_t room, uint64_t *count);
 
-/* The version of the library: BPLIST_VERSION_NUM of the header that it was built with. */
+/* Returns the version of the library: BPLIST_VERSION_NUM of the header it was built with. */
 uint32_t bplist_version(void);
 
 /*
- * Lints a file, and opens it where it holds a value. With `sorted` the handle gets a
- * list of each dictionary's keys in their order, by which bplist_find and
- * bplist_find_key find a key by halving, in place of a walk over the keys.
+ * Lints a file, and opens it if it holds a value. With `sorted` the handle keeps the
+ * keys of each dictionary in sorted order. Then bplist_find and bplist_find_key find a
+ * key by binary search, instead of looking at every key.
  *
- * BPLIST_OK: the handle is open, to be closed by bplist_close. BPLIST_FAULT;
- * BPLIST_MEMORY; BPLIST_OPENED: the handle was open already, and is as it was. `out` is
- * written with each.
+ * BPLIST_OK: the handle is open; close it with bplist_close. BPLIST_FAULT.
+ * BPLIST_MEMORY. BPLIST_OPENED: the handle was already open, and is unchanged. Writes
+ * `out` in each case.
  */
 bplist_status bplist_open(bplist_handle *handle, const uint8_t *file, size_t length, bool sorted,
                           bplist_verdict *out);
 
 /*
- * Opens a file by a certificate, as `bplint certify` or bplist_certificate writes them, of
- * any origin: where the check refuses it for this file, that is BPLIST_FAULT. A
- * certificate with sorted keys is kept as it is, also without `sorted`. For the rest as
- * bplist_open, but quicker and in less memory.
+ * Opens a file with a certificate, as `bplint certify` or bplist_certificate writes it.
+ * The certificate may come from anywhere: if it is not valid for this file, the call
+ * returns BPLIST_FAULT. A certificate with sorted keys is kept as it is, even without
+ * `sorted`. Otherwise this call works like bplist_open, but is faster and takes less
+ * memory.
  */
 bplist_status bplist_open_certified(bplist_handle *handle, const uint8_t *file, size_t length,
                                     const uint8_t *certificate, size_t certificate_length,
                                     bool sorted, bplist_verdict *out);
 
 /*
- * Closes a handle and frees what it holds. The handle is all zeros then, and may be
- * opened again. BPLIST_CLOSED: it was closed already.
+ * Closes a handle and frees what it holds. The handle is then all zeros, and may be
+ * opened again. BPLIST_CLOSED: it was already closed.
  */
 bplist_status bplist_close(bplist_handle *handle);
 
 /*
- * The bytes of the certificate by which the file of a handle can be opened again:
- * `*count` bytes, at the first of the `room` bytes at `buffer`. BPLIST_SHORT: it has
- * `*count`, more than `room`, and none was written. BPLIST_CLOSED. BPLIST_MEMORY. Takes
- * memory by its length.
+ * Writes the certificate with which the file of a handle can be opened again to the
+ * first `*count` of the `room` bytes at `buffer`. Takes memory in proportion to the
+ * length of the certificate.
+ *
+ * BPLIST_SHORT: the certificate has `*count` bytes, more than `room`, and none was
+ * written. BPLIST_CLOSED. BPLIST_MEMORY.
  */
 bplist_status bplist_certificate(bplist_handle *handle, uint8_t *buffer, size_t room,
                                  uint64_t *count);
 
 /*
- * In the calls below `handle` is open, and `file` of `length` bytes is the file that
- * it was opened with. Each can return BPLIST_CLOSED or BPLIST_OTHER_FILE, and leaves the
- * handle as it was. BPLIST_NO_OBJECT: the file has no object with the number `object`,
- * or its top object does not reach that object, which therefore was not checked.
+ * For the calls below, `handle` is open, and `file` of `length` bytes is the file that
+ * it was opened with. Each call can return BPLIST_CLOSED or BPLIST_OTHER_FILE, and leaves
+ * the handle unchanged. BPLIST_NO_OBJECT: the object number does not exist, or the object
+ * is not reachable from the top and was therefore not checked.
  */
 
 /*
- * Where a path leads from the top object. A path is a JSON Pointer (RFC 6901) of
- * `path_length` bytes of UTF-8: empty for the top, or for each step '/' and a key, or an
- * index of an array in decimal digits, with "~0" for '~' and "~1" for '/'.
+ * Finds the object that a path leads to, starting at the top object. A path is a JSON
+ * Pointer (RFC 6901) of `path_length` bytes of UTF-8. The empty path leads to the top.
+ * Otherwise each step is a '/' and a key, or a '/' and an index of an array in decimal
+ * digits. "~0" stands for '~', and "~1" for '/'. Takes memory in proportion to the length
+ * of the path.
  *
- * BPLIST_OK: `out->object`. BPLIST_NO_KEY, BPLIST_NO_INDEX, BPLIST_NOT_STEPPABLE: step
- * `out->step` can't be taken. BPLIST_PATH_TEXT: the path is wrong at its byte
- * `out->step`. With these `out` is written, and what is not said is 0. BPLIST_NOT_UTF8.
- * BPLIST_MEMORY. Takes memory by the length of the path.
+ * BPLIST_OK: the object is `out->object`. BPLIST_NO_KEY, BPLIST_NO_INDEX,
+ * BPLIST_NOT_STEPPABLE: step `out->step` fails. BPLIST_PATH_TEXT: the path text is wrong
+ * at byte `out->step`. In these cases `out` is written, and its other member is 0.
+ * BPLIST_NOT_UTF8. BPLIST_MEMORY.
  */
 bplist_status bplist_find(bplist_handle *handle, const uint8_t *file, size_t length,
                           const char *path, size_t path_length, bplist_found *out);
 
 /*
- * One step from an object: the value for the key that has these units of UTF-16, `count`
- * of them, which may be any; or of an array the member with that index in decimal
- * digits. BPLIST_OK: `*out` is the object. BPLIST_NO_KEY, BPLIST_NO_INDEX,
+ * Takes one step from an object. For a dictionary the step is a key: `count` UTF-16
+ * units at `units`, which may be any units. For an array it is an index in decimal digits.
+ *
+ * BPLIST_OK: `*out` is the object of the value or member. BPLIST_NO_KEY, BPLIST_NO_INDEX,
  * BPLIST_NOT_STEPPABLE, BPLIST_NO_OBJECT.
  */
 bplist_status bplist_find_key(bplist_handle *handle, const uint8_t *file, size_t length,
@@ -341,44 +351,46 @@ bplist_status bplist_find_key(bplist_handle *handle, const uint8_t *file, size_t
                               uint32_t *out);
 
 /*
- * Kind, count, place and length of an object's body. The bytes of a real, a date, data
- * and a text stand in the file from `place` on. With bplist_members a tree is walked in
- * two calls for each object. BPLIST_NO_OBJECT.
+ * Gives the kind of an object, and the count, place and length of its body. The bytes of
+ * a real, a date, data or a text are in the file from `place` on. With bplist_members,
+ * a caller walks a tree with two calls for each object. BPLIST_NO_OBJECT.
  */
 bplist_status bplist_face(bplist_handle *handle, const uint8_t *file, size_t length,
                           uint32_t object, bplist_body *out);
 
-/* The integer of a BPLIST_INT. BPLIST_OTHER_KIND, BPLIST_NO_OBJECT. */
+/* Gives the value of a BPLIST_INT. BPLIST_OTHER_KIND, BPLIST_NO_OBJECT. */
 bplist_status bplist_int(bplist_handle *handle, const uint8_t *file, size_t length,
                          uint32_t object, bplist_integer *out);
 
-/* The number of a BPLIST_UID. BPLIST_OTHER_KIND, BPLIST_NO_OBJECT. */
+/* Gives the value of a BPLIST_UID. BPLIST_OTHER_KIND, BPLIST_NO_OBJECT. */
 bplist_status bplist_uid(bplist_handle *handle, const uint8_t *file, size_t length,
                          uint32_t object, uint32_t *out);
 
 /*
- * The object of member `i`, from 0: of an array or a set its member `i`; of a
- * dictionary number 2 * j is key j and 2 * j + 1 is value j, in the order of the
- * file. BPLIST_NO_MEMBER: `i` is not below the number of members (twice that of the
- * pairs), which is 0 for all other kinds. BPLIST_NO_OBJECT.
+ * Gives the object of member `i`, counted from 0. Members of an array or a set are in the
+ * order of the file. In a dictionary, member 2 * j is key j and member 2 * j + 1 is value
+ * j, in the order of the file.
+ *
+ * BPLIST_NO_MEMBER: `i` is not below the number of members, which is twice the number of
+ * pairs for a dictionary, and 0 for all kinds but arrays, sets and dictionaries.
+ * BPLIST_NO_OBJECT.
  */
 bplist_status bplist_member(bplist_handle *handle, const uint8_t *file, size_t length,
                             uint32_t object, uint64_t i, uint32_t *out);
 
 /*
- * The objects of the members from number `from` on, in the order of bplist_member: as
- * many as there are and as fit are written to the first `*count` of the `room` elements
- * at `objects`. `*count` is 0 if `from` is not below the number of members, and for all
- * kinds that have none. What `objects` holds behind them is not changed.
- * BPLIST_NO_OBJECT.
+ * Gives the objects of the members from number `from` on, in the order of bplist_member.
+ * Writes as many as there are and as fit to the first `*count` of the `room` elements at
+ * `objects`, and leaves the other elements unchanged. `*count` is 0 if `from` is not
+ * below the number of members, and for all kinds that have none. BPLIST_NO_OBJECT.
  */
 bplist_status bplist_members(bplist_handle *handle, const uint8_t *file, size_t length,
                              uint32_t object, uint64_t from, uint32_t *objects, size_t room,
                              uint64_t *count);
 
 /*
- * The bytes of an object's body from its byte `from` on, as they stand in the file: as
- * many as there are and as fit are written to the first `*count` of the `room` bytes at
+ * Reads the bytes of an object's body from byte `from` on, as they are in the file.
+ * Writes as many as there are and as fit to the first `*count` of the `room` bytes at
  * `bytes`. `*count` is 0 if `from` is not below the length of the body. BPLIST_NO_OBJECT.
  */
 bplist_status bplist_read(bplist_handle *handle, const uint8_t *file, size_t length,
@@ -386,29 +398,32 @@ bplist_status bplist_read(bplist_handle *handle, const uint8_t *file, size_t len
                           uint64_t *count);
 
 /*
- * The units of a text, a BPLIST_ASCII or a BPLIST_WIDE, from unit `from` on: as many as
- * there are and as fit are written to the first `*count` of the `room` elements at
- * `units`, as numbers of this machine. BPLIST_OTHER_KIND, BPLIST_NO_OBJECT.
+ * Reads the units of a text, a BPLIST_ASCII or a BPLIST_WIDE, from unit `from` on, in the
+ * byte order of this machine. Writes as many as there are and as fit to the first
+ * `*count` of the `room` elements at `units`. BPLIST_OTHER_KIND, BPLIST_NO_OBJECT.
  */
 bplist_status bplist_units(bplist_handle *handle, const uint8_t *file, size_t length,
                            uint32_t object, uint64_t from, uint16_t *units, size_t room,
                            uint64_t *count);
 
 /*
- * How large the value of an object is. Looks at every object of the file once, and
- * takes memory by their number. BPLIST_NO_OBJECT. BPLIST_MEMORY.
+ * Measures the value of an object. Looks at every object of the file once, and takes
+ * memory in proportion to their number. BPLIST_NO_OBJECT. BPLIST_MEMORY.
  */
 bplist_status bplist_size(bplist_handle *handle, const uint8_t *file, size_t length,
                           uint32_t object, bplist_sizes *out);
 
 /*
- * The old-style text of the value of an object, of `out->length` bytes of ASCII with
- * no 0 behind them, at the first of the `room` bytes at `buffer`. BPLIST_SHORT: it has
- * `out->length` bytes (2^64 - 1 where it has that many or more), more than `room`, and
- * none was written. BPLIST_NO_TEXT: the kind of `out->object` has no text, and none was
- * written. With these `out` is written, and what is not said is 0. BPLIST_MEMORY.
- * BPLIST_NO_OBJECT. Works and takes memory as bplist_size does, and besides by the depth
- * of the value and by the length of its text, where that is not above `room`.
+ * Writes the old-style text of the value of an object to the first `out->length` of the
+ * `room` bytes at `buffer`. The text is ASCII, and no 0 byte follows it.
+ *
+ * BPLIST_SHORT: the text has `out->length` bytes (2^64 - 1 if it has that many or more),
+ * more than `room`, and none was written. BPLIST_NO_TEXT: the kind of `out->object` has no
+ * text, and nothing was written to `buffer`. With BPLIST_OK and in these cases `out` is
+ * written, and a member that is not described is 0. BPLIST_MEMORY. BPLIST_NO_OBJECT.
+ *
+ * Takes the time and memory of bplist_size. It also takes memory in proportion to the
+ * depth of the value and, if the text fits, to its length.
  */
 bplist_status bplist_text(bplist_handle *handle, const uint8_t *file, size_t length,
                           uint32_t object, char *buffer, size_t room, bplist_written *out);

@@ -19,7 +19,8 @@ archive=$work/$name
 make -s -o build -o lib install PREFIX="$archive" MADE="$work/folders"
 sed -i 's|^prefix=.*|prefix=${pcfiledir}/../..|' "$archive/lib/pkgconfig/bplist.pc"
 strip --strip-unneeded "$archive/bin/bplint" "$archive/lib/libbplist.so.0"
-cp -r README.md LICENSE CHANGELOG.md SECURITY.md packaging/debian/copyright examples "$archive"
+# README.md links to these pages.
+cp -r README.md CHANGELOG.md CONTRIBUTING.md SECURITY.md docs LICENSE packaging/debian/copyright examples "$archive"
 tar --create --directory="$work" --sort=name --format=ustar --owner=0 --group=0 --numeric-owner --mode=u=rwX,go=rX \
   --mtime="@$SOURCE_DATE_EPOCH" "$name" | gzip -n9 >"$dist/$name.tar.gz"
 

@@ -1,4 +1,4 @@
-"""Builds the extension module over the C library libbplist.a, which is in the folder that BPLIST_LIBRARY names."""
+"""Builds the extension module with the C library libbplist.a from the folder that BPLIST_LIBRARY names."""
 import os
 import pathlib
 
@@ -8,13 +8,13 @@ from wheel.bdist_wheel import bdist_wheel
 HERE = pathlib.Path(__file__).resolve().parent
 ROOT = HERE.parent
 LIBRARY = pathlib.Path(os.environ.get("BPLIST_LIBRARY", ROOT / "crates/bplist_c/out"))
-# The oldest Python whose limited API is used, and the newest glibc that a symbol of the module asks for.
+# The Python version of the limited API, and the newest glibc that a symbol of the module needs.
 PYTHON = (3, 10)
 GLIBC = "2_14"
 
 
 class Wheel(bdist_wheel):
-    """A wheel that also names the systems on which its module runs by the glibc that they have."""
+    """A wheel whose name also tells which glibc its module needs."""
 
     def get_tag(self):
         python, abi, platform = super().get_tag()
@@ -31,7 +31,7 @@ setup(
             depends=["src/extension.h"],
             define_macros=[("Py_LIMITED_API", f"0x{PYTHON[0]:02x}{PYTHON[1]:02x}0000")],
             extra_objects=[str(LIBRARY / "libbplist.a")],
-            # With -g0 and -s there is no path in the module, and so it is the same wherever it is built.
+            # With -g0 and -s the module contains no paths, so it is the same wherever it is built.
             extra_compile_args=[*"-std=gnu11 -Wall -Wextra -g0 -fvisibility=hidden".split(), f"-ffile-prefix-map={HERE}=."],
             extra_link_args=["-s", "-Wl,-z,relro,-z,now"],
             py_limited_api=True,

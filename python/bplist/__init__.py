@@ -1,4 +1,4 @@
-"""Reads single values of Apple binary property lists (`bplist00`), linted first, without loading the tree.
+"""Lints Apple's binary property lists (`bplist00`) and reads single values of them, without loading the tree.
 
     import bplist
 
@@ -7,11 +7,12 @@
 
     tree = bplist.to_python("Info.plist")
 
-`open`, `load` and `loads` lint the file: if it holds no value they raise `Refused`, with the first broken rule. Containers
-are read on access: a dictionary is a `collections.abc.Mapping`, an array a `Sequence`, a set is iterable. Leaves are what
-plistlib gives; `bplist.values` says which, and what is given if plistlib has nothing. `to_python` gives the whole tree.
+`open`, `load` and `loads` lint the file. If it holds no value they raise `Refused`, with the first broken rule.
+Containers are read on access: a dictionary is a `collections.abc.Mapping`, an array is a `Sequence`, and a set is
+iterable. Leaves are those of plistlib; `bplist.values` lists them, and the few that plistlib does not have. `to_python`
+gives the whole tree.
 
-The work is done by the C library libbplist, over a proved core.
+The package calls the C library libbplist, which has a proved core.
 """
 from ._bplist import VERSION as __version__
 from .faults import Closed, Error, OutOfMemory, PathError, Refused, TooLarge

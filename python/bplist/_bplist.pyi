@@ -1,4 +1,4 @@
-"""The C extension: the library's calls as the package uses them. `bplist` is what programs use."""
+"""The C extension: the calls of the library that the package uses. Programs use `bplist` instead."""
 import collections.abc
 import datetime
 import plistlib
@@ -7,10 +7,10 @@ import typing
 VERSION: str
 
 class MappedFile:
-    """A file mapped into memory, until nothing refers to it any more."""
+    """A file mapped into memory, until nothing refers to it."""
 
 class Handle:
-    """A property list that is open."""
+    """An open property list."""
 
     @property
     def certificate(self) -> bytes: ...
@@ -40,7 +40,7 @@ class Container:
     def _has(self, key: object, /) -> bool: ...
 
 class Members(collections.abc.Iterator[typing.Any]):
-    """Gives the members of a container."""
+    """An iterator over members of a container."""
 
     def __next__(self) -> typing.Any: ...
 

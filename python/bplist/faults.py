@@ -1,20 +1,23 @@
-"""What can go wrong, as exceptions."""
+"""The exceptions of the package."""
 from __future__ import annotations
 
 from ._bplist import rule_name, rule_text
 
 
 class Error(Exception):
-    """Every exception of this package that is about a file or a property list."""
+    """The base class of all exceptions about a file or a property list."""
 
 
 class Refused(Error, ValueError):
-    """The file holds no value, or the certificate is not accepted for it.
+    """The file holds no value, or the certificate is not valid for it.
 
-    rule: the word of the first broken rule, for example `Marker`; number: its number, 1 to 32; object: the object that
-    breaks it, or None; place: the place that shows it, a byte's number in the file (rules 24 to 27 and 32: in the
-    certificate), or None for a circle; circle: the objects of the circle of references, each of which refers to the next,
-    or an empty tuple; sentence: what the rule asks.
+    rule: the name of the first broken rule, for example `Marker`.
+    number: its number, 1 to 32.
+    sentence: what the rule requires.
+    object: the number of the object that breaks it, or None.
+    place: the place of the fault, as the number of a byte in the file (in the certificate for rules 24 to 27 and 32),
+    or None for a circle.
+    circle: the objects of a circle of references, each of which refers to the next, or an empty tuple.
     """
 
     def __init__(self, number: int, broken_by: int | None, place: int | None, circle: tuple[int, ...] = ()):
@@ -34,7 +37,7 @@ class Refused(Error, ValueError):
 
 
 class PathError(Error, ValueError):
-    """A path text is wrong; place: the byte at which, counted from 0."""
+    """A path text is wrong. place: the number of the wrong byte, counted from 0."""
 
     def __init__(self, place: int):
         super().__init__(place)
@@ -45,7 +48,7 @@ class PathError(Error, ValueError):
 
 
 class TooLarge(Error, ValueError):
-    """A tree or a text is larger than the limit; size: how large it is, at most 2^64 - 1."""
+    """A tree or a text is larger than the limit. size: its size, at most 2^64 - 1."""
 
     def __init__(self, size: int, limit: int):
         super().__init__(size, limit)
@@ -61,4 +64,4 @@ class Closed(Error, ValueError):
 
 
 class OutOfMemory(Error, MemoryError):
-    """The library was refused memory. Nothing is lost, and the call can be made again."""
+    """Memory was refused. Nothing is lost, and the call can be repeated."""

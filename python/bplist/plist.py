@@ -1,4 +1,4 @@
-"""Property lists that are opened, and verdicts on files."""
+"""Open property lists, and verdicts on files."""
 from __future__ import annotations
 
 import builtins
@@ -10,12 +10,12 @@ from . import _bplist
 from .faults import Refused, TooLarge
 from .values import Kind
 
-#: How many nodes `plain` builds unless it is told otherwise.
+#: The default limit of `plain`, in nodes.
 NODES = 10_000_000
-#: How many bytes `text` gives unless it is told otherwise.
+#: The default limit of `text`, in bytes.
 TEXT = 1_048_576
 
-# The greatest number that the library gives for a size.
+# The largest size that the library gives.
 MOST_NODES = 2**64 - 1
 
 Octets = typing.Union[bytes, bytearray, memoryview]
@@ -23,11 +23,16 @@ Path = typing.Union[str, os.PathLike]
 
 
 class Verdict(typing.NamedTuple):
-    """What the linter says of a file.
+    """The verdict of the linter on a file.
 
-    fault: None if the file holds a value, else the first broken rule. Of a sound file objects is the number of objects in
-    its table, reached how many of them its top reaches, references how many references these have, height how many objects
-    the longest way down has, top the top object and kind its kind; of another file they are 0 and None.
+    fault: None if the file holds a value, otherwise the first broken rule. If there is a fault, the numbers are 0 and
+    kind is None.
+    objects: the number of objects in the file's table.
+    reached: the number of objects reachable from the top, including the top.
+    references: the number of references in these objects.
+    height: the number of objects on the longest way down from the top.
+    top: the number of the top object.
+    kind: its kind.
     """
 
     fault: Refused | None
@@ -49,7 +54,7 @@ def _read(path: Path) -> bytes:
 
 
 def _mapped(path: Path) -> bytes | _bplist.MappedFile:
-    """The bytes of a file: mapped if it is a regular one that has some, else read."""
+    """The bytes of a file. A regular file that is not empty is mapped, any other file is read."""
     with builtins.open(path, "rb", buffering=0) as file:
         info = os.fstat(file.fileno())
         if not stat.S_ISREG(info.st_mode) or info.st_size == 0:
@@ -58,12 +63,12 @@ def _mapped(path: Path) -> bytes | _bplist.MappedFile:
 
 
 def lint(path: Path) -> Verdict:
-    """Says whether a file holds a value. OSError if it can't be read."""
+    """Lints a file. Returns the verdict. Raises OSError if the file cannot be read."""
     return lint_bytes(_read(path))
 
 
 def lint_bytes(data: Octets) -> Verdict:
-    """The same for bytes in memory."""
+    """Lints bytes in memory."""
     try:
         *numbers, kind = _bplist.lint(bytes(data))
     except Refused as fault:
@@ -72,30 +77,30 @@ def lint_bytes(data: Octets) -> Verdict:
 
 
 def open(path: Path, *, map: bool = False, certificate: Octets | None = None, sorted_keys: bool = False) -> Plist:
-    """Opens a file for reading single values: it is read and linted, and `Refused` is raised if it holds no value.
+    """Opens a file for reading single values: reads it and lints it. Raises `Refused` if it holds no value.
 
-    certificate: bytes as `bplint certify` or `Plist.certificate` give them, of any origin, by which the file is checked in
-    place of being linted. sorted_keys: each dictionary gets its keys in order, so that one of many keys is found by halving.
-
-    map: the file is mapped into memory in place of being read, which saves memory. Then the file must stay as it is while
-    the property list is open: what is read of a file that was written to is of no meaning, and a read behind the new end of
-    a file that was cut short ends the interpreter with SIGBUS.
+    certificate: a certificate from `bplint certify` or `Plist.certificate`. The file is checked against it instead of
+    being linted. The bytes may come from anywhere: if they are no valid certificate of the file, `Refused` is raised.
+    sorted_keys: keep the keys of each dictionary in sorted order, so that a key is found by binary search.
+    map: map the file into memory instead of reading it, which saves memory. The file must then not change while the
+    property list is open. If it is written to, the values that are read are meaningless. If it is cut short, reading
+    past the new end ends the interpreter with SIGBUS.
     """
     return _opened(_mapped(path) if map else _read(path), certificate, sorted_keys)
 
 
 def load(fp: typing.BinaryIO, *, certificate: Octets | None = None, sorted_keys: bool = False) -> Plist:
-    """The same for an open file, which is read to its end."""
+    """Like `open`, for a file object, which is read to its end."""
     return loads(fp.read(), certificate=certificate, sorted_keys=sorted_keys)
 
 
 def loads(data: Octets, *, certificate: Octets | None = None, sorted_keys: bool = False) -> Plist:
-    """The same for bytes in memory. What is no bytes object is copied, since it may change."""
+    """Like `open`, for bytes in memory. An object that is not `bytes` is copied, because it may change."""
     return _opened(bytes(data), certificate, sorted_keys)
 
 
 def to_python(source: Path | Octets, *, limit: int = NODES) -> typing.Any:
-    """The whole tree of a file, named by its path, or of bytes: what plistlib.load gives, by one call (`Plist.plain`)."""
+    """Returns the whole tree of a file, given by its path, or of bytes, as plistlib would load it (`Plist.plain`)."""
     with open(source) if isinstance(source, (str, os.PathLike)) else loads(source) as plist:
         return plist.plain(limit)
 
@@ -105,10 +110,10 @@ def _opened(source: bytes | _bplist.MappedFile, certificate: Octets | None, sort
 
 
 class Plist(_bplist.Handle):
-    """A property list that is open: `open`, `load` and `loads` make it.
+    """An open property list, made by `open`, `load` or `loads`.
 
-    It may be used by several threads; calls on one property list wait for one another. Containers of it keep it open; after
-    `close` they raise `Closed`. It is closed at the end of a `with`, or when nothing refers to it any more.
+    Several threads may use it; calls on one property list wait for one another. Its containers keep it open, and raise
+    `Closed` after `close`. It is closed at the end of a `with` block, or when nothing refers to it.
     """
 
     def __enter__(self) -> Plist:
@@ -119,17 +124,20 @@ class Plist(_bplist.Handle):
 
     @property
     def value(self) -> typing.Any:
-        """The value of the top: a leaf, or a container that is read on access."""
+        """The value of the file: a leaf, or a container that is read on access."""
         return self._value(self._top)
 
     @property
     def size(self) -> int:
-        """How many nodes the tree of the top has, keys of dictionaries among them: at most 2^64 - 1."""
+        """The number of nodes in the tree of the file, including the keys of dictionaries; at most 2^64 - 1."""
         return self._nodes(self._top)
 
     def text(self, limit: int = TEXT) -> str:
-        """The top in the old-style text form. `TooLarge` above the limit; ValueError if a part has no such form: only data,
-        texts, arrays and dictionaries have."""
+        """Returns the value of the file as old-style text.
+
+        Raises `TooLarge` if the text is longer than the limit, and ValueError if a part of the value has no such text.
+        Only data, texts, arrays and dictionaries have one.
+        """
         _, length = self._sizes(self._top)
         if length is None:
             raise ValueError("a part of the value has no old-style text")
@@ -138,10 +146,10 @@ class Plist(_bplist.Handle):
         return self._text(self._top, length)
 
     def plain(self, limit: int = NODES) -> typing.Any:
-        """The whole tree as plistlib would load it: dict, list and leaves; a set is a list. An object that is a member of
-        several containers is one object of Python.
+        """Returns the whole tree as plistlib would load it: dict, list and leaves. A set becomes a list. An object that
+        is a member of several containers becomes one Python object.
 
-        `TooLarge` if there are more nodes than the limit; no more are built.
+        Raises `TooLarge` if the tree has more nodes than the limit, and does not build more than that.
         """
         return self._plain(self._top, limit)
 

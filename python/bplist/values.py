@@ -1,8 +1,11 @@
-"""The values of a property list as Python's.
+"""The values of a property list, as Python objects.
 
-Leaves are what plistlib gives: str, int, float, bytes, bool, datetime.datetime (naive, UTC), plistlib.UID, and None for
-null. Three things that plistlib can't give are added: an integer of 128 bits is an int; a text with a lone surrogate is a
-str that holds it; a date beyond datetime's range, or one that is no number, is a `Date`.
+Leaves are those of plistlib: str, int, float, bytes, bool, datetime.datetime (naive, UTC), plistlib.UID, and None for
+null. Three values that plistlib does not have are added:
+
+- a 128-bit integer is an int;
+- a text with an unpaired surrogate is a str that contains it;
+- a date outside the range of datetime, or one that is not a number, is a `Date`.
 """
 from __future__ import annotations
 
@@ -19,12 +22,12 @@ if typing.TYPE_CHECKING:
     MappingBase = collections.abc.Mapping[str, typing.Any]
     IterableBase = collections.abc.Iterable[typing.Any]
 else:
-    # The classes are registered with collections.abc: an `isinstance` that asks for a class of its metaclass is slow.
+    # The classes are registered with collections.abc instead: `isinstance` is slow for a class with its metaclass.
     SequenceBase = MappingBase = IterableBase = object
 
 
 class Kind(enum.IntEnum):
-    """What an object holds."""
+    """The kind of an object."""
 
     NULL = 1
     FALSE = 2
@@ -42,11 +45,11 @@ class Kind(enum.IntEnum):
 
 
 class Date(float):
-    """A date that datetime.datetime can't hold: its seconds since 2001-01-01 00:00:00 UTC."""
+    """A date that datetime.datetime cannot hold, in seconds since 2001-01-01 00:00:00 UTC."""
 
 
 def _are_equal(one: Container, other: Container) -> bool:
-    """Whether two containers have equal members. Each pair of containers is compared once, with no recursion."""
+    """Returns True if two containers have equal members. Compares each pair of containers once, without recursion."""
     pairs: list[tuple[typing.Any, typing.Any]] = [(one, other)]
     met = set()
     while pairs:
@@ -71,11 +74,11 @@ def _are_equal(one: Container, other: Container) -> bool:
 
 
 class Container(_bplist.Container):
-    """A container of a property list, which it keeps open. `object` is the number of the object in the file.
+    """A container of a property list, which it keeps open. `object` is the number of its object in the file.
 
-    Two containers of one kind are equal if they are one object of one property list, which is seen without reading, or if
-    their members are equal: those of arrays and sets in the order of the file, those of dictionaries by their keys. A
-    dictionary is compared with any mapping too, an array with a list. Containers have no hash.
+    Two containers of the same kind are equal if their members are equal: members of arrays and sets are compared in the
+    order of the file, values of dictionaries by their keys. The same object of the same property list is equal without
+    reading it. A dictionary can also be compared with any mapping, and an array with a list. Containers have no hash.
     """
 
     __slots__ = ()
@@ -86,20 +89,20 @@ class Container(_bplist.Container):
     __hash__ = None  # type: ignore[assignment]
 
     def _equals_plain(self, other: object) -> bool:
-        """Whether a value that is no container of a property list is equal."""
+        """Compares with a value that is not a container of a property list."""
         return NotImplemented
 
     def _is(self, other: Container) -> bool:
-        """Whether both are one object of one property list."""
+        """Returns True if both are the same object of the same property list."""
         return self._plist is other._plist and self.object == other.object
 
     @property
     def size(self) -> int:
-        """How many nodes the tree of this value has, keys of dictionaries among them: at most 2^64 - 1."""
+        """The number of nodes in the tree of this value, including the keys of dictionaries; at most 2^64 - 1."""
         return self._plist._nodes(self.object)
 
     def plain(self, limit: int = 10_000_000) -> typing.Any:
-        """The tree of this value as plistlib would load it (`Plist.plain`)."""
+        """Returns the tree of this value as plistlib would load it (`Plist.plain`)."""
         return self._plist._plain(self.object, limit)
 
     def __repr__(self) -> str:
@@ -107,7 +110,7 @@ class Container(_bplist.Container):
 
 
 class Array(Container, SequenceBase):
-    """An array, whose members are read on access."""
+    """An array. Its members are read on access."""
 
     __slots__ = ()
 
@@ -132,7 +135,7 @@ class Array(Container, SequenceBase):
 
 
 class Set(Container, IterableBase):
-    """A set, whose members may be containers: they come in the order of the file, and equal ones each time."""
+    """A set. Its members may be containers. Iterating gives them in the order of the file, every time."""
 
     __slots__ = ()
 
@@ -141,21 +144,21 @@ class Set(Container, IterableBase):
 
 
 class Items(collections.abc.ItemsView):
-    """The pairs of a dictionary, each read once, with no search for its key."""
+    """The pairs of a dictionary, read without searching for the keys."""
 
     def __iter__(self):
         return self._mapping._pairs()
 
 
 class Values(collections.abc.ValuesView):
-    """The values of a dictionary, with no search for their keys."""
+    """The values of a dictionary, read without searching for their keys."""
 
     def __iter__(self):
         return self._mapping._members(1, 2)
 
 
 class Dict(Container, MappingBase):
-    """A dictionary with keys of str, in the order of the file."""
+    """A dictionary whose keys are str, in the order of the file."""
 
     __slots__ = ()
 

@@ -58,7 +58,7 @@ static PyObject *member_of(PyObject *object, PyObject *number)
     return handle_value(self->plist, member);
 }
 
-/* The units of UTF-16 of a text, in memory of its own: how many there are, or -1. A lone surrogate is a unit. */
+/* Copies the UTF-16 units of a text to new memory. Returns their number, or -1. An unpaired surrogate is a unit. */
 static Py_ssize_t units_of(PyObject *text, uint16_t **out)
 {
     Py_ssize_t length = PyUnicode_GetLength(text), count = 0;
@@ -82,7 +82,7 @@ static Py_ssize_t units_of(PyObject *text, uint16_t **out)
     return units ? count : -1;
 }
 
-/* Looks for the value of a key: 1 if it was found, 0 if not, -1 with an exception set. What is no text is no key. */
+/* Looks up the value of a key. Returns 1 if it was found, 0 if not, -1 with an exception set. Only a str is a key. */
 static int find_key(Container *self, PyObject *key, uint32_t *out)
 {
     Handle *plist = self->plist;
@@ -129,7 +129,7 @@ static PyObject *has_key(PyObject *object, PyObject *key)
 }
 
 static PyMethodDef methods[] = {
-    {"_member", member_of, METH_O, "The value of a member. Of a dictionary number 2j is key j, and 2j + 1 its value."},
+    {"_member", member_of, METH_O, "The value of a member. In a dictionary member 2j is key j, and member 2j + 1 is its value."},
     {"_members", members_from, METH_VARARGS, "The values of every `step`th member from number `first` on."},
     {"_pairs", members_pairs, METH_NOARGS, "The pairs of a dictionary."},
     {"_value_of", value_of_key, METH_O, "The value of a key of a dictionary, or KeyError."},

@@ -1,15 +1,15 @@
-/* Dates: seconds since the first moment of 2001, in UTC. */
+/* Dates: seconds since 2001-01-01 00:00:00 UTC. */
 #include "extension.h"
 
 #define SECOND INT64_C(1000000)
 #define DAY (86400 * SECOND)
-/* The days of datetime before 2001, and those from then on. */
+/* The number of days in the range of datetime before 2001, and from 2001 on. */
 #define BEFORE 730485
 #define BEHIND 2921574
-/* From 1 March of the year 0 to 1 January of the year 1. */
+/* The number of days from 1 March of the year 0 to 1 January of the year 1. */
 #define FROM_MARCH 306
 
-/* Microseconds to the nearest, halves to the even one, as datetime.timedelta has them. */
+/* Rounds to microseconds, halves to the even one, as datetime.timedelta does. */
 static int64_t micros_of(double seconds)
 {
     int64_t whole = (int64_t)seconds;
@@ -24,9 +24,9 @@ static int64_t micros_of(double seconds)
     return whole * SECOND + micros;
 }
 
-/* The moment that is so many microseconds after the first of the year 1, in the form in which datetime pickles it: reading
-   that takes a fifth of the time that reading numbers takes. Years are counted from March here, so that the leap day is the
-   last of its year, and in eras of 400 years, which have 146097 days. */
+/* Writes a date, given in microseconds since the year 1, in the form in which datetime pickles it. Making a datetime
+   from that form takes a fifth of the time that making it from numbers takes. Years begin in March here, so that the
+   leap day is the last day of its year. An era is 400 years, or 146097 days. */
 static void pickled(int64_t micros, unsigned char out[10])
 {
     int days = (int)(micros / DAY) + FROM_MARCH;
@@ -67,7 +67,7 @@ PyObject *date_of(State *state, double seconds)
 {
     int64_t micros;
 
-    /* A day too many at either end: only what is far beyond, or is no number, has no microseconds here. */
+    /* One day too many at either end. This only excludes what is far out of range or is not a number. */
     if (seconds > -86400.0 * (BEFORE + 1) && seconds < 86400.0 * (BEHIND + 1)) {
         micros = micros_of(seconds) + BEFORE * DAY;
         if (micros >= 0 && micros < (BEFORE + BEHIND) * DAY)

@@ -24,7 +24,7 @@ int raise_fault(const char *name, const char *arguments, ...)
     return -1;
 }
 
-/* The numbers as a tuple. */
+/* Returns the numbers as a tuple. */
 static PyObject *tuple_of(const uint32_t *numbers, uint64_t count)
 {
     PyObject *tuple = PyTuple_New((Py_ssize_t)count);
@@ -38,7 +38,7 @@ static PyObject *tuple_of(const uint32_t *numbers, uint64_t count)
     return tuple;
 }
 
-/* The objects of the circle, of which there are `count`. */
+/* Returns the `count` objects of the circle. */
 static PyObject *circle_of(const Source *source, uint64_t count)
 {
     uint64_t found = 0;
@@ -88,7 +88,7 @@ int raise_status(bplist_status status)
         return raise_fault("OutOfMemory", "(s)", "the library was refused memory");
     if (status == BPLIST_CLOSED)
         return raise_fault("Closed", "(s)", "the property list was closed");
-    /* An open file has no other as long as it stays as it is. No text is longer. */
+    /* While an open file does not change there is no other status. Every text fits the buffer. */
     bplist_status_text(status, text, sizeof text, &count);
     return raise_fault("Error", "(s#)", text, (Py_ssize_t)count);
 }

@@ -1,4 +1,4 @@
-/* Property lists that are open. */
+/* Open property lists. */
 #include "extension.h"
 
 void handle_wait(Handle *self)
@@ -44,7 +44,7 @@ static Handle *handle_new(State *state, PyObject *class)
     return self;
 }
 
-/* Opens the library's handle with the GIL let go: nobody else has this property list. */
+/* Opens the handle of the library. Releases the GIL, since nobody else has this property list yet. */
 static bplist_status handle_fill(Handle *self, const Source *certificate, int is_sorted, bplist_verdict *verdict)
 {
     const Source *source = &self->source;

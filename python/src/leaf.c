@@ -1,10 +1,10 @@
-/* The values of objects that are no containers. */
+/* The values of leaves, that is of objects that are not containers. */
 #include "extension.h"
 
 #include <endian.h>
 #include <string.h>
 
-/* The number of these bytes, the greatest first. */
+/* Decodes a big-endian number. */
 static uint64_t number_of(const uint8_t *bytes, uint64_t length)
 {
     uint64_t number = 0;
@@ -23,7 +23,7 @@ static uint64_t number_of(const uint8_t *bytes, uint64_t length)
     return number;
 }
 
-/* The IEEE 754 number of 4 or 8 bytes. */
+/* Decodes an IEEE 754 number of 4 or 8 bytes. */
 static double real_of(const uint8_t *bytes, uint64_t length)
 {
     uint64_t bits = number_of(bytes, length);
@@ -39,7 +39,7 @@ static double real_of(const uint8_t *bytes, uint64_t length)
     return real;
 }
 
-/* The integer of two halves, in two's complement. */
+/* Makes the integer of two halves in two's complement. */
 static PyObject *joined(bplist_integer halves)
 {
     PyObject *high = PyLong_FromLongLong((long long)halves.high);
@@ -55,7 +55,7 @@ static PyObject *joined(bplist_integer halves)
     return number;
 }
 
-/* An integer: one of 1, 2 or 4 bytes has no sign, one of 8 or 16 has. */
+/* Makes an integer. One of 1, 2 or 4 bytes is unsigned, one of 8 or 16 bytes is signed. */
 static PyObject *integer_of(Handle *self, uint32_t object, const uint8_t *bytes, uint64_t length)
 {
     bplist_integer number;
@@ -69,7 +69,7 @@ static PyObject *integer_of(Handle *self, uint32_t object, const uint8_t *bytes,
     return joined(number);
 }
 
-/* A UID without a call of its __init__, which takes longer than all else. */
+/* Makes a UID without calling its __init__, which takes longer than everything else. */
 static PyObject *bare_uid(State *state, PyObject *number)
 {
     PyObject *uid = instance_of(state->held[UID]);
@@ -93,8 +93,8 @@ static PyObject *uid_of(State *state, const uint8_t *bytes, uint64_t length)
     return uid;
 }
 
-/* The text of UTF-16, the greater byte first. For a lone surrogate the codec calls its handler, which may be anybody's code:
-   the bytes are kept meanwhile. */
+/* Decodes big-endian UTF-16. For an unpaired surrogate the codec calls its handler, which may be any code, so the bytes
+   are kept alive during the call. */
 static PyObject *wide_of(PyObject *owner, const char *bytes, Py_ssize_t length)
 {
     int order = 1;

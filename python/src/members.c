@@ -1,21 +1,21 @@
 /* Iterators over the members of a container. */
 #include "extension.h"
 
-/* How many references are read at once. */
+/* The number of references that one read takes. */
 #define BLOCK 32
 
 typedef struct Members {
     PyObject_HEAD
     /* NULL at the end. */
     Container *container;
-    /* The member that comes next, and the end of all. */
+    /* The number of the next member, and that of the end. */
     uint64_t next;
     uint64_t end;
-    /* How far the one after it is. */
+    /* The distance from a member to the one after it. */
     uint64_t step;
-    /* Whether a member and the one behind it are given as a pair. */
+    /* True if a member and the one after it are given as a pair. */
     int is_paired;
-    /* The objects of `read` members, from number `from` on. */
+    /* The objects of the `read` members from number `from` on. */
     uint64_t from;
     uint64_t read;
     uint32_t objects[BLOCK];
@@ -90,7 +90,7 @@ static PyObject *members_next(PyObject *object)
         Py_CLEAR(self->container);
         return NULL;
     }
-    /* What is read may run code of anybody, which may end this iterator. */
+    /* Reading a member may run any code, which may end this iterator. */
     Py_INCREF(container);
     self->next = i + self->step;
     given = self->is_paired ? members_pair(self, container, i) : members_value(self, container, i);
@@ -122,7 +122,7 @@ static void members_dealloc(PyObject *object)
 }
 
 static PyType_Slot slots[] = {
-    {Py_tp_doc, "Gives the members of a container."},
+    {Py_tp_doc, "An iterator over members of a container."},
     {Py_tp_traverse, members_traverse},
     {Py_tp_dealloc, members_dealloc},
     {Py_tp_iter, members_iter},

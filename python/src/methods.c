@@ -3,7 +3,7 @@
 
 #include <structmember.h>
 
-/* The number of an object. */
+/* Converts an argument to an object number. */
 static int number_of(PyObject *given, uint32_t *out)
 {
     unsigned long number = PyLong_AsUnsignedLong(given);
@@ -18,7 +18,7 @@ static int number_of(PyObject *given, uint32_t *out)
     return 0;
 }
 
-/* Raises for what a path led to in place of a value. */
+/* Raises the exception for a path that leads to no value. */
 static PyObject *raise_missing(PyObject *path, bplist_status status, uint64_t step)
 {
     switch (status) {
@@ -46,7 +46,7 @@ static PyObject *value_at(PyObject *object, PyObject *path)
     bplist_found found;
     bplist_status status;
     Py_ssize_t length;
-    /* A lone surrogate has no UTF-8, and a path text is UTF-8. */
+    /* A path text is UTF-8, and an unpaired surrogate has no UTF-8. */
     const char *text = PyUnicode_AsUTF8AndSize(path, &length);
 
     if (text == NULL || handle_ready(self) < 0)
@@ -95,7 +95,7 @@ static PyObject *text_of(PyObject *object, PyObject *arguments)
     return text;
 }
 
-/* Writes the certificate with the GIL let go. */
+/* Writes the certificate. Releases the GIL. */
 static int write_certificate(Handle *self, uint8_t *buffer, size_t room, uint64_t *count)
 {
     bplist_status status;
@@ -170,19 +170,19 @@ static void dealloc(PyObject *object)
 static PyMethodDef methods[] = {
     {"at", value_at, METH_O,
      "at(path)\n--\n\n"
-     "The value that a path leads to: a JSON Pointer, as \"/Root/items/0\", \"\" for the top.\n\n"
-     "KeyError if a dictionary has no such key, IndexError if an array has no such index, TypeError if a step goes on from\n"
-     "another value; `PathError` if the path text is wrong."},
-    {"close", close_handle, METH_NOARGS, "close()\n--\n\nCloses the property list. A second time nothing happens."},
+     "Returns the value that a path leads to. A path is a JSON Pointer, for example \"/Root/items/0\"; \"\" is the top.\n\n"
+     "Raises KeyError if a dictionary has no such key, IndexError if an array has no such index, TypeError if a step\n"
+     "continues from any other value, and `PathError` if the path text is wrong."},
+    {"close", close_handle, METH_NOARGS, "close()\n--\n\nCloses the property list. Closing it again does nothing."},
     {"_sizes", sizes_of, METH_O, "The number of nodes of an object's tree, and the length of its old-style text or None."},
     {"_text", text_of, METH_VARARGS, "The old-style text of an object, which has this length."},
-    {"_tree", tree_of_number, METH_VARARGS, "The tree of an object, of at most so many nodes."},
+    {"_tree", tree_of_number, METH_VARARGS, "The tree of an object, which may have at most this many nodes."},
     {"_value", value_of_number, METH_O, "The value of an object: a leaf, or a container that is read on access."},
     {NULL, NULL, 0, NULL},
 };
 
 static PyGetSetDef properties[] = {
-    {"certificate", certificate_of, NULL, "The certificate by which the same bytes can be opened again.", NULL},
+    {"certificate", certificate_of, NULL, "The certificate with which the same bytes can be opened again.", NULL},
     {"closed", is_closed, NULL, "Whether the property list was closed.", NULL},
     {NULL, NULL, NULL, NULL, NULL},
 };
@@ -193,7 +193,7 @@ static PyMemberDef members[] = {
 };
 
 static PyType_Slot slots[] = {
-    {Py_tp_doc, "A property list that is open."},
+    {Py_tp_doc, "An open property list."},
     {Py_tp_dealloc, dealloc},
     {Py_tp_methods, methods},
     {Py_tp_getset, properties},

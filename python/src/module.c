@@ -30,7 +30,7 @@ static PyObject *lint(PyObject *module, PyObject *owner)
                          (unsigned long long)said.references, said.height, said.top, said.top_kind);
 }
 
-/* Whether a class is below one of the module's own; raises TypeError if not. */
+/* Returns true if a class is a subclass of one of the module's own. Otherwise raises TypeError. */
 static int is_below(PyObject *class, PyObject *own)
 {
     if (PyType_IsSubtype((PyTypeObject *)class, (PyTypeObject *)own))
@@ -64,7 +64,7 @@ static PyObject *map_file(PyObject *module, PyObject *arguments)
 
 typedef bplist_status (*Texts)(uint32_t number, char *text, size_t room, uint64_t *count);
 
-/* A text of the library. Each has at most 200 bytes. */
+/* Returns a text of the library. Each has at most 200 bytes. */
 static PyObject *text_of(Texts texts, PyObject *given)
 {
     unsigned long number = PyLong_AsUnsignedLong(given);
@@ -115,12 +115,12 @@ static PyObject *bind(PyObject *module, PyObject *arguments)
 }
 
 static PyMethodDef functions[] = {
-    {"lint", lint, METH_O, "What is found of a sound file: its numbers, for `Verdict`. Raises `Refused` for another."},
+    {"lint", lint, METH_O, "Returns the numbers of a sound file, for `Verdict`. Raises `Refused` if the file holds no value."},
     {"open", open_source, METH_VARARGS, "Opens the bytes of a file as an instance of a subclass of Handle."},
-    {"map_file", map_file, METH_VARARGS, "Maps so many bytes of an open file into memory."},
-    {"rule_name", rule_name, METH_O, "The word of a rule."},
-    {"rule_text", rule_text, METH_O, "What a rule asks."},
-    {"bind", bind, METH_VARARGS, "Says which classes to use, and the one attribute of UIDs."},
+    {"map_file", map_file, METH_VARARGS, "Maps this many bytes of an open file into memory."},
+    {"rule_name", rule_name, METH_O, "The name of a rule."},
+    {"rule_text", rule_text, METH_O, "What a rule requires."},
+    {"bind", bind, METH_VARARGS, "Sets the classes to use, and the name of the only attribute of UIDs."},
     {NULL, NULL, 0, NULL},
 };
 
@@ -168,7 +168,7 @@ static PyModuleDef_Slot slots[] = {
 static struct PyModuleDef definition = {
     PyModuleDef_HEAD_INIT,
     .m_name = "_bplist",
-    .m_doc = "The C library libbplist, as Python's objects.",
+    .m_doc = "The C library libbplist, as Python objects.",
     .m_size = sizeof(State),
     .m_methods = functions,
     .m_slots = slots,

@@ -1,4 +1,4 @@
-/* Where the bytes of a file are: in a bytes object, or in a file mapped into memory. */
+/* The bytes of a file: in a bytes object, or in a file mapped into memory. */
 #include "extension.h"
 
 #include <sys/mman.h>
@@ -53,7 +53,7 @@ int source_of(State *state, PyObject *owner, Source *out)
 }
 
 static PyType_Slot slots[] = {
-    {Py_tp_doc, "A file mapped into memory, until nothing refers to it any more."},
+    {Py_tp_doc, "A file mapped into memory, until nothing refers to it."},
     {Py_tp_dealloc, mapped_dealloc},
     {0, NULL},
 };

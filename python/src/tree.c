@@ -1,12 +1,12 @@
-/* Trees as plistlib builds them: dict, list and leaves. */
+/* Builds trees like those of plistlib: dict, list and leaves. */
 #include "extension.h"
 
 #include <string.h>
 
-/* How many references are read at once: an even number, since those of pairs come by two. */
+/* The number of references that one read takes. It is even, because pairs have two. */
 #define BLOCK 256
 
-/* A list or a dict that is made, and whose members are not in it yet. */
+/* A list or a dict that still needs its members. */
 typedef struct Empty {
     PyObject *value;
     uint32_t object;
@@ -16,21 +16,21 @@ typedef struct Empty {
 
 typedef struct Tree {
     Handle *handle;
-    /* The object at the top, and how many nodes it may have. */
+    /* The root of the tree, and the largest number of nodes that the tree may have. */
     uint32_t object;
     uint64_t limit;
-    /* How many nodes were met. They are all, unless a container was met twice: then the library was asked. */
+    /* The number of nodes so far. If a container occurs twice, the library gives the number for the whole tree. */
     uint64_t nodes;
     int is_measured;
-    /* By the numbers of objects what was built of them, with a reference to each, or NULL. */
+    /* By object number: what was built for the object, with a reference to it, or NULL. */
     PyObject **made;
-    /* The stack of containers that are to be filled. What they hold is referred to by `made`. */
+    /* The stack of containers that need their members. `made` has the references to their values. */
     Empty *empty;
     size_t height;
     size_t room;
 } Tree;
 
-/* Raises if the tree has more nodes than it may have. Asks the library, once. */
+/* Raises if the tree has too many nodes. Asks the library, once. */
 static int tree_measure(Tree *tree)
 {
     bplist_sizes sizes;
@@ -62,7 +62,7 @@ static int tree_push(Tree *tree, const Empty *container)
     return 0;
 }
 
-/* A container of `body`, to be filled later. */
+/* Makes the empty container of `body`, which is filled later. */
 static PyObject *tree_empty(Tree *tree, uint32_t object, const bplist_body *body)
 {
     Empty container = {NULL, object, body->kind, body->count};
@@ -77,7 +77,7 @@ static PyObject *tree_empty(Tree *tree, uint32_t object, const bplist_body *body
     return container.value;
 }
 
-/* What was built of an object that is met again. */
+/* Returns what was built for an object that occurs again. */
 static PyObject *tree_again(Tree *tree, PyObject *made)
 {
     int is_container = PyList_CheckExact(made) || PyDict_CheckExact(made);
@@ -88,7 +88,7 @@ static PyObject *tree_again(Tree *tree, PyObject *made)
     return made;
 }
 
-/* The value of an object. */
+/* Returns the value of an object. */
 static PyObject *tree_value(Tree *tree, uint32_t object)
 {
     bplist_body body;
@@ -119,7 +119,7 @@ static int fill_pair(Tree *tree, PyObject *dict, const uint32_t *objects)
     return failed;
 }
 
-/* Puts members into a list or a dict: those whose objects were read, the first of which has number `from`. */
+/* Puts the members whose objects were read into a list or a dict. The first of them has number `from`. */
 static int fill_block(Tree *tree, const Empty *container, uint64_t from, const uint32_t *objects, Py_ssize_t read)
 {
     int is_dict = container->kind == BPLIST_DICT;
@@ -160,7 +160,7 @@ static int fill(Tree *tree, const Empty *container)
     return 0;
 }
 
-/* Gives back what the tree holds but for its values' own references. */
+/* Frees what the tree holds, except the references that its values hold themselves. */
 static void tree_free(Tree *tree)
 {
     for (uint64_t i = 0; i < tree->handle->objects; i++)
@@ -169,7 +169,7 @@ static void tree_free(Tree *tree)
     PyMem_Free(tree->empty);
 }
 
-/* Builds the tree of an object: one that is made, and then filled container by container. */
+/* Builds the tree of an object: makes its root, and then fills container by container. */
 static PyObject *tree_build(Tree *tree)
 {
     PyObject *top = tree_value(tree, tree->object);
@@ -192,7 +192,7 @@ PyObject *tree_of(Handle *self, uint32_t object, uint64_t limit)
     tree.made = PyMem_Calloc(self->objects, sizeof *tree.made);
     if (tree.made == NULL)
         return PyErr_NoMemory();
-    /* Nothing of the tree is garbage yet, and the collector would go over it again and again. */
+    /* No part of the tree is garbage yet, and the collector would look at it again and again. */
     is_collecting = PyGC_Disable();
     top = tree_build(&tree);
     if (is_collecting)

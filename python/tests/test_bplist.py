@@ -1,6 +1,6 @@
-"""Tests of the package as it is installed: `python3 -m unittest discover python/tests`.
+"""Tests of the installed package: `python3 -m unittest discover python/tests`.
 
-The files are those of the repository's tables (tests/vectors) and of other writers (tests/sample_files.py).
+The files are those of the repository's tables (tests/vectors) and of other writers (tests/helpers/writers.py).
 """
 import collections.abc
 import contextlib
@@ -31,16 +31,16 @@ from bplist import __main__ as command
 ROOT = pathlib.Path(__file__).resolve().parents[2]
 sys.path.insert(0, str(ROOT / "tests"))
 
-from run_vectors import doubling  # noqa: E402
-from sample_files import table_files, written_files  # noqa: E402
+from helpers.contents import doubling  # noqa: E402
+from helpers.sample_files import table_files, written_files  # noqa: E402
 
-# What plistlib reads wrong: a count of 16 bytes as one of 1 byte.
+# plistlib reads these wrong: a count of 16 bytes as one of 1 byte.
 READ_WRONG = ".w4."
 MOST_NODES = 10_000
 
 
 def by_plistlib(file):
-    """plistlib's tree. Where there is none: plistlib has no sets, no lone surrogates, no dates beyond datetime's."""
+    """The tree of plistlib, if any: it has no sets, unpaired surrogates, or dates outside the range of datetime."""
     try:
         return [plistlib.loads(file, fmt=plistlib.FMT_BINARY)]
     except Exception:
@@ -48,7 +48,7 @@ def by_plistlib(file):
 
 
 def plain_of(value):
-    """A lazy value as a tree, by nothing but its public calls."""
+    """A value as a tree, built with its public calls alone."""
     if isinstance(value, bplist.Dict):
         return {key: plain_of(member) for key, member in value.items()}
     if isinstance(value, (bplist.Array, bplist.Set)):
@@ -57,14 +57,14 @@ def plain_of(value):
 
 
 def plist_of(*objects):
-    """The property list of a file of these objects, one behind the other, whose top is the first."""
+    """The property list of a file of these objects in order. The first is the top."""
     places = [8 + sum(map(len, objects[:n])) for n in range(len(objects) + 1)]
     trailer = bytes(6) + b"\x01\x01" + len(objects).to_bytes(8, "big") + bytes(8) + places.pop().to_bytes(8, "big")
     return bplist.loads(b"bplist00" + b"".join(objects) + bytes(places) + trailer)
 
 
 def value_of(spelled):
-    """The value of the one object of a file, which has these bytes."""
+    """The value of a file with one object, which has these bytes."""
     table = 8 + len(spelled)
     trailer = bytes(6) + b"\x01\x01" + (1).to_bytes(8, "big") + bytes(8) + table.to_bytes(8, "big")
     return bplist.loads(b"bplist00" + spelled + b"\x08" + trailer).value
@@ -72,7 +72,7 @@ def value_of(spelled):
 
 class Tables(unittest.TestCase):
     def test_verdicts(self):
-        """Each file of the tables is opened, or refused with rule, object and place."""
+        """Each file of the tables is opened, or refused with the right rule, object and place."""
         for sample in table_files():
             if sample.line is None:
                 continue
@@ -101,7 +101,7 @@ class Tables(unittest.TestCase):
         self.assertEqual(fault.circle, ())
 
     def test_trees(self):
-        """Each sound file of the tables that plistlib reads right gives plistlib's tree."""
+        """Each sound file of the tables that plistlib reads correctly gives the tree of plistlib."""
         seen = 0
         for sample in table_files():
             sound = sample.line is not None and sample.line.startswith(b"ok ")
@@ -117,7 +117,7 @@ class Tables(unittest.TestCase):
         self.assertGreater(seen, 20)
 
     def test_other_writers(self):
-        """Each file of another writer gives the tree that it was given, which plistlib reads too."""
+        """Each file of another writer gives the tree that was written, which is also what plistlib reads."""
         with tempfile.TemporaryDirectory() as folder:
             for sample in written_files(folder):
                 for is_sorted in (False, True):
@@ -127,7 +127,7 @@ class Tables(unittest.TestCase):
                         self.assertEqual(plain_of(plist.value), sample.value)
 
     def test_rules(self):
-        """The sentence of a rule is the one of docs/RULES.md."""
+        """The sentence of a rule is that of docs/RULES.md."""
         rules = (ROOT / "docs/RULES.md").read_text(encoding="utf-8")
         section = rules.split("## The rules in plain words")[1].split("\n## ")[0]
         cells = [line.strip("| ").split(" | ") for line in section.split("\n") if line[:3].strip("| ").isdigit()]
@@ -174,7 +174,7 @@ class Values(unittest.TestCase):
             value["list"][3]
 
     def test_equal(self):
-        """A container equals itself, and what has equal members: of this file, of another one, or of plistlib."""
+        """A container equals itself and anything with equal members: of this file, of another file, or of plistlib."""
         value, other = self.plist.value, bplist.loads(plistlib.dumps(self.tree, fmt=plistlib.FMT_BINARY)).value
         self.assertEqual(value, self.plist.at(""))
         self.assertEqual(value, other)
@@ -195,7 +195,7 @@ class Values(unittest.TestCase):
                 hash(container)
 
     def test_equal_when_closed(self):
-        """That two containers are one object is seen without reading."""
+        """Two containers that are the same object are compared without reading."""
         one, other = self.plist.value, self.plist.value
         self.plist.close()
         self.assertEqual(one, other)
@@ -219,7 +219,7 @@ class Values(unittest.TestCase):
             self.plist.at("/\ud800")
 
     def test_sizes(self):
-        """A tree of more nodes than the limit is refused, and its number of nodes is said."""
+        """A tree with more nodes than the limit is refused, and the exception has its number of nodes."""
         shared = bplist.loads(doubling(8, b"\x09"))
         for plist, tree in ((self.plist, self.tree), (shared, plain_of(shared.value))):
             size = plist.size
@@ -299,14 +299,14 @@ class Edges(unittest.TestCase):
             self.assertEqual(caught.exception.size, 2**64 - 1)
 
     def test_shared_are_equal(self):
-        """Two trees of 2^65 - 1 nodes each are compared by their 65 objects."""
+        """Two trees of 2^65 - 1 nodes are compared by their 65 objects."""
         value = bplist.loads(doubling(64, b"\x09")).value
         self.assertEqual(value, bplist.loads(doubling(64, b"\x09")).value)
         self.assertNotEqual(value, bplist.loads(doubling(64, b"\x08")).value)
         self.assertNotEqual(value, value[0])
 
     def test_sets_are_equal(self):
-        """Sets are equal where their members are, in the order of the file; a set equals no array and no list."""
+        """Sets are equal if their members are, in the order of the file. A set never equals an array or a list."""
         tops = [b"\xc2\x01\x02", b"\xc2\x01\x02", b"\xc2\x02\x01", b"\xc1\x01"]
         sets = [plist_of(top, b"\x09", b"\x08").value for top in tops]
         self.assertEqual(sets[0], sets[1])
@@ -326,7 +326,7 @@ class Edges(unittest.TestCase):
 
 class Dates(unittest.TestCase):
     def test_dates(self):
-        """A date is what plistlib reckons, to the microsecond: also at the ends of datetime's range, and beyond them."""
+        """A date equals that of plistlib to the microsecond, even at the ends of the range of datetime and beyond."""
         epoch = datetime.datetime(2001, 1, 1)
         given = random.Random(3)
         first, last = (moment - epoch for moment in (datetime.datetime.min, datetime.datetime.max))
@@ -345,7 +345,7 @@ class Dates(unittest.TestCase):
 
 class Deep(unittest.TestCase):
     def test_deep(self):
-        """A chain of arrays far deeper than Python and C recurse."""
+        """A chain of arrays, far deeper than Python or C can recurse."""
         links = 1_000_000
         body = b"".join(b"\xa1" + n.to_bytes(4, "big") for n in range(1, links + 1)) + b"\x09"
         offsets = b"".join((8 + 5 * n).to_bytes(4, "big") for n in range(links + 1))
@@ -375,7 +375,7 @@ class Files(unittest.TestCase):
         self.assertTrue(plist.closed)
 
     def is_mapped(self):
-        """Whether this process has the file mapped."""
+        """Returns True if this process has mapped the file."""
         return os.path.basename(self.path) in pathlib.Path("/proc/self/maps").read_text(encoding="utf-8")
 
     def test_load(self):
@@ -389,14 +389,14 @@ class Files(unittest.TestCase):
             bplist.loads("no bytes")
 
     def test_to_python(self):
-        """The one call for those who come from plistlib takes a path or bytes."""
+        """to_python, the call that replaces plistlib, takes a path or bytes."""
         for source in (self.path, pathlib.Path(self.path), pathlib.Path(self.path).read_bytes()):
             self.assertEqual(bplist.to_python(source), {"a": [1, 2]})
         with self.assertRaises(bplist.TooLarge):
             bplist.to_python(self.path, limit=4)
 
     def test_mapped(self):
-        """A file is read, and mapped only if that is asked for; the mapping ends with the property list, and not before."""
+        """A file is read, or mapped if `map` asks for it. The mapping ends with the property list, and not before."""
         with bplist.open(self.path):
             self.assertFalse(self.is_mapped())
         plist = bplist.open(self.path, map=True)
@@ -408,7 +408,7 @@ class Files(unittest.TestCase):
             plist.at("/a/0")
 
     def test_not_mapped(self):
-        """What can't be mapped is read: an empty file, and a pipe."""
+        """A file that cannot be mapped is read: an empty file, and a pipe."""
         reading, writing = os.pipe()
         os.write(writing, pathlib.Path(self.path).read_bytes())
         os.close(writing)
@@ -427,7 +427,7 @@ class Files(unittest.TestCase):
         self.assertFalse(self.is_mapped())
 
     def cut_short(self, words):
-        """How an interpreter ends that reads a file which is cut short while it is open."""
+        """The exit status of an interpreter that reads a file which is cut short while it is open."""
         with open(self.path, "wb") as file:
             plistlib.dump(list(range(10_000)), file, fmt=plistlib.FMT_BINARY)
         code = f"plist = bplist.open({self.path!r}{words}); os.truncate({self.path!r}, 0); print(plist.value[9999])"
@@ -435,7 +435,7 @@ class Files(unittest.TestCase):
         return subprocess.run([sys.executable, "-c", code], capture_output=True, check=False)
 
     def test_cut_short(self):
-        """By default nothing happens to a reader of a file that is cut short. A mapped one ends the interpreter."""
+        """By default a reader does not notice that the file is cut short. With `map` the interpreter ends."""
         ran = self.cut_short("")
         self.assertEqual((ran.returncode, ran.stdout, ran.stderr), (0, b"9999\n", b""))
         self.assertEqual(self.cut_short(", map=True").returncode, -signal.SIGBUS)
@@ -451,7 +451,7 @@ class Files(unittest.TestCase):
             bplist.lint(self.path + " of no name")
 
     def test_collected(self):
-        """A container keeps its file open; without one the file is closed."""
+        """A container keeps its file open. Without a container the file is closed."""
         members = bplist.open(self.path, map=True).value["a"]
         gc.collect()
         self.assertEqual(list(members), [1, 2])
@@ -459,7 +459,7 @@ class Files(unittest.TestCase):
         self.assertFalse(self.is_mapped())
 
     def test_circle_of_references(self):
-        """A property list that refers to a container of its own is collected."""
+        """A property list that refers to one of its own containers is collected."""
         plist = bplist.open(self.path)
         plist.kept = [plist.value, iter(plist.value["a"])]
         kept = weakref.ref(plist)
@@ -468,7 +468,7 @@ class Files(unittest.TestCase):
         self.assertIsNone(kept())
 
     def test_threads(self):
-        """Threads that share a property list, one of which closes it: an answer, or Closed."""
+        """Threads share a property list, and one of them closes it. The others get an answer, or Closed."""
         plist = bplist.open(self.path)
         wanted = (1, 5, {"a": [1, 2]}, plist.certificate)
         strange = []
@@ -491,7 +491,7 @@ class Files(unittest.TestCase):
         self.assertEqual(strange, [])
 
     def test_threads_apart(self):
-        """Threads that each open the same file."""
+        """Several threads each open the same file."""
         seen = []
 
         def read():
@@ -523,7 +523,7 @@ class Files(unittest.TestCase):
             "check": lambda: bplist.loads(file, certificate=certificate),
         }
         thread = threading.Thread(target=tick)
-        # No thread that holds the GIL gives it up by itself.
+        # A thread that holds the GIL never gives it up by itself.
         self.addCleanup(sys.setswitchinterval, sys.getswitchinterval())
         sys.setswitchinterval(100)
         thread.start()
@@ -537,7 +537,7 @@ class Files(unittest.TestCase):
             thread.join()
 
     def walk(self, folder, path):
-        """The lines of the example on a folder and a path, sorted."""
+        """The sorted lines of the example for a folder and a path."""
         printed = io.StringIO()
         words = ["walk_backup.py", folder, path]
         with mock.patch.object(sys, "argv", words), contextlib.redirect_stdout(printed):
@@ -545,7 +545,7 @@ class Files(unittest.TestCase):
         return sorted(printed.getvalue().splitlines())
 
     def test_walk_backup(self):
-        """The example lists each file of a folder that is not sound, and the value of those that are."""
+        """The example lists each file of a folder: why it is refused, or its value."""
         broken = os.path.join(self.folder.name, "broken")
         with open(broken, "wb") as file:
             file.write(b"bplist00")
@@ -556,7 +556,7 @@ class Files(unittest.TestCase):
         self.assertEqual(self.walk(self.folder.name, "/b")[1], f"{self.path}: missing '/b'")
 
     def test_walk_goes_on(self):
-        """What can't be read has a line in the example, and the walk goes on."""
+        """The example prints a line for a file that cannot be read, and continues."""
         made = bplist.open
         odd = os.fsencode(self.folder.name) + b"/\xff"
         with open(odd, "wb") as file, open(self.path, "rb") as given:
@@ -574,7 +574,7 @@ class Files(unittest.TestCase):
         self.assertEqual(self.walk(absent, ""), [f"{absent}: No such file or directory"])
 
     def test_walk_of_no_path(self):
-        """A wrong path text ends the example: a line and status 2."""
+        """A wrong path text ends the example with one line and status 2."""
         for path in ("a", "/~", "/\udcff"):
             said = io.StringIO()
             with contextlib.redirect_stderr(said), self.assertRaises(SystemExit) as ended:
@@ -619,7 +619,7 @@ class Command(unittest.TestCase):
         self.assertEqual(self.run_command("show", self.path, "/a/0"), (0, "1\n", ""))
 
     def test_faults(self):
-        """What goes wrong is one line and a status."""
+        """An error is one line and a status."""
         rows = [("/none", 1, "missing"), ("/a/2", 1, "missing"), ("/a/0/0", 1, "missing")]
         rows += [("a", 2, "path text"), ("/\ud800", 2, "surrogate")]
         for path, wanted, words in rows:
@@ -639,7 +639,7 @@ class Package(unittest.TestCase):
         self.assertEqual(bplist.__version__, (ROOT / "VERSION").read_text(encoding="utf-8").strip())
 
     def test_not_made_by_hand(self):
-        """Property lists and containers come from the package's calls alone."""
+        """Only the calls of the package make property lists and containers."""
         for made in (bplist.Plist, bplist.Dict, bplist.Array, bplist.Set):
             with self.assertRaises(TypeError):
                 made()
@@ -649,14 +649,14 @@ class Package(unittest.TestCase):
                 object.__new__(made)
 
     def test_faults_are_copied(self):
-        """An exception can be handed to another process."""
+        """An exception can be passed to another process."""
         refused = [bplist.Refused(15, 3, 21), bplist.Refused(23, 0, None, (0, 1))]
         for fault in (*refused, bplist.PathError(2), bplist.TooLarge(5, 4)):
             copied = pickle.loads(pickle.dumps(fault))
             self.assertEqual((type(copied), copied.args, str(copied)), (type(fault), fault.args, str(fault)))
 
     def test_stubs(self):
-        """The stub of the extension names what the extension has."""
+        """The stub of the extension has the names of the extension."""
         stub = (pathlib.Path(bplist.__file__).parent / "_bplist.pyi").read_text(encoding="utf-8")
         extension = sys.modules["bplist._bplist"]
         for name, held in vars(extension).items():
@@ -670,7 +670,7 @@ class Package(unittest.TestCase):
 
 class Changes(unittest.TestCase):
     def test_changed_files(self):
-        """Ten thousand changes of one byte: a value or an exception of the package."""
+        """Ten thousand changes of one byte. Each gives a value or an exception of the package."""
         given = random.Random(1)
         files = [plistlib.dumps(Values.tree, fmt=plistlib.FMT_BINARY), doubling(8, b"\x51a")]
         for _ in range(10_000):
@@ -679,13 +679,13 @@ class Changes(unittest.TestCase):
             try:
                 with bplist.loads(file) as plist:
                     if plist.size < 10_000:
-                        # Not compared as they are: a number that is none equals no other.
+                        # Compared as text, because NaN does not equal itself.
                         self.assertEqual(repr(plist.plain()), repr(plain_of(plist.value)))
             except bplist.Refused:
                 pass
 
     def test_changed_while_mapped(self):
-        """A thousand changes of a mapped file while it is open: what is read means nothing, and no read leaves the file."""
+        """A thousand changes of a mapped file while it is open. Values are meaningless, but no read leaves the file."""
         given = random.Random(2)
         file = plistlib.dumps(Values.tree, fmt=plistlib.FMT_BINARY)
         with tempfile.NamedTemporaryFile() as named:

@@ -1,13 +1,13 @@
-//! Finds libbplist.a: in the directory that `BPLIST_LIB_DIR` names, or where pkg-config says that it is installed.
+//! Finds libbplist.a in the directory that `BPLIST_LIB_DIR` names, or with pkg-config.
 
 use std::env;
 use std::path::{Path, PathBuf};
 use std::process::{self, Command};
 
-/// The least version of the library that has all calls of `src/ffi.rs`.
+/// The oldest version of the library that has all calls of `src/ffi.rs`.
 const LEAST: &str = "0.3.0";
 
-/// The directory in which `make install` put the library.
+/// Returns the directory in which `make install` put the library.
 fn installed() -> Result<PathBuf, String> {
     let pkg_config = env::var_os("PKG_CONFIG").unwrap_or_else(|| "pkg-config".into());
     let asked = Command::new(&pkg_config)
@@ -29,7 +29,7 @@ fn installed() -> Result<PathBuf, String> {
     Ok(PathBuf::from(String::from_utf8_lossy(&asked.stdout).trim()))
 }
 
-/// The directory that has the library.
+/// Returns the directory of the library.
 fn found() -> Result<PathBuf, String> {
     let folder = match env::var_os("BPLIST_LIB_DIR") {
         Some(named) => PathBuf::from(named),

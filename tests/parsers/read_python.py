@@ -10,7 +10,7 @@ import struct
 import sys
 
 sys.path.insert(0, os.path.dirname(os.path.dirname(os.path.abspath(__file__))))
-from plist_value import DEPTH, NODES, Large  # noqa: E402
+from helpers.plist_value import DEPTH, NODES, Large  # noqa: E402
 
 EPOCH = datetime.datetime(2001, 1, 1)
 

@@ -8,17 +8,16 @@ use Rattle.bplint_lines.specs.declared.fault.RunFault.{RunFault}
 use Rattle.bplint_lines.specs.declared.raw_fault.RawFault.{RawFault}
 use Rattle.bplint_lines.specs.declared.said.Said.{Said}
 use Rattle.bplint_lines.specs.declared.said.Said.TheVariants.{All, SomeMissing}
-use Rattle.bplint_lines.specs.Answers.{Leaves, LeavesBy}
+use Rattle.bplint_lines.specs.Answers.{Leaves, LeavesSomeBy}
 use Rattle.bplint_lines.specs.RawFaults.{raw_report_of}
 use Rattle.bplint_engine.specs.Get.{LinesSay, found_line}
 use Rattle.bplint_engine.specs.Lint.{LintSays}
 use Rattle.bplint_engine.specs.Ls.{listed}
 use Rattle.bplint_engine.specs.Print.{PrintSays}
-use Rattle.bplint_engine.specs.Streams.{LeavesSomeBy}
 use Rattle.bplint_engine.specs.Tree.{ListsAll}
 use Rattle.bplint_map.specs.Map.{MapSays}
 
--- what is left with the writer is what `show`, `show --text`, `ls` or `map` says of the file
+-- the writer has what `show`, `show --text`, `ls` or `map` says of the file
 abbrev pub LeavesShown : List ℕ → Shown → Option (List ℕ) → Option (List ℕ) → Result Said RunFault → Type 0
 LeavesShown f (Values paths) old new result =
     Leaves (LinesSay found_line (LintSays f) f (map (λ path. string_bytes path) paths.items)) 0 old new result
@@ -26,15 +25,15 @@ LeavesShown f (Text path limit) old new result = Leaves (PrintSays limit (LintSa
 LeavesShown f (Members path) old new result = Leaves (LinesSay (listed path.now) (LintSays f) f (path.now ∷ [])) 0 old new result
 LeavesShown f (Tree path limit) old new result =
     ∥ LeavesSomeBy (ListsAll limit (LintSays f) f path.now) old new result ∥₁
-LeavesShown f Map old new result = (most : ℕ) × LeavesBy (MapSays f) most old new result
+LeavesShown f Map old new result = LeavesSomeBy (MapSays f) old new result
 
--- the exit status of an answer; that of refused memory may stand for another fault's, since its line takes memory
+-- the exit status of an answer; refused memory may replace another fault, because its line takes memory
 abbrev pub EndsWith : Result Said RawFault → ℕ → Type 0
 EndsWith (Ok All) status = status ≡ 0
 EndsWith (Ok SomeMissing) status = status ≡ 1
 EndsWith (Err fault) status = (status ≡ (raw_report_of fault).1) ⊎ (status ≡ 4)
 
--- the exit status of a command line that clap refuses: help and version were asked for, memory was refused, or it is wrong
+-- the exit status of a command line that clap does not accept: help or version, refused memory, or an error
 abbrev pub IsRefusedWith : ErrorKind → ℕ → Type 0
 IsRefusedWith kinds.DisplayHelp status = status ≡ 0
 IsRefusedWith kinds.DisplayVersion status = status ≡ 0

@@ -1,4 +1,4 @@
--- Inputs that are read whole, and why an input is refused. Source: profile.
+-- Inputs that are read as a whole, and why an input is refused. Source: profile.
 use Rattle.std.specs.Prelude.{◌≡◌, ◌≤◌, ◌⊎◌, ℕ, Bool, List, [], codes, take, vec_len}
 use Rattle.std.specs.Str.{bytes_eq}
 use Rattle.bplint.specs.declared.input.Operand.{Operand}
@@ -7,11 +7,11 @@ use Rattle.bplist_octets.specs.declared.source.ReadFault.TheVariants.{Device, To
 use Rattle.bplint_lines.specs.declared.fault.RunFault.{RunFault}
 use Rattle.bplint_lines.specs.declared.fault.RunFault.TheVariants.{InputTooLong, Memory, Open, Read}
 
--- a fault of reading an input whole
+-- a fault of reading an input as a whole
 abbrev pub IsWholeFault : RunFault → Type 0
 IsWholeFault fault = (fault ≡ InputTooLong) ⊎ ((fault ≡ Memory) ⊎ ((fault ≡ Read Device) ⊎ (fault ≡ Read TooManyTurns)))
 
--- a fault of an input: it could not be opened, or one of reading it whole
+-- a fault of an input: it could not be opened, or not be read as a whole
 abbrev pub IsInputFault : RunFault → Type 0
 IsInputFault fault = (fault ≡ Open) ⊎ IsWholeFault fault
 
@@ -19,21 +19,21 @@ IsInputFault fault = (fault ≡ Open) ⊎ IsWholeFault fault
 abbrev pub IsReadFault : RunFault → Type 0
 IsReadFault fault = elim fault [ Read _ ↦ Unit {0} | _ ↦ ⊥ ]
 
--- the input was read to its end, and has no more bytes than an input may that is read whole
+-- the input was read to its end, and is not longer than the limit for such inputs
 abbrev pub IsReadWhole : Operand → Type 0
 IsReadWhole (Whole text) = vec_len text ≤ 67108864
 IsReadWhole (File _) = ⊥
 
--- a file begins as binary property lists of all versions do
+-- a file begins like a binary property list of any version
 abbrev pub starts_with_bplist : List ℕ → Bool
 starts_with_bplist f = bytes_eq (codes "bplist") (take 6 f)
 
--- the input has so many bytes
+-- the input has this length in bytes
 abbrev pub HasLength : ℕ → Operand → Type 0
 HasLength n (Whole text) = vec_len text ≡ n
 HasLength n (File file) = file.length ≡ n
 
--- an input has no more bytes than one may that is read whole
+-- the input is not longer than the limit for inputs that are read as a whole
 abbrev pub IsShort : Operand → Type 0
 IsShort (Whole text) = vec_len text ≤ 67108864
 IsShort (File file) = file.length ≤ 67108864
@@ -43,12 +43,12 @@ abbrev pub IsNothing : Operand → Type 0
 IsNothing (Whole text) = text.items ≡ []
 IsNothing (File _) = ⊥
 
--- P holds of the bytes of an input that was read to its end
+-- if the input was read to its end, P holds of its bytes
 abbrev pub OfWhole : (List ℕ → Type 0) → Operand → Type 0
 OfWhole P (Whole text) = P text.items
 OfWhole P (File _) = Unit {0}
 
--- an input that was read to its end is as it was
+-- if the input was read to its end, it is unchanged
 abbrev pub KeepsWhole : Operand → Operand → Type 0
 KeepsWhole (Whole text) new = new ≡ Whole text
 KeepsWhole (File _) new = Unit {0}

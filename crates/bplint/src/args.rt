@@ -1,4 +1,4 @@
-//! The command line, by `clap`.
+//! Reads the command line with `clap`.
 ghost use Rattle.std.specs.Prelude.{◌≡◌, IfOk, length};
 ghost use Rattle.bplint_engine.specs.Commands.{PrintsOnePath};
 ghost use Rattle.bplint_engine.specs.declared.command.Verb.TheVariants as verbs;
@@ -11,57 +11,57 @@ use clap::error::ErrorKind;
 use clap::{ArgMatches, Error};
 use std::alloc::{AllocError, Global};
 
-/// A command line that was taken.
+/// A command line without errors.
 #[derive(Drop)]
 pub enum Line<'a> {
-    /// `lint`, of one file or several.
+    /// `lint`, for one file or several.
     Lint(Lint<'a>),
-    /// A subcommand over one FILE.
+    /// A subcommand for one FILE.
     Run(Run<'a>),
-    /// `explain`, of this rule.
+    /// `explain`, for this rule.
     Explain(Rule),
 }
 
-/// A line of `lint`.
+/// A command line of `lint`.
 #[derive(Drop)]
 pub struct Lint<'a> {
-    /// The FILEs, where `-` is standard input.
+    /// The FILEs; `-` is standard input.
     pub files: Vec<&'a str>,
-    /// Whether they hold hexadecimal text.
+    /// True if they hold hexadecimal text.
     pub hex: bool,
-    /// Whether nothing is printed of a file that holds a value.
+    /// True if nothing is printed for a file that holds a value.
     pub quiet: bool,
-    /// Whether a FILE that is a folder stands for the files below it.
+    /// True if a folder means the files below it.
     pub recursive: bool,
-    /// Whether the files are counted at the end.
+    /// True if the counts of files are printed at the end.
     pub summary: bool,
-    /// Whether more is said under a fault's line.
+    /// True if faults are explained.
     pub explain: bool,
 }
 
-/// A line that asks one thing of one FILE.
+/// A command line that asks one thing about one FILE.
 #[derive(Drop)]
 pub struct Run<'a> {
-    /// What is asked.
+    /// What to do.
     pub request: Request<'a>,
-    /// What is read.
+    /// What to read.
     pub operands: Operands<'a>,
-    /// OUT, and standard output where the subcommand has none.
+    /// OUT, or `-` for standard output if the subcommand has no OUT.
     pub out: &'a str,
 }
 
-/// The names of what a run reads.
+/// The names of the inputs.
 #[derive(Drop)]
 pub struct Operands<'a> {
-    /// FILE, where `-` is standard input.
+    /// FILE; `-` is standard input.
     pub file: &'a str,
-    /// CERT, where the subcommand has one.
+    /// CERT, if the subcommand has one.
     pub cert: Option<&'a str>,
-    /// Whether they hold hexadecimal text.
+    /// True if they hold hexadecimal text.
     pub hex: bool,
 }
 
-/// What is asked of a file.
+/// What to do with a file.
 #[derive(Drop)]
 pub enum Request<'a> {
     /// `lint`, `certify`, `check`, `get` or `print`.
@@ -73,7 +73,7 @@ pub enum Request<'a> {
 }
 
 impl<'a> Request<'a> {
-    /// Whether more is said under a fault's line.
+    /// Returns true if faults are explained.
     pub fn explains(&self) -> bool {
         match self {
             Request::Command(job) => job.explain,
@@ -82,47 +82,47 @@ impl<'a> Request<'a> {
     }
 }
 
-/// A command of the engine. One that prints has exactly one path.
+/// A command of the engine. `Print` has exactly one path.
 #[derive(Drop)]
 pub struct Job {
-    /// What the engine is asked to do.
+    /// The command.
     pub command: Command,
-    /// Whether more is said under a fault's line.
+    /// True if faults are explained.
     pub explain: bool,
     ghost one_path: { PrintsOnePath command },
 }
 
-/// What is shown of a file's value.
+/// What to show of a file.
 #[derive(Drop)]
 pub enum Shown<'a> {
-    /// What lies under each of these path texts.
+    /// The values under these path texts.
     Values(Vec<String>),
-    /// The old-style text of the value under this path text.
+    /// The value under this path text, as old-style text.
     Text {
         /// The path text.
         path: &'a str,
-        /// How many bytes the text may have, its line feed not counted.
+        /// The largest text in bytes, not counting its line feed.
         limit: u64,
     },
     /// The members of the value under this path text.
     Members(&'a str),
-    /// The value under this path text with all that is in it.
+    /// The value under this path text, and everything inside it.
     Tree {
         /// The path text.
         path: &'a str,
-        /// How many nodes the value may have.
+        /// The largest number of nodes of the value.
         limit: u64,
     },
     /// The map of the file.
     Map,
 }
 
-/// Takes a command line, or says why not in `clap`'s words.
+/// Reads a command line, or returns the error of `clap`.
 pub fn read_line<'a>(alloc: Global, words: &'a [String]) -> Result<Line<'a>, Error> {
     let matches = bplint(alloc)?.try_get_matches_from(words)?;
     match matches.subcommand() {
         Some((name, below)) => line_of(alloc, name, below),
-        // By `subcommand_required` clap has refused such words.
+        // clap has already refused this, because of `subcommand_required`.
         None => Err(refusal(
             alloc,
             ErrorKind::MissingSubcommand,
@@ -131,7 +131,7 @@ pub fn read_line<'a>(alloc: Global, words: &'a [String]) -> Result<Line<'a>, Err
     }
 }
 
-/// The line of a subcommand with what was matched below it.
+/// Makes the line of a subcommand from its matches.
 fn line_of<'a>(alloc: Global, name: &str, matches: &ArgMatches<'a>) -> Result<Line<'a>, Error> {
     match name {
         "lint" => Ok(Line::Lint(lint_of(alloc, matches)?)),
@@ -151,7 +151,7 @@ fn lint_of<'a>(alloc: Global, matches: &ArgMatches<'a>) -> Result<Lint<'a>, Allo
     })
 }
 
-/// The line that explains the rule of a word or a number.
+/// Makes the line that explains the rule with this word or number.
 fn explain_of<'a>(alloc: Global, word: &str) -> Result<Line<'a>, Error> {
     if let Some(rule) = rule_of_word(word) {
         return Ok(Line::Explain(rule));
@@ -162,7 +162,7 @@ fn explain_of<'a>(alloc: Global, word: &str) -> Result<Line<'a>, Error> {
     }
 }
 
-/// The rule whose number a word is, in decimal digits of which the first is not 0.
+/// Returns the rule whose number is this word, in decimal digits without a leading 0.
 fn number_in(word: &str) -> Option<Rule> {
     if word.starts_with(['+', '0']) {
         return None;
@@ -195,7 +195,7 @@ fn request_of<'a>(
     }
 }
 
-/// What `show` asks. With `--text` or `--raw` it takes one path at most.
+/// Returns what `show` asks for. With `--text` or `--raw` it takes at most one path.
 fn show_of<'a>(alloc: Global, matches: &ArgMatches<'a>) -> Result<Request<'a>, Error> {
     let (text, raw) = (matches.get_flag("text"), matches.get_flag("raw"));
     if (text || raw) && matches.get_strs("PATH").unwrap_or(&[]).len() > 1 {
@@ -213,7 +213,7 @@ fn show_of<'a>(alloc: Global, matches: &ArgMatches<'a>) -> Result<Request<'a>, E
     Ok(Request::Show(Shown::Values(shown_paths(alloc, matches)?)))
 }
 
-/// What `ls` lists.
+/// Returns what `ls` lists.
 fn listed_by<'a>(matches: &ArgMatches<'a>) -> Shown<'a> {
     let path = path_in(matches);
     if matches.get_flag("recursive") {
@@ -223,7 +223,7 @@ fn listed_by<'a>(matches: &ArgMatches<'a>) -> Shown<'a> {
     Shown::Members(path)
 }
 
-/// The path texts of `show`: with none given the empty one, for the whole.
+/// Returns the path texts of `show`. Without one, this is the empty path, which is the whole value.
 fn shown_paths(alloc: Global, matches: &ArgMatches<'_>) -> Result<Vec<String>, AllocError> {
     match matches.get_strs("PATH").unwrap_or(&[]) {
         [] => one_path(alloc, ""),
@@ -231,7 +231,7 @@ fn shown_paths(alloc: Global, matches: &ArgMatches<'_>) -> Result<Vec<String>, A
     }
 }
 
-/// The verb of `certify`, `check`, `get` or `print`.
+/// Returns the verb of `certify`, `check`, `get` or `print`.
 fn verb_of(name: &str) -> Verb {
     match name {
         "certify" => Verb::Certify,
@@ -254,7 +254,7 @@ fn job_of(alloc: Global, verb: Verb, matches: &ArgMatches<'_>) -> Result<Job, Al
     })
 }
 
-/// The path texts of a verb: one of Print, all of Get, and else none.
+/// Returns the path texts of a verb: one for `Print`, all for `Get`, none for the others.
 fn paths_of(alloc: Global, verb: Verb, matches: &ArgMatches<'_>) -> Result<Vec<String>, AllocError>
     ensures { IfOk result (λ paths. verb ≡ verbs.Print → length paths.items ≡ 1) }
 {
@@ -280,7 +280,7 @@ fn all_paths(alloc: Global, texts: &[&str]) -> Result<Vec<String>, AllocError> {
     Ok(paths)
 }
 
-/// The first PATH, and the empty text for the whole where none was given.
+/// Returns the first PATH, or the empty path for the whole value.
 fn path_in<'a>(matches: &ArgMatches<'a>) -> &'a str {
     matches.get_str("PATH").unwrap_or("")
 }
@@ -289,7 +289,7 @@ fn limit_in(matches: &ArgMatches<'_>) -> u64 {
     matches.get_one::<u64>("LIMIT").unwrap_or(0)
 }
 
-/// The error for a word that no rule has, which lists the words.
+/// Makes the error for a word that no rule has, with a list of the words.
 fn unknown_word(alloc: Global, word: &str) -> Result<Error, AllocError> {
     let mut message = format!(in alloc; "no rule has the word '{word}'; the words:")?;
     for number in 1..u32::MAX {
@@ -302,7 +302,7 @@ fn unknown_word(alloc: Global, word: &str) -> Result<Error, AllocError> {
     refusal(alloc, ErrorKind::InvalidValue, &message)
 }
 
-/// An error of the command line that `clap` does not see by itself.
+/// Makes an error that `clap` does not find by itself.
 fn refusal(alloc: Global, kind: ErrorKind, message: &str) -> Result<Error, AllocError> {
     let mut command = bplint(alloc)?;
     command.error(kind, message)

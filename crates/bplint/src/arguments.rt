@@ -10,30 +10,30 @@ pub enum Form {
     Flag,
     /// `--name`, or `-` and this letter.
     Short(char),
-    /// The same, and not together with another flag.
+    /// The same, but not together with another flag.
     ShortWithout(char, &'static str),
-    /// `--name`, and not together with these others.
+    /// `--name`, but not together with these others.
     Without(&'static [&'static str]),
-    /// `--limit N`, which goes with another flag, and the N where it is not given.
+    /// `--limit N`, which needs another flag, and the default for N.
     Limit(&'static str, &'static str),
-    /// A text that has to be given.
+    /// A required text.
     One,
-    /// The same, once or more often.
+    /// A required text that may be repeated.
     Many,
-    /// A text that may be left out.
+    /// An optional text.
     Maybe,
-    /// The same, as often as wanted.
+    /// An optional text that may be repeated.
     Any,
-    /// A number that has to be given.
+    /// A required number.
     Number,
 }
 
-/// An argument, as the tables have it.
+/// An argument, as it is in the tables.
 pub struct Argument {
-    /// The name of the flag, or of the operand.
+    /// The name of the flag or operand.
     name: &'static str,
     form: Form,
-    /// What the help says of it.
+    /// Its help text.
     help: &'static str,
 }
 
@@ -168,7 +168,7 @@ pub const WORD: Argument = Argument {
 };
 
 impl Argument {
-    /// The argument, as `clap` takes it.
+    /// Converts the argument for `clap`.
     pub fn to_arg<'a>(&self, alloc: Global) -> Result<Arg<'a>, AllocError> {
         let name = self.name;
         let arg = Arg::new(alloc, name).help(self.help);

@@ -1,4 +1,4 @@
-//! How a run ends: a fault's line on standard error, and the exit status.
+//! Ends a run: prints the line of a fault to standard error, and returns the exit status.
 ghost use Rattle.bplint.specs.ExitStatuses.{EndsWith, IsRefusedWith};
 ghost use Rattle.clap.specs.Values.{kind_of};
 
@@ -11,8 +11,8 @@ use std::alloc::{AllocError, Global};
 /// The exit status of a wrong command line.
 pub const WRONG_LINE: u8 = 2;
 
-/// Prints a fault's line behind the prefix, with what is said under it, and gives the exit status. All is printed at once,
-/// so that runs side by side do not mix their lines.
+/// Prints the line of a fault after the prefix, with its explanation. Returns the exit status. Prints everything with
+/// one write, so that the lines of parallel runs do not mix.
 pub fn end<R: Eprint>(rt: &R, alloc: Global, prefix: &str, ending: Ending) -> u8
     ensures { EndsWith ending.answer result }
 {
@@ -33,7 +33,7 @@ pub fn end<R: Eprint>(rt: &R, alloc: Global, prefix: &str, ending: Ending) -> u8
     }
 }
 
-/// A fault's line behind the prefix, and what is said under it.
+/// Returns the line of a fault after the prefix, and its explanation.
 fn lines_of(
     alloc: Global,
     prefix: &str,
@@ -44,7 +44,7 @@ fn lines_of(
     format!(in alloc; "{prefix}{line}\n{under}")
 }
 
-/// Prints what `clap` says of a command line, and gives the exit status.
+/// Prints the error or help text of `clap`. Returns the exit status.
 pub fn refuse<R: Print + Eprint>(rt: &R, alloc: Global, error: Error) -> u8
     ensures { IsRefusedWith (kind_of error) result }
 {

@@ -1,11 +1,11 @@
-//! File names as lines show them.
+//! Shows file names in lines.
 ghost use Rattle.std.specs.Prelude.{◌≡◌, ◌++◌, IfOk, string_bytes};
 ghost use Rattle.std.specs.List.{flat_map};
 ghost use Rattle.bplint.specs.FileNames.{is_printable, shown_octet, shown_text};
 
 use std::alloc::{AllocError, Global};
 
-/// A name, in which `\xHH` stands for a control character so that a line stays a line.
+/// Returns a name in which `\xHH` replaces each control character, so that it fits on one line.
 pub fn shown_name(alloc: Global, name: &str) -> Result<String, AllocError>
     ensures { IfOk result (λ shown. string_bytes shown ≡ shown_text name.now) }
 {
@@ -21,7 +21,7 @@ pub fn shown_name(alloc: Global, name: &str) -> Result<String, AllocError>
     Ok(shown)
 }
 
-/// A name that is not UTF-8, in which `\xHH` stands for each byte that is no printable ASCII character.
+/// Returns a name that is not UTF-8, in which `\xHH` replaces each byte that is not printable ASCII.
 pub fn shown_octets(alloc: Global, name: &[u8]) -> Result<String, AllocError>
     ensures { IfOk result (λ shown. string_bytes shown ≡ flat_map shown_octet name.now) }
 {

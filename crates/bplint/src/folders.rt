@@ -1,10 +1,10 @@
-//! Folders: what stands in them.
+//! Lists folders.
 use crate::input::read_whole;
 use bplint_lines::RunFault;
 use std::alloc::{AllocError, Global};
 use std::fs::{self, File, Files};
 
-/// What stands under a path.
+/// The type of a folder's entry.
 #[derive(Clone, Copy, Drop)]
 pub enum Entry {
     /// A folder.
@@ -15,7 +15,7 @@ pub enum Entry {
     Other,
 }
 
-/// What stands under a path. A link is not followed.
+/// Returns the type of what is at a path. Does not follow a link.
 pub fn entry_at<R: Files<File = File>>(rt: &R, path: &str) -> Result<Entry, RunFault> {
     match fs::symlink_metadata(rt, path) {
         Ok(metadata) if metadata.is_dir() => Ok(Entry::Folder),
@@ -25,7 +25,7 @@ pub fn entry_at<R: Files<File = File>>(rt: &R, path: &str) -> Result<Entry, RunF
     }
 }
 
-/// Whether a name leads to a folder, by a link too.
+/// Returns true if the name leads to a folder, directly or through a link.
 pub fn is_folder<R: Files<File = File>>(rt: &R, name: &str) -> bool {
     match fs::metadata(rt, name) {
         Ok(metadata) => metadata.is_dir(),
@@ -33,8 +33,8 @@ pub fn is_folder<R: Files<File = File>>(rt: &R, name: &str) -> bool {
     }
 }
 
-/// The paths of all that stands in a folder, the last name first, by the order of the names' bytes. They may be no text. A
-/// link to a folder is followed.
+/// Returns the paths of all entries of a folder, sorted by the bytes of their names, the last name first. They need not
+/// be UTF-8. Follows a link to a folder.
 pub fn paths_in<R: Files<File = File>>(
     rt: &R,
     alloc: Global,
@@ -55,7 +55,7 @@ pub fn paths_in<R: Files<File = File>>(
     Ok(paths)
 }
 
-/// The name of a folder with a slash behind it.
+/// Returns the name of a folder with a slash after it.
 fn with_slash(alloc: Global, folder: &str) -> Result<String, AllocError> {
     let mut front = String::from_str(alloc, folder)?;
     if !folder.ends_with('/') {

@@ -1,4 +1,4 @@
-//! Inputs: FILE and CERT, each read by place or whole.
+//! Opens the inputs FILE and CERT. Each is read by place, or as a whole.
 ghost use Rattle.std.specs.Prelude.{◌≡◌, ◌⊎◌, ◌≤◌, ◌<◌, [], IfErr, IfOk, IfSome, MatchOption, MatchResult, None, Ok, codes, length, true, vec_len};
 ghost use Rattle.std.specs.Str.{bytes_eq};
 ghost use Rattle.bplint.specs.Inputs.{IsInputFault, IsNothing, IsReadFault, HasLength, IsReadWhole, IsShort, IsWholeFault, KeepsWhole, OfWhole, starts_with_bplist};
@@ -15,15 +15,16 @@ use std::alloc::Global;
 use std::fs::{self, File, Files};
 use std::io::{ErrorKind, Read};
 
-/// How many bytes a whole input may have.
+/// The largest input that is read as a whole, in bytes.
 pub const WHOLE_LIMIT: usize = 67_108_864;
 
-/// How many reads a whole input may take beyond its limit.
+/// How many reads beyond `WHOLE_LIMIT` it may take to read an input as a whole.
 pub const SPARE_READS: usize = 64;
 
-/// Reads to the end of the input. An interrupted read is tried again.
+/// Reads the input to its end. Repeats an interrupted read.
 ///
-/// `bytes` and `too_long` speak of a reader whose `remaining` the kit knows. Of a `File` and of standard input it is `None`.
+/// The clauses `bytes` and `too_long` apply to a reader whose `remaining` is known to the kit. It is `None` for a
+/// `File` and for standard input.
 pub fn read_whole<R: Read>(alloc: Global, reader: &mut R) -> Result<Vec<u8>, RunFault>
     ensures bounded { IfOk result (λ v. vec_len v ≤ WHOLE_LIMIT) }
     ensures bytes { IfOk result (λ v. IfSome (R.remaining reader.old) (λ xs. v.items ≡ xs)) }
@@ -54,12 +55,12 @@ pub fn read_whole<R: Read>(alloc: Global, reader: &mut R) -> Result<Vec<u8>, Run
     Err(RunFault::Read(ReadFault::TooManyTurns))
 }
 
-/// An input, as far as it is read when it is opened.
+/// An input after it was opened.
 #[derive(Drop)]
 pub enum Operand {
-    /// Read to its end.
+    /// It was read to its end.
     Whole(Vec<u8>),
-    /// Open, and read by place.
+    /// It is open, and is read by place.
     File(FileSource),
 }
 
@@ -68,12 +69,12 @@ pub enum Operand {
 pub struct Inputs {
     /// FILE.
     pub file: Operand,
-    /// CERT, empty where none was named.
+    /// CERT, empty if there is none.
     pub cert: Operand,
 }
 
 impl Operand {
-    /// How many bytes the input has.
+    /// Returns the length of the input in bytes.
     fn len(&self) -> u64
         ensures { HasLength result self.now }
     {
@@ -83,7 +84,7 @@ impl Operand {
         }
     }
 
-    /// Whether the input begins as binary property lists of all versions do.
+    /// Returns true if the input begins like a binary property list of any version.
     pub fn is_bplist(&mut self) -> Result<bool, RunFault>
         ensures whole { OfWhole (λ text. MatchResult result (λ yes. yes ≡ starts_with_bplist text) (λ _. ⊥)) self.old }
         ensures kept { KeepsWhole self.old self.new }
@@ -102,7 +103,7 @@ impl Operand {
         }
     }
 
-    /// What decoding the input as a certificate gives. The fault is that of a failed read.
+    /// Decodes the input as a certificate. The outer error is a failed read.
     pub fn decode(&mut self, alloc: Global) -> Result<Result<Certificate, CertRefusal>, RunFault>
         ensures whole { OfWhole (λ text. MatchResult result (IsDecoded text) (λ _. ⊥)) self.old }
         ensures kept { KeepsWhole self.old self.new }
@@ -119,7 +120,7 @@ impl Operand {
         }
     }
 
-    /// The bytes that the input spells as hexadecimal text.
+    /// Decodes the input as hexadecimal text.
     fn undo_hex(self, alloc: Global) -> Result<Operand, RunFault>
         ensures { OfWhole (λ text. IfOk result (OfWhole (λ bytes. spelled text ≡ Ok bytes))) self }
     {
@@ -127,7 +128,7 @@ impl Operand {
         Ok(Operand::Whole(undo_hex(alloc, &text)?))
     }
 
-    /// All bytes of the input, by one read where it is read by place.
+    /// Returns all bytes of the input. If it is read by place, this takes one read.
     pub fn into_bytes(self, alloc: Global) -> Result<Vec<u8>, RunFault>
         ensures whole { OfWhole (λ text. MatchResult result (λ bytes. bytes.items ≡ text) (λ _. ⊥)) self }
         ensures faults { IfErr result (λ fault. (fault ≡ RunFault.Memory) ⊎ IsReadFault fault) }
@@ -139,7 +140,7 @@ impl Operand {
     }
 }
 
-/// All bytes of a file, by one read.
+/// Returns all bytes of a file, with one read.
 fn read_all(alloc: Global, file: FileSource) -> Result<Vec<u8>, RunFault>
     ensures { IfErr result (λ fault. (fault ≡ RunFault.Memory) ⊎ IsReadFault fault) }
 {
@@ -149,9 +150,9 @@ fn read_all(alloc: Global, file: FileSource) -> Result<Vec<u8>, RunFault>
     Ok(bytes)
 }
 
-/// Opens what is named, and undoes hexadecimal text.
+/// Opens the inputs that are named, and decodes hexadecimal text.
 ///
-/// FILE is opened before CERT, and both before a text is looked at.
+/// Opens FILE before CERT, and both before it decodes a text.
 pub fn open_inputs<'a, R: Files<File = File> + Input>(
     rt: &R,
     alloc: Global,
@@ -178,7 +179,7 @@ pub fn open_inputs<'a, R: Files<File = File> + Input>(
     })
 }
 
-/// Opens FILE. Standard input, hexadecimal text, and what has no length to be trusted are read whole.
+/// Opens FILE. Standard input, hexadecimal text, and files without a reliable length are read as a whole.
 fn open_operand<R: Files<File = File> + Input>(
     rt: &R,
     alloc: Global,
@@ -195,7 +196,7 @@ fn open_operand<R: Files<File = File> + Input>(
     open_file(rt, alloc, name, hex)
 }
 
-/// Opens a file. Hexadecimal text, and what has no length to be trusted, are read whole.
+/// Opens a file. Hexadecimal text, and files without a reliable length, are read as a whole.
 fn open_file<R: Files<File = File>>(
     rt: &R,
     alloc: Global,
@@ -214,7 +215,7 @@ fn open_file<R: Files<File = File>>(
     }
 }
 
-/// Whether a file has a length to be trusted. A pipe, a device and a folder have none, and files of /proc say 0.
+/// Returns true if a file has a reliable length. Pipes, devices and folders have none, and files of /proc claim 0.
 fn has_length<R: Files<File = File>>(rt: &R, name: &str) -> bool {
     match fs::metadata(rt, name) {
         Ok(metadata) => metadata.is_file() && metadata.len() > 0,
@@ -230,8 +231,8 @@ fn read_file<R: Files<File = File>>(rt: &R, alloc: Global, name: &str) -> Result
     read_whole(alloc, &mut file)
 }
 
-/// Opens CERT, where one is named, as [`open_operand`] does: `-` is a file of that name. It may have no more bytes than an
-/// input that is read whole.
+/// Opens CERT, if there is one, as [`open_operand`] opens FILE, except that `-` is a file of that name. Its length is
+/// limited like that of an input that is read as a whole.
 fn open_certificate<R: Files<File = File>>(
     rt: &R,
     alloc: Global,

@@ -1,4 +1,4 @@
-//! `lint` over one FILE, several, or all below a folder.
+//! The command `lint` for one FILE, for several, or for all files below a folder.
 ghost use Rattle.std.specs.Prelude.{◌≤◌};
 
 use crate::args::{Job, Lint, Operands, Request};
@@ -15,8 +15,8 @@ use bplint_lines::RunFault;
 use std::alloc::{AllocError, Global};
 use std::fs::{File, Files};
 
-/// Lints what a line names, each file to its end, and gives the greatest exit status of them. The line of counts comes last
-/// if it is asked for, and with `--recursive` if standard error is a terminal.
+/// Lints each file that the line names. Returns the greatest exit status. Prints the counts at the end if they are
+/// asked for, or with `--recursive` if standard error is a terminal.
 pub fn lint_files<R: Files<File = File> + Input + Print + Eprint>(
     rt: &R,
     alloc: Global,
@@ -41,7 +41,7 @@ pub fn lint_files<R: Files<File = File> + Input + Print + Eprint>(
     linter.tally.status()
 }
 
-/// What `lint` asks of each file.
+/// Returns the request that `lint` makes for each file.
 fn request_in<'a>(alloc: Global, lint: &Lint<'_>) -> Request<'a> {
     Request::Command(Job {
         command: Command {
@@ -55,7 +55,7 @@ fn request_in<'a>(alloc: Global, lint: &Lint<'_>) -> Request<'a> {
     })
 }
 
-/// A run of `lint`.
+/// The state of a `lint` run.
 #[derive(Drop)]
 struct Linter<'a, R> {
     rt: &'a R,
@@ -66,7 +66,7 @@ struct Linter<'a, R> {
 }
 
 impl<'a, R: Files<File = File> + Input + Print + Eprint> Linter<'a, R> {
-    /// Lints a FILE, or all below it where it is a folder and that is asked for.
+    /// Lints a FILE. If it is a folder and `--recursive` is given, lints all files below it.
     fn lint_operand(&mut self, name: &str) {
         if self.lint.recursive && name != "-" && is_folder(self.rt, name) {
             self.lint_folder(name);
@@ -90,7 +90,7 @@ impl<'a, R: Files<File = File> + Input + Print + Eprint> Linter<'a, R> {
         }
     }
 
-    /// Puts all that stands in a folder on top of what is still to be looked at.
+    /// Pushes all entries of a folder on the stack of pending paths.
     fn enter(&mut self, folder: &str, pending: &mut Vec<Vec<u8>>) {
         let entered = match paths_in(self.rt, self.alloc, folder) {
             Ok(mut paths) => pending.append(&mut paths).map_err(|_| RunFault::Memory),
@@ -104,7 +104,7 @@ impl<'a, R: Files<File = File> + Input + Print + Eprint> Linter<'a, R> {
         }
     }
 
-    /// Looks at what stands under a path below a folder.
+    /// Lints a pending path, or enters it if it is a folder.
     fn look_at(&mut self, path: &[u8], pending: &mut Vec<Vec<u8>>) {
         let Ok(name) = std::str::from_utf8(path) else {
             self.end_unnamed(path);
@@ -118,7 +118,7 @@ impl<'a, R: Files<File = File> + Input + Print + Eprint> Linter<'a, R> {
         }
     }
 
-    /// Lints a file that was found in a folder, if it begins as binary property lists do.
+    /// Lints a file that was found in a folder, if it begins like a binary property list.
     fn lint_found(&mut self, name: &str) {
         let mut inputs = match self.open(name) {
             Ok(inputs) => inputs,
@@ -140,7 +140,7 @@ impl<'a, R: Files<File = File> + Input + Print + Eprint> Linter<'a, R> {
         open_inputs(self.rt, self.alloc, &operands)
     }
 
-    /// Lints an input, and prints its line behind the prefix where it holds a value.
+    /// Lints an input. Prints its line after the prefix if it holds a value.
     fn lint_inputs(&mut self, name: &str, inputs: Inputs) {
         let Ok(prefix) = self.prefix_of(name) else {
             return self.end("", Ending::with(self.alloc, RunFault::Memory));
@@ -154,7 +154,7 @@ impl<'a, R: Files<File = File> + Input + Print + Eprint> Linter<'a, R> {
         self.end(&prefix, ending);
     }
 
-    /// What the lines of a file begin with: nothing, where it is the only FILE.
+    /// Returns the prefix of the lines of a file, which is empty if it is the only FILE.
     fn prefix_of(&self, name: &str) -> Result<String, AllocError> {
         if self.lint.files.len() == 1 && !self.lint.recursive {
             return Ok(String::new(self.alloc));
@@ -163,7 +163,7 @@ impl<'a, R: Files<File = File> + Input + Print + Eprint> Linter<'a, R> {
         format!(in self.alloc; "{shown}: ")
     }
 
-    /// Ends the run over what could not be read.
+    /// Ends the run for an input that could not be read.
     fn end_unread(&mut self, unread: Unread<'_>) {
         let Ok(prefix) = self.prefix_of(unread.name) else {
             return self.end("", Ending::with(self.alloc, RunFault::Memory));
@@ -172,7 +172,7 @@ impl<'a, R: Files<File = File> + Input + Print + Eprint> Linter<'a, R> {
         self.end(&prefix, ending);
     }
 
-    /// Ends the run over a path that is no text, which cannot be opened.
+    /// Ends the run for a path that is not UTF-8, which cannot be opened.
     fn end_unnamed(&mut self, path: &[u8]) {
         let Ok(prefix) = unnamed_prefix(self.alloc, path) else {
             return self.end("", Ending::with(self.alloc, RunFault::Memory));

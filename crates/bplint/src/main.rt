@@ -1,23 +1,25 @@
-//! bplint: lints, checks and reads binary property lists.
+//! The program bplint: lints, checks and reads binary property lists. This crate has the command line, the inputs and
+//! the outputs. What is written is proved in `bplint_engine`, `bplint_map` and `bplint_lines`; the functions here pass
+//! it on.
 //!
 //! ```
 //! $ bplint lint Info.plist
 //! ok reached 15 height 3 top dict
 //! ```
 //!
-//! | module | has |
-//! |---|---|
-//! | `arguments`, `subcommands` | the command line as tables, for clap |
-//! | `args` | what a command line asks |
-//! | `input` | FILE and CERT: open and read by place, or read whole |
-//! | `output` | OUT, which is created with its first byte |
-//! | `runs` | one request over one FILE |
-//! | `linting`, `tally` | `lint` over several FILEs and folders, and their counts |
-//! | `folders`, `file_names` | what stands in a folder, and names in lines |
-//! | `unread` | why an input could not be read |
-//! | `endings` | a fault's line, and the exit status |
+//! The modules, in reading order:
 //!
-//! What is written is proved in bplint_engine, bplint_map and bplint_lines; the functions here pass it on.
+//! | module | contents |
+//! |---|---|
+//! | `args` | what a command line asks for |
+//! | `arguments`, `subcommands` | the command line as tables, for clap |
+//! | `input` | FILE and CERT: opened and read by place, or read as a whole |
+//! | `runs` | one request about one FILE |
+//! | `output` | OUT, which is created when its first byte is written |
+//! | `endings` | the line of a fault, and the exit status |
+//! | `unread` | inputs that could not be read |
+//! | `linting`, `tally` | `lint` over several FILEs and folders, and their counts |
+//! | `folders`, `file_names` | the entries of a folder, and file names in lines |
 #![tactic(auto)]
 
 ghost use Rattle.std.specs.Prelude.{◌≤◌};
@@ -48,7 +50,7 @@ use std::io;
 use std::io::{IsTerminal, Write};
 use std::process::ExitCode;
 
-/// Writes what a rule asks.
+/// Writes the explanation of a rule.
 fn page<R: Files<File = File> + Print>(
     rt: &R,
     alloc: Global,
@@ -61,8 +63,8 @@ fn page<R: Files<File = File> + Print>(
     }
 }
 
-/// Does what the words of a command line ask, and gives the exit status. `on_terminal` is whether standard error is a
-/// terminal.
+/// Does what the words of a command line ask for. Returns the exit status. `on_terminal` says whether standard error is
+/// a terminal.
 fn start<R: Files<File = File> + Input + Print + Eprint>(
     rt: &R,
     alloc: Global,

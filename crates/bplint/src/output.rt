@@ -1,4 +1,4 @@
-//! Where an answer goes.
+//! Writes answers to files and to standard output.
 ghost use Rattle.std.specs.Prelude.{None};
 
 use std::alloc::Global;
@@ -6,7 +6,7 @@ use std::fs::{File, Files};
 use std::io;
 use std::io::Write;
 
-/// A writer that creates or empties its file at the first write. `-` is the standard output.
+/// A writer that creates or empties its file at the first write. `-` is standard output.
 #[derive(Drop)]
 pub struct OutFile<'a, R: Files> {
     rt: &'a R,
@@ -15,7 +15,7 @@ pub struct OutFile<'a, R: Files> {
 }
 
 impl<'a, R: Files> OutFile<'a, R> {
-    /// A writer to this file, which it leaves as it is until something is written.
+    /// Makes a writer for this file. The file is unchanged until something is written.
     pub fn new(rt: &'a R, path: &'a str) -> OutFile<'a, R> {
         OutFile {
             rt,
@@ -44,7 +44,7 @@ impl<'a, R: Files + Print> Write for OutFile<'a, R> {
     }
 }
 
-/// A writer of one line to standard output, behind what says of which file it is.
+/// A writer for one line to standard output, after a prefix that names the file.
 #[derive(Drop)]
 pub struct LineOut<'a, R> {
     rt: &'a R,
@@ -53,14 +53,14 @@ pub struct LineOut<'a, R> {
 }
 
 impl<'a, R> LineOut<'a, R> {
-    /// A writer of the line behind this prefix.
+    /// Makes a writer for a line after this prefix.
     pub fn new(rt: &'a R, alloc: Global, prefix: &'a str) -> LineOut<'a, R> {
         LineOut { rt, alloc, prefix }
     }
 }
 
 impl<'a, R: Print> Write for LineOut<'a, R> {
-    /// Writes prefix and line at once, so that runs side by side do not mix their lines.
+    /// Writes prefix and line with one write, so that the lines of parallel runs do not mix.
     fn write(&mut self, buf: &[u8]) -> io::Result<usize> {
         if self.prefix.is_empty() {
             return self.rt.write_some(buf);
@@ -82,7 +82,7 @@ fn behind(alloc: Global, prefix: &str, bytes: &[u8]) -> io::Result<Vec<u8>> {
     Ok(line)
 }
 
-/// A writer that drops what it is given.
+/// A writer that discards everything.
 #[derive(Drop)]
 pub struct NoOut;
 

@@ -1,4 +1,4 @@
-//! One request over one FILE.
+//! Answers one request about one FILE.
 ghost use Rattle.std.specs.Prelude.{◌≡◌, Err, IsTrue, MatchResult, Ok};
 ghost use Rattle.bplint.specs.ExitStatuses.{LeavesShown};
 
@@ -13,19 +13,19 @@ use std::alloc::Global;
 use std::fs::{File, Files};
 use std::io::Write;
 
-/// How many parts of a file are held at once: the table, an object, what it refers to and its keys stand apart.
+/// The number of windows on a file: the offset table, an object, the objects it refers to, and its keys are apart.
 const PANES: usize = 8;
 
-/// How a run over FILE ended.
+/// How a run ended.
 #[derive(Drop)]
 pub struct Ending {
     pub answer: Result<Said, RawFault>,
-    /// What is said under the fault's line, where that was asked for.
+    /// The explanation of the fault, if it was asked for.
     pub under: String,
 }
 
 impl Ending {
-    /// The end of a run with this answer, of which no more is said.
+    /// The end of a run with this answer, without an explanation.
     pub fn of(alloc: Global, answer: Result<Said, RunFault>) -> Ending
         ensures { MatchResult answer (λ said. result.answer ≡ Ok said) (λ fault. result.answer ≡ Err (RawFault.Run fault)) }
     {
@@ -35,7 +35,7 @@ impl Ending {
         }
     }
 
-    /// The end of a run with this fault, of which no more is said.
+    /// The end of a run with this fault, without an explanation.
     pub fn with(alloc: Global, fault: RunFault) -> Ending
         ensures { result.answer ≡ Err (RawFault.Run fault) }
     {
@@ -43,7 +43,7 @@ impl Ending {
     }
 }
 
-/// Opens what a line names, and answers what it asks.
+/// Opens the inputs of a line, and does what the line asks for.
 pub fn run<R: Files<File = File> + Input + Print>(rt: &R, alloc: Global, line: &Run<'_>) -> Ending {
     match open_inputs(rt, alloc, &line.operands) {
         Ok(inputs) => answer(
@@ -56,7 +56,7 @@ pub fn run<R: Files<File = File> + Input + Print>(rt: &R, alloc: Global, line: &
     }
 }
 
-/// Answers a request over its inputs.
+/// Answers a request about its inputs.
 pub fn answer<W: Write>(
     alloc: Global,
     request: &Request<'_>,
@@ -87,7 +87,7 @@ fn try_answer<W: Write>(
     }
 }
 
-/// Answers a request over a source.
+/// Answers a request about a source.
 fn answer_on<S: Source + Drop, W: Write>(
     alloc: Global,
     request: &Request<'_>,
@@ -126,8 +126,8 @@ fn command_on<S: Source + Drop, W: Write>(
     })
 }
 
-/// What is said under a fault's line. Only here are all bytes of CERT held at once. A failed read or refused memory leaves
-/// the line alone.
+/// Returns the explanation of a fault. This is the only place that holds all bytes of CERT. If a read fails or memory
+/// is refused, there is no explanation.
 fn under_fault<S: Source>(alloc: Global, src: &mut S, cert: Operand, fault: &RunFault) -> String {
     let Ok(cert) = cert.into_bytes(alloc) else {
         return String::new(alloc);
@@ -138,7 +138,7 @@ fn under_fault<S: Source>(alloc: Global, src: &mut S, cert: Operand, fault: &Run
     }
 }
 
-/// Writes what is shown of a source.
+/// Writes what is to be shown of a source.
 fn shown_on<S: Source + Drop, W: Write>(
     alloc: Global,
     shown: &Shown<'_>,

@@ -1,4 +1,4 @@
-//! The subcommands, as tables, and the command line that `clap` makes of them.
+//! The subcommands as tables, and the `clap` command line that is made of them.
 
 use crate::arguments::{
     ANY_PATHS, Argument, CERT, EXPLAIN, FILE, FILES, HEX, LIMIT, MAYBE_PATH, OUT, PATH, PATHS,
@@ -7,7 +7,7 @@ use crate::arguments::{
 use clap::Command;
 use std::alloc::{AllocError, Global};
 
-/// Behind the help of each subcommand: the exit statuses, and where the rules stand.
+/// The end of each help text: the exit statuses, and where to read about the rules.
 const LINT_HELP: &str = "Example: bplint lint Info.plist
          bplint lint --recursive --quiet backup
 
@@ -68,12 +68,12 @@ const HELP: &str = "Example: bplint lint Info.plist
 Exit status: 0 yes, 1 no, 2 a wrong command line or path, 3 a failed read or write, 4 no memory.
 The rules: man bplint, or docs/RULES.md.";
 
-/// A subcommand, as the table has it.
+/// A subcommand, as it is in the table.
 struct Subcommand {
     name: &'static str,
-    /// What the help of the program says of it.
+    /// Its line in the help of the program.
     about: &'static str,
-    /// What stands behind its own help.
+    /// The end of its own help.
     help: &'static str,
     arguments: &'static [Argument],
 }
@@ -137,7 +137,7 @@ static SUBCOMMANDS: [Subcommand; 9] = [
 ];
 
 impl Subcommand {
-    /// The subcommand, as `clap` takes it.
+    /// Converts the subcommand for `clap`.
     fn to_command<'a>(&self, alloc: Global) -> Result<Command<'a>, AllocError> {
         let mut command = Command::new(alloc, self.name)
             .about(self.about)
@@ -149,7 +149,7 @@ impl Subcommand {
     }
 }
 
-/// The command line of the program.
+/// Makes the command line of the program.
 pub fn bplint<'a>(alloc: Global) -> Result<Command<'a>, AllocError> {
     let mut command = Command::new(alloc, "bplint")
         .about("Lints, checks and reads binary property lists")

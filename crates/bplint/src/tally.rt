@@ -1,18 +1,18 @@
-//! How many files of a `lint` were what, and the exit status of all.
+//! Counts the files of a `lint` run, and keeps the greatest exit status.
 ghost use Rattle.std.specs.Prelude.{◌≡◌, ◌≤◌, max};
 
 use std::alloc::{AllocError, Global};
 
-/// How many files were what so far.
+/// The counts so far.
 #[derive(Drop)]
 pub struct Tally {
-    /// How many hold a value.
+    /// The number of files that hold a value.
     sound: u64,
-    /// How many break a rule.
+    /// The number of files that break a rule.
     unsound: u64,
-    /// How many files and folders could not be read.
+    /// The number of files and folders that could not be read.
     unreadable: u64,
-    /// How many were no files to be linted.
+    /// The number of entries of folders that were skipped: those that are no files, and files of another format.
     passed: u64,
     /// The greatest exit status.
     status: u8,
@@ -20,7 +20,6 @@ pub struct Tally {
 }
 
 impl Tally {
-    /// Nothing so far.
     pub fn new() -> Tally
         ensures { result.status ≡ 0 }
     {
@@ -33,7 +32,7 @@ impl Tally {
         }
     }
 
-    /// The greatest exit status so far.
+    /// Returns the greatest exit status so far.
     pub fn status(&self) -> u8
         ensures { result ≡ self.now.status }
     {
@@ -53,14 +52,14 @@ impl Tally {
         self.status = self.status.max(status);
     }
 
-    /// Counts what was passed over.
+    /// Counts a file that is skipped.
     pub fn pass_over(&mut self)
         ensures { self.new.status ≡ self.old.status }
     {
         self.passed = self.passed.saturating_add(1);
     }
 
-    /// The line of all counts.
+    /// Returns the line with all counts.
     pub fn line(&self, alloc: Global) -> Result<String, AllocError> {
         let (sound, unsound, unreadable, passed) = (
             self.sound,

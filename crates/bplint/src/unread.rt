@@ -12,17 +12,17 @@ use std::io::ErrorKind;
 pub struct Unread<'a> {
     /// Its name.
     pub name: &'a str,
-    /// The fault of the run.
+    /// The fault.
     pub fault: RunFault,
 }
 
 impl<'a> Unread<'a> {
-    /// The input of this name with this fault.
+    /// The input with this name and this fault.
     pub fn new(name: &'a str, fault: RunFault) -> Unread<'a> {
         Unread { name, fault }
     }
 
-    /// How the run ends. If more is asked for, the name stands under the line of a failed open or read, and why it failed.
+    /// Returns how the run ends. With `explain`, adds the name and the reason to the line of a failed open or read.
     pub fn ending<R: Files<File = File>>(self, rt: &R, alloc: Global, explain: bool) -> Ending {
         let why = match self.fault {
             RunFault::Open if explain => why_not_open(rt, self.name),
@@ -44,7 +44,7 @@ fn file_line(alloc: Global, name: &str, why: &str) -> Result<String, AllocError>
     format!(in alloc; "  file: {shown}: {why}\n")
 }
 
-/// Why what has this name cannot be opened, as the system says when it is asked again.
+/// Returns why the file with this name cannot be opened. Opens it again to ask the system.
 fn why_not_open<R: Files<File = File>>(rt: &R, name: &str) -> &'static str {
     match fs::metadata(rt, name) {
         Ok(metadata) if metadata.is_file() || metadata.is_dir() => match File::open(rt, name) {
@@ -64,7 +64,7 @@ fn reason_of(kind: ErrorKind) -> &'static str {
     }
 }
 
-/// Why what has this name cannot be read: most often it is a folder.
+/// Returns why the file with this name cannot be read. Most often it is a folder.
 fn why_not_read<R: Files<File = File>>(rt: &R, name: &str) -> &'static str {
     match fs::metadata(rt, name) {
         Ok(metadata) if metadata.is_dir() => "a folder",

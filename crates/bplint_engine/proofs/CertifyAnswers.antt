@@ -1,4 +1,4 @@
--- What `certify` says, from the answers of the linter.
+-- What `certify` says, derived from the contract of the linter.
 use Rattle.std.proofs.Common.{ℕ, List, Bool, true}
 use Rattle.bplist_lint.specs.declared.refusal.LintRefusal.{LintRefusal}
 use Rattle.bplist_lint.specs.declared.refusal.LintRefusal.TheVariants as lint_refusals

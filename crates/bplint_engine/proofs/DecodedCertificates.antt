@@ -1,4 +1,4 @@
--- Answers with a certificate that is decoded where it is looked at.
+-- Answers for a certificate that is decoded only if the command uses it.
 use Rattle.std.proofs.Common.{◌≡◌, ℕ, List, [], Option, Result, Ok, Err}
 use Rattle.std.specs.Prelude.{MatchResult, IfOk, ⊤, if◌then◌else◌}
 use Rattle.std.proofs.Math.Logic.{∥∥₁_map}
@@ -15,13 +15,13 @@ use Rattle.bplint_engine.specs.declared.command.Verb.{Verb}
 use Rattle.bplint_engine.specs.declared.command.Verb.TheVariants.{Lint, Check, Get, Certify, Print}
 use Rattle.bplint_engine.proofs.LeftBytes.{said_as}
 
--- what decoding answers
+-- what decoding returns
 pub decoded_as : (cert : List ℕ) (decoded : Result Lists CertRefusal) → IfOk decoded (λ lists. IsCertificate lists × (cert ≡ octets_of lists))
     → MatchResult decoded (λ _. ⊤) (IsCertRefusal cert) → IsDecoded cert decoded
 decoded_as cert (Ok lists) spelled refused = spelled
 decoded_as cert (Err refusal) spelled refused = refused
 
--- an answer with what is looked at of a certificate is one with all of it
+-- an answer for the certificate bytes that are used is an answer for all of them
 by_verb : (verb : Verb) (command : Asked) (f cert : List ℕ) (a : Answer)
     → Says (record command { verb = verb }) f (if takes_cert verb then cert else []) a → Says (record command { verb = verb }) f cert a
 by_verb Lint command f cert a h = h

@@ -1,4 +1,4 @@
--- Equal parts make equal answers, and what a truncated fact gives: facts of bytes.
+-- Equal parts make equal answers, and facts about bytes that follow from a truncated fact.
 use Rattle.std.proofs.Common.{◌≡◌, ℕ, List, [], ◌∷◌, map, Bool, true, false, refl, sym, ◌∙◌}
 use Rattle.std.specs.Str.{bytes_eq}
 use Rattle.std.proofs.lemmas.Bool.{false≢true}
@@ -25,7 +25,7 @@ same_numbers (n ∷ ns) (m ∷ ms) e =
     let rest : ns ≡ ms = same_numbers ns ms r.1 in
     λ i. record { 0 = r.0 i } ∷ rest i
 
--- ---- what a truncated fact gives
+-- ---- what follows from a truncated fact
 module _ {P : Type 0} (t : ∥ P ∥₁) where
   bytes_by : (b : Bool) (xs ys : List ℕ) → bytes_eq xs ys ≡ b → (P → xs ≡ ys) → xs ≡ ys
   bytes_by true xs ys is from = (bytes_eq-Decides xs ys).0 is

@@ -1,4 +1,4 @@
--- What `get` and `ls` say, from the answers of the cursor.
+-- What `get` and `ls` say, derived from the contracts of the cursor.
 use Rattle.std.proofs.Common.{◌≡◌, ◌∙◌, ◌++◌, ◌||◌, inr, ℕ, List, [], ◌∷◌, map, Bool, Result, Ok, Err, ap, append-nil, refl, sym, subst}
 use Rattle.std.proofs.Math.Logic.{∥∥₁_map, ∥∥₁_elim}
 use Rattle.std.proofs.Props.{props}
@@ -60,7 +60,7 @@ missing_told : (v : Value) (paths : List (List (List ℕ))) → list_any is_miss
 missing_told v [] = refl
 missing_told v (path ∷ paths) = λ i. missing_of_found (look 0 v path) i || missing_told v paths i
 
--- what is said of the replies is said of what the paths lead to
+-- the replies and what the paths lead to give the same `Said`
 pub told_of : (v : Value) (paths : List (List (List ℕ))) (queries : List Query) (said : Said) (bytes : List ℕ) → queries ≡ map Get paths
     → (said ≡ replies_said (map (reply v) queries)) × (bytes ≡ flat_map reply_line (map (reply v) queries))
     → (said ≡ said_of (map (look 0 v) paths)) × (bytes ≡ flat_map found_line (map (look 0 v) paths))
@@ -69,7 +69,7 @@ told_of v paths queries said bytes asked (is, lines) = (
   lines ∙ ap (λ (qs : List Query). flat_map reply_line (map (reply v) qs)) asked ∙ lines_told v paths,
 )
 
--- Says says yes of the file, and the queries were answered
+-- Says accepts the file, and the queries have replies
 pub queries_say : (Says : Answer → Type 0) (f : List ℕ) (texts : List (List ℕ)) (paths : List (List (List ℕ))) (queries : List Query) (F : Frame) (made : Result Output RunFault)
     → AllZip IsPathOf texts paths → queries ≡ map Get paths → IsYes Says → ∥ IsThere f F ∥₁
     → Gives (λ output. (v : Value) → Holds f F F.top.0 v
@@ -80,7 +80,7 @@ queries_say Says f texts paths queries F (Ok output) are asked (said, bytes, say
     inr (paths, gives said bytes, are, says, (v, holds, same_gives output.said (said_of (map (look 0 v) paths)) output.bytes.items (flat_map found_line (map (look 0 v) paths)) t.0 t.1)))
 queries_say Says f texts paths queries F (Err fault) are asked sure there told = merely (excused_refused (LinesSay found_line Says f texts) fault told)
 
--- the same from the replies that the file's value gives
+-- the same for the replies that the file's value gives
 pub replies_say : (Says : Answer → Type 0) (f : List ℕ) (texts : List (List ℕ)) (paths : List (List (List ℕ))) (queries : List Query) (replies : List Reply) (made : Result Output RunFault)
     → AllZip IsPathOf texts paths → queries ≡ map Get paths → ∥ IsYes Says ∥₁ → ∥ IsAnswered f queries replies ∥₁
     → Gives (λ output. (output.said ≡ replies_said replies) × (output.bytes.items ≡ flat_map reply_line replies)) made
@@ -91,7 +91,7 @@ replies_say Says f texts paths queries replies (Ok output) are asked sure there 
     inr (paths, gives said bytes, are, says, (a.value, a.holds, same_gives output.said (said_of (map (look 0 a.value) paths)) output.bytes.items (flat_map found_line (map (look 0 a.value) paths)) t.0 t.1))))
 replies_say Says f texts paths queries replies (Err fault) are asked sure there told = merely (excused_refused (LinesSay found_line Says f texts) fault told)
 
--- the same of a file and a certificate, where there may be no replies
+-- the same for a file and a certificate, for which there may be no replies
 pub certified_say : (f cert : List ℕ) (texts : List (List ℕ)) (paths : List (List (List ℕ))) (queries : List Query) (lists : Lists) {R : Type 0} (items : R → List Reply) (told : Result R AnswerFault) (made : Result Output RunFault)
     → AllZip IsPathOf texts paths → queries ≡ map Get paths → IsCertificate lists × (cert ≡ octets_of lists)
     → IfOk told (λ replies. ∥ IsAnswered f queries (items replies) ∥₁) → IfOk told (λ _. ∥ ((F : Frame) × IsAccepted f F lists) ∥₁)
@@ -104,7 +104,7 @@ certified_say f cert texts paths queries lists items (Err fault) made are asked 
     subst (λ x. ∥ Answers (LinesSay found_line (CheckSays f cert) f texts) x ∥₁) (sym lines)
     (merely (file_refused (CheckSays f cert) f texts (AreLines found_line) paths (answer_fault fault) are (answer_refused f cert lists fault is spelled refused)))
 
--- the same of the lines of `ls`
+-- the same for the lines of `ls`
 pub list_says : (Says : Answer → Type 0) (f text : List ℕ) (steps : List (List ℕ)) (F : Frame) (made : Result Output RunFault)
     → AllZip IsPathOf (text ∷ []) (steps ∷ []) → IsYes Says → IsThere f F
     → ((v : Value) → Holds f F F.top.0 v → Gives (λ output. (output.said ≡ said_of (look 0 v steps ∷ [])) × (output.bytes.items ≡ listed text (look 0 v steps))) made)

@@ -1,4 +1,4 @@
--- Answers over inputs that may be hexadecimal texts.
+-- Answers for inputs that may be hexadecimal text.
 use Rattle.std.proofs.Common.{◌≡◌, ◌⊎◌, inl, inr, ℕ, List, [], true, false, sym, subst, refl, Option, Result, Ok, Err}
 use Rattle.std.specs.Prelude.{MatchResult, IsErr, if◌then◌else◌}
 use Rattle.std.proofs.Math.Logic.{∥∥₁_map}
@@ -27,7 +27,7 @@ over_file command file cert f hex is a h =
     subst (λ b. SaysOver b command file cert a) (sym hex)
     (subst (λ r. MatchResult r (λ g. Spells (Says command g) (if takes_cert command.verb then cert else []) a) (λ _. a ≡ refuses Hex)) (sym is) h)
 
--- what is looked at of the certificate's text spells bytes too
+-- the text of the certificate spells bytes too, if it is used
 pub as_texts : (command : Asked) (file cert shown f octets : List ℕ) (old new : Option (List ℕ)) (result : Result Said RunFault) → command.hex ≡ true
     → spelled file ≡ Ok f → shown ≡ (if takes_cert command.verb then cert else []) → spelled shown ≡ Ok octets
     → Leaves (Says command f octets) (most command) old new result → Leaves (SaysOver command.hex command file cert) (most command) old new result
@@ -41,7 +41,7 @@ wrong_says : (r : Result (List ℕ) FromHexError) (X : List ℕ → Type 0) (Y :
 wrong_says (Ok l) X Y h y = absurd (cc)
 wrong_says (Err e) X Y h y = y
 
--- what is looked at of the certificate's text is wrong
+-- the text of the certificate is used, and is wrong
 pub text_refused : (command : Asked) (file cert shown f : List ℕ) (old : Option (List ℕ)) (fault : RunFault) → command.hex ≡ true
     → spelled file ≡ Ok f → shown ≡ (if takes_cert command.verb then cert else []) → (fault ≡ Memory) ⊎ ((fault ≡ Hex) × IsErr (spelled shown))
     → Leaves (SaysOver command.hex command file cert) (most command) old old (Err fault)
@@ -53,7 +53,7 @@ text_refused command file cert shown f old fault hex is shows (inr (wrong, none)
       kept_self old,
     ))
 
--- refused memory and a wrong text are no failed read
+-- neither refused memory nor a wrong text is a failed read
 pub no_read : (cert : List ℕ) (fault : RunFault) → (fault ≡ Memory) ⊎ ((fault ≡ Hex) × IsErr (spelled cert)) → is_read fault ≡ false
 no_read cert fault (inl memory) = rw memory refl
 no_read cert fault (inr (wrong, _)) = rw wrong refl

@@ -1,4 +1,4 @@
--- What is left with a writer.
+-- What a run leaves with the writer.
 use Rattle.std.proofs.Common.{◌⊎◌, inl, inr, ℕ, List, [], append-nil, sym, ◌∙◌, Option, None, Some, Result, Ok, Err, refl, arith}
 use Rattle.std.specs.Io.KnownBytes.{Appends, Keeps}
 use Rattle.bplist_ascii.specs.Sending.{SendsSome}
@@ -6,7 +6,7 @@ use Rattle.bplint_lines.specs.declared.fault.RunFault.{RunFault}
 use Rattle.bplint_lines.specs.declared.fault.RunFault.TheVariants as faults
 use Rattle.bplint_engine.specs.declared.output.Output.{Output}
 use Rattle.bplint_lines.specs.declared.said.Said.{Said}
-use Rattle.bplint_lines.specs.Answers.{Answer, gives, refuses, BeginsAnswer, LeavesBy}
+use Rattle.bplint_lines.specs.Answers.{Answer, gives, refuses, BeginsAnswer, LeavesBy, LeavesWithin}
 use Rattle.bplint_engine.specs.Output.{Answers, IsRefusal, Sends}
 
 -- nothing was added
@@ -15,27 +15,41 @@ nothing None new h = tt
 nothing (Some xs) None h = h
 nothing (Some xs) (Some ys) h = h ∙ sym (append-nil xs)
 
-pub begins_nothing : (Says : Answer → Type 0) (most : ℕ) (old new : Option (List ℕ)) → Keeps old new → BeginsAnswer Says most old new
-begins_nothing Says most old new kept = (([], omega arith, nothing old new kept), inl kept)
+module _ (Says : Answer → Type 0) where
+  -- nothing is a first part of every answer
+  pub begins_within : (bound : Option ℕ) (old new : Option (List ℕ)) → Keeps old new → BeginsAnswer Says bound old new
+  begins_within None old new kept = (tt, inl kept)
+  begins_within (Some most) old new kept = (([], omega arith, nothing old new kept), inl kept)
+
+  -- what was refused before anything was written
+  pub refused_within : (bound : Option ℕ) (old new : Option (List ℕ)) (fault : RunFault) → IsRefusal Says fault → Keeps old new
+      → LeavesWithin Says bound old new (Err fault)
+  refused_within bound old new (faults.Write _) h kept = absurd h
+  refused_within bound old new (faults.Read _) h kept = begins_within bound old new kept
+  refused_within bound old new faults.Memory h kept = begins_within bound old new kept
+  refused_within bound old new _ h kept = (h, kept)
+
+  -- what was made was sent
+  pub sent_within : (bound : Option ℕ) (old new : Option (List ℕ)) (made : Result Output RunFault) (result : Result Said RunFault)
+      → Answers Says made → Sends old new made result → LeavesWithin Says bound old new result
+  sent_within bound old new (Ok output) (Ok said) says sends = (output.bytes.items, rw sends.0 says, sends.1)
+  sent_within bound old new (Ok output) (Err fault) says (n, is, cut) = rw is (output.said, output.bytes.items, says, cut)
+  sent_within bound old new (Err fault) result says (is, kept) = rw is (refused_within bound old new fault says kept)
 
 pub kept_self : (old : Option (List ℕ)) → Keeps old old
 kept_self None = tt
 kept_self (Some xs) = refl
 
--- what was refused before anything was written
+pub begins_nothing : (Says : Answer → Type 0) (most : ℕ) (old new : Option (List ℕ)) → Keeps old new → BeginsAnswer Says (Some most) old new
+begins_nothing Says most old new kept = begins_within Says (Some most) old new kept
+
 pub refused : (Says : Answer → Type 0) (most : ℕ) (old new : Option (List ℕ)) (fault : RunFault) → IsRefusal Says fault → Keeps old new
     → LeavesBy Says most old new (Err fault)
-refused Says most old new (faults.Write _) h kept = absurd h
-refused Says most old new (faults.Read _) h kept = begins_nothing Says most old new kept
-refused Says most old new faults.Memory h kept = begins_nothing Says most old new kept
-refused Says most old new _ h kept = (h, kept)
+refused Says most old new fault h kept = refused_within Says (Some most) old new fault h kept
 
--- what was made was sent
 pub sent : (Says : Answer → Type 0) (most : ℕ) (old new : Option (List ℕ)) (made : Result Output RunFault) (result : Result Said RunFault)
     → Answers Says made → Sends old new made result → LeavesBy Says most old new result
-sent Says most old new (Ok output) (Ok said) says sends = (output.bytes.items, rw sends.0 says, sends.1)
-sent Says most old new (Ok output) (Err fault) says (n, is, cut) = rw is (output.said, output.bytes.items, says, cut)
-sent Says most old new (Err fault) result says (is, kept) = rw is (refused Says most old new fault says kept)
+sent Says most old new made result says sends = sent_within Says (Some most) old new made result says sends
 
 begins_as : (P Q : Answer → Type 0) (old new : Option (List ℕ)) → ((a : Answer) → P a → Q a)
     → Keeps old new ⊎ ((said : Said) × (bytes : List ℕ) × P (gives said bytes) × SendsSome old new bytes)
@@ -43,19 +57,23 @@ begins_as : (P Q : Answer → Type 0) (old new : Option (List ℕ)) → ((a : An
 begins_as P Q old new to (inl kept) = inl kept
 begins_as P Q old new to (inr (said, bytes, says, some)) = inr (said, bytes, to (gives said bytes) says, some)
 
--- another way to say the answer
+-- the same under another description of the answer
+pub said_within : (P Q : Answer → Type 0) (bound : Option ℕ) (old new : Option (List ℕ)) (result : Result Said RunFault) → ((a : Answer) → P a → Q a)
+    → LeavesWithin P bound old new result → LeavesWithin Q bound old new result
+said_within P Q bound old new (Ok said) to (bytes, says, added) = (bytes, to (gives said bytes) says, added)
+said_within P Q bound old new (Err (faults.Write n)) to (said, bytes, says, cut) = (said, bytes, to (gives said bytes) says, cut)
+said_within P Q bound old new (Err (faults.Read fault)) to (few, begun) = (few, begins_as P Q old new to begun)
+said_within P Q bound old new (Err faults.Memory) to (few, begun) = (few, begins_as P Q old new to begun)
+said_within P Q bound old new (Err (faults.Fault fault)) to (h, kept) = (to (refuses (faults.Fault fault)) h, kept)
+said_within P Q bound old new (Err (faults.Circle ns)) to (h, kept) = (to (refuses (faults.Circle ns)) h, kept)
+said_within P Q bound old new (Err (faults.Path place)) to (h, kept) = (to (refuses (faults.Path place)) h, kept)
+said_within P Q bound old new (Err (faults.NoAsciiForm n)) to (h, kept) = (to (refuses (faults.NoAsciiForm n)) h, kept)
+said_within P Q bound old new (Err faults.TooLong) to (h, kept) = (to (refuses faults.TooLong) h, kept)
+said_within P Q bound old new (Err faults.Hex) to (h, kept) = (to (refuses faults.Hex) h, kept)
+said_within P Q bound old new (Err faults.Changed) to (h, kept) = (to (refuses faults.Changed) h, kept)
+said_within P Q bound old new (Err faults.Open) to (h, kept) = (to (refuses faults.Open) h, kept)
+said_within P Q bound old new (Err faults.InputTooLong) to (h, kept) = (to (refuses faults.InputTooLong) h, kept)
+
 pub said_as : (P Q : Answer → Type 0) (most : ℕ) (old new : Option (List ℕ)) (result : Result Said RunFault) → ((a : Answer) → P a → Q a)
     → LeavesBy P most old new result → LeavesBy Q most old new result
-said_as P Q most old new (Ok said) to (bytes, says, added) = (bytes, to (gives said bytes) says, added)
-said_as P Q most old new (Err (faults.Write n)) to (said, bytes, says, cut) = (said, bytes, to (gives said bytes) says, cut)
-said_as P Q most old new (Err (faults.Read fault)) to (bound, begun) = (bound, begins_as P Q old new to begun)
-said_as P Q most old new (Err faults.Memory) to (bound, begun) = (bound, begins_as P Q old new to begun)
-said_as P Q most old new (Err (faults.Fault fault)) to (h, kept) = (to (refuses (faults.Fault fault)) h, kept)
-said_as P Q most old new (Err (faults.Circle ns)) to (h, kept) = (to (refuses (faults.Circle ns)) h, kept)
-said_as P Q most old new (Err (faults.Path place)) to (h, kept) = (to (refuses (faults.Path place)) h, kept)
-said_as P Q most old new (Err (faults.NoAsciiForm n)) to (h, kept) = (to (refuses (faults.NoAsciiForm n)) h, kept)
-said_as P Q most old new (Err faults.TooLong) to (h, kept) = (to (refuses faults.TooLong) h, kept)
-said_as P Q most old new (Err faults.Hex) to (h, kept) = (to (refuses faults.Hex) h, kept)
-said_as P Q most old new (Err faults.Changed) to (h, kept) = (to (refuses faults.Changed) h, kept)
-said_as P Q most old new (Err faults.Open) to (h, kept) = (to (refuses faults.Open) h, kept)
-said_as P Q most old new (Err faults.InputTooLong) to (h, kept) = (to (refuses faults.InputTooLong) h, kept)
+said_as P Q most old new result to left = said_within P Q (Some most) old new result to left

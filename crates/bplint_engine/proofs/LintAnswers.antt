@@ -1,4 +1,4 @@
--- What `lint` says, from the answer of the linter.
+-- What `lint` says, derived from the contract of the linter.
 use Rattle.std.proofs.Common.{◌≡◌, ℕ, List, ◌++◌, codes, refl}
 use Rattle.bplist_objects.specs.declared.kind.Kind.{Kind}
 use Rattle.bplist_lint.specs.declared.answer.Lint.{Lint}

@@ -1,4 +1,4 @@
--- The faults of a run that come from the layers below, by names.
+-- The faults of a run for each fault of the crates below.
 use Rattle.bplist_cert.specs.declared.certificate.CertRefusal.{CertRefusal}
 use Rattle.bplist_cert.specs.declared.certificate.CertRefusal.TheVariants as cert_refusals
 use Rattle.bplist_cert.specs.declared.refusal.Refusal.{Refusal}
@@ -16,41 +16,41 @@ use Rattle.bplist_ascii.specs.declared.print_fault.PrintFault.TheVariants as pri
 use Rattle.bplint_lines.specs.declared.fault.RunFault.{RunFault}
 use Rattle.bplint_lines.specs.declared.fault.RunFault.TheVariants as faults
 
--- a refusal of the linter as a fault
+-- the fault for a refusal of the linter
 abbrev pub lint_fault : LintRefusal → RunFault
 lint_fault (lint_refusals.Fault fault) = faults.Fault fault
 lint_fault (lint_refusals.Circle objects) = faults.Circle objects
 lint_fault (lint_refusals.Read fault) = faults.Read fault
 lint_fault lint_refusals.Memory = faults.Memory
 
--- a refusal of certificate bytes as a fault
+-- the fault for certificate bytes that do not decode
 abbrev pub octets_fault : CertRefusal → RunFault
 octets_fault (cert_refusals.Fault fault) = faults.Fault fault
 octets_fault cert_refusals.Memory = faults.Memory
 
--- a refusal of the check as a fault
+-- the fault for a refusal of the check
 abbrev pub check_fault : Refusal → RunFault
 check_fault (refusals.Fault fault) = faults.Fault fault
 check_fault (refusals.Read fault) = faults.Read fault
 check_fault refusals.Memory = faults.Memory
 
--- a wrong path text as a fault
+-- the fault for a wrong path text
 abbrev pub path_fault : PathFault → RunFault
 path_fault (path_faults.Text place) = faults.Path place
 path_fault path_faults.Memory = faults.Memory
 
--- a cursor's fault
+-- the fault for a cursor's fault
 abbrev pub cursor_fault : CursorFault → RunFault
 cursor_fault (cursor_faults.Read fault) = faults.Read fault
 cursor_fault cursor_faults.Changed = faults.Changed
 cursor_fault cursor_faults.Memory = faults.Memory
 
--- the cause why an object could not be read, as a fault
+-- the fault for an object that could not be read
 abbrev pub unread_fault : Unread → RunFault
 unread_fault (unread.Read fault) = faults.Read fault
 unread_fault unread.Changed = faults.Changed
 
--- a printer's fault
+-- the fault for a printer's fault
 abbrev pub print_fault : PrintFault → RunFault
 print_fault (print_faults.NoAsciiForm part) = faults.NoAsciiForm part
 print_fault print_faults.TooLong = faults.TooLong

@@ -22,13 +22,13 @@ use Rattle.bplint_engine.specs.Ls.{IsContainer, IsHeadFor, IsLeaf, first_lines, 
 use Rattle.bplint_lines.specs.MemberNames.{bracketed, index_name, key_name}
 use Rattle.bplint_lines.specs.OutputLines.{face_line}
 
--- each member of an array or a set is there
+-- an array or a set has a member at each index
 item_there : (vs : Values) (n i : ℕ) → length (members vs) ≡ n → i < n → (m : Value) × (slice_get (members vs) i ≡ Some m)
 item_there no_values n i e l = absurd (omega (arith, e, l))
 item_there (value v vs) n zero e l = (v, refl)
 item_there (value v vs) n (suc i) e l = item_there vs (n - 1) i (omega (arith, e)) (omega (arith, e, l))
 
--- each key is there
+-- a dictionary has a key at each index
 key_there : (ps : Pairs) (n j k : ℕ) → length (keys ps) ≡ n → j < n → k ≡ 2 * j → (u : List ℕ) × (slice_get (in_turn ps) k ≡ Some (leaf (text u)))
 key_there no_pairs n j k e l is = absurd (omega (arith, e, l))
 key_there (pair u v ps) n zero zero e l is = (u, refl)
@@ -38,7 +38,7 @@ key_there (pair u v ps) n (suc j) (suc zero) e l is = absurd (omega (arith, is))
 key_there (pair u v ps) n (suc j) (suc (suc k)) e l is =
     key_there ps (n - 1) j k (omega (arith, e)) (omega (arith, e, l)) (omega (arith, is))
 
--- the value of each key is there
+-- a dictionary has a value at each index
 value_there : (ps : Pairs) (n j k : ℕ) → length (keys ps) ≡ n → j < n → k ≡ 2 * j + 1 → (m : Value) × (slice_get (in_turn ps) k ≡ Some m)
 value_there no_pairs n j k e l is = absurd (omega (arith, e, l))
 value_there (pair u v ps) n j zero e l is = absurd (omega (arith, is))
@@ -80,7 +80,7 @@ dict_member n i (dict ps) is l =
     )
 dict_member n i _ is l = absurd is
 
--- a name and what a member shows were added
+-- a name and the line of a member were added
 pub added : (lines name mid new : List ℕ) (shown : Face) (m : Value) → mid ≡ lines ++ name
     → new ≡ mid ++ codes "\t" ++ face_line shown ++ codes "\n" → shown ≡ face m → new ≡ lines ++ named_line name m
 added lines name mid new shown m named behind is = rw (behind, named, is) (simp append_assoc)
@@ -174,12 +174,12 @@ pub leaf_listed : (path : List ℕ) (w : Value) → IsLeaf w → named_line path
 leaf_listed path (leaf x) is = refl
 leaf_listed path _ is = absurd is
 
--- an object could not be read since a read failed
+-- an object could not be read because a read failed
 pub unread_excused : (fault : Unread) → IsUnread fault → IsExcused (unread_fault fault)
 unread_excused (unread.Read _) h = tt
 unread_excused unread.Changed h = absurd (h refl)
 
--- what was found by the head of a value's object holds the value's member i
+-- if member_by_head finds a member, it holds member i of the value
 pub found_member : (checked : CheckedFile) (head : Head) (w : Value) (i : ℕ) (found : Option Node) → IsHeadFor checked head w
     → ((n : ℕ) → IsVouchedBy checked.certificate.heights n → (content : Content) → Spells checked.source.octets checked.frame n content
     → content ≡ content_at checked.source.octets checked.frame head → found ≡ named (member_reference content i))

@@ -1,4 +1,4 @@
--- The answer to a command is one.
+-- A command has only one answer.
 use Rattle.std.proofs.Common.{◌≡◌, ℕ, List, [], Bool, true, false, Result, Ok, Err, sym, ◌∙◌}
 use Rattle.std.specs.Prelude.{MatchResult, if◌then◌else◌}
 use Rattle.hex.specs.declared.error.FromHexError.{FromHexError}
@@ -32,7 +32,7 @@ pub one_answer : (command : Asked) (f cert : List ℕ) (a b : Answer) → Says c
 one_answer command = one_by command.verb command
 
 -- ---- a command over inputs
--- an answer for what a text spells is one, and so is the refusal of one that spells nothing
+-- the answer for what a text spells is unique, and so is the refusal of a text that spells nothing
 one_spelled : (text : Result (List ℕ) FromHexError) (P : List ℕ → Answer → Type 0) (a b : Answer) → ((xs : List ℕ) → P xs a → P xs b → a ≡ b)
     → MatchResult text (λ xs. P xs a) (λ _. a ≡ refuses faults.Hex) → MatchResult text (λ xs. P xs b) (λ _. b ≡ refuses faults.Hex) → a ≡ b
 one_spelled (Ok xs) P a b one h k = one xs h k

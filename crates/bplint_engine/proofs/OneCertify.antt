@@ -1,4 +1,4 @@
--- What `certify` says is one, with and without key lists.
+-- What `certify` says is unique, with and without key lists.
 use Rattle.std.proofs.Common.{◌≡◌, ℕ, List, Bool, true, false, sym, ap, ◌∙◌, subst}
 use Rattle.std.specs.Prelude.{MatchBool}
 use Rattle.bplist_objects.specs.declared.frame.Frame.{Frame}
@@ -14,12 +14,12 @@ use Rattle.bplint_engine.proofs.OneKeyLists.{one_upgraded}
 use Rattle.bplint_engine.proofs.EqualAnswers.{same_gives, open_bytes}
 use Rattle.bplint_engine.proofs.OneLint.{one_lint_fault, not_linted, same_heights}
 
--- the lists that are written: those of the least heights, or with key lists
+-- the lists that `certify` writes: those of the least heights, or these with key lists
 abbrev AreWritten : Bool → List ℕ → Frame → Lists → Lists → Type 0
 AreWritten sorted f F least lists =
     MatchBool sorted (IsCertificate lists × ∥ IsUpgraded f F least.heights lists ∥₁) (lists ≡ least)
 
--- the bytes of what is written are one
+-- the bytes that `certify` writes are unique
 one_written : (sorted hex : Bool) (f : List ℕ) (F : Frame) (x y : Lint) (c d : Lists) (xs ys : List ℕ) → IsLintedBy f F x → IsLintedBy f F y
     → AreWritten sorted f F x.certificate c → AreWritten sorted f F y.certificate d
     → xs ≡ written hex (octets_of c) → ys ≡ written hex (octets_of d) → xs ≡ ys

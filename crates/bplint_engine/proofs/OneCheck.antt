@@ -1,4 +1,4 @@
--- What `check` says is one, and so is the first fault of a file with the bytes of a certificate.
+-- What `check` says is unique, and so is the first fault of a file with the bytes of a certificate.
 use Rattle.std.proofs.Common.{◌≡◌, ℕ, ◌++◌, List, [], ◌∷◌, slice_index, inl, inr, sym, ap, ◌∙◌, subst}
 use Rattle.std.proofs.Props.{props}
 use Rattle.std.proofs.lemmas.Grind.{not_there}

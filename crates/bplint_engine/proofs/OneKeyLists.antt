@@ -1,4 +1,4 @@
--- The key lists of a certificate of least heights are one.
+-- The key lists of a certificate of least heights are unique.
 use Rattle.std.proofs.Common.{◌≡◌, ℕ, zero, suc, ◌+◌, ◌-◌, ◌<◌, ◌≤◌, List, [], ◌∷◌, slice_index, slice_index_or, length, inl, inr, cond, map, Less, Option, Some, None, is_some, unwrap_or, refl, sym, ap, ◌∙◌, subst, arith}
 use Rattle.std.specs.List.{AllZip, range_with_len}
 use Rattle.std.proofs.lemmas.Bool.{cases_lt, cases_order}
@@ -26,7 +26,7 @@ Ascend us xs =
     (j : ℕ) → suc j < length xs → compare_units (slice_index_or us (slice_index xs j) []) (slice_index_or us (slice_index xs (suc j)) []) ≡ Less
 
 module _ (us : List (List ℕ)) (n : ℕ) where
-  -- so many positions below so many, in ascending order
+  -- n positions below n, in ascending order
   record IsRising (xs : List ℕ) : Type 0 where
     count : length xs ≡ n
     within : (j : ℕ) → j < n → slice_index xs j < n
@@ -58,11 +58,11 @@ module _ (us : List (List ℕ)) (n : ℕ) where
     apart : (i j : ℕ) → i < j → j < n → slice_index xs i ≡ slice_index xs j → ⊥
     apart i j low l e = compare_units-not_less (units_of xs i) (units_of xs j) (ap unit_at e) (rises i j low l)
 
-    -- each position is there
+    -- each position occurs in the list
     place : (p : ℕ) → p < n → (j : ℕ) × (j < n) × (slice_index xs j ≡ p)
     place p l = onto n (slice_index xs) r.within apart p l
 
-    -- the place of lesser units is less
+    -- the position of smaller units comes earlier
     before : (i j : ℕ) → i < n → j < n → compare_units (units_of xs i) (units_of xs j) ≡ Less → i < j
     before i j l m less = elim (cases_order i j) [
       | inl e ↦ absurd (compare_units-not_less (units_of xs i) (units_of xs j) (ap (units_of xs) e) less)
@@ -72,7 +72,7 @@ module _ (us : List (List ℕ)) (n : ℕ) where
     ]
 
   module _ (xs ys : List ℕ) (r : IsRising xs) (q : IsRising ys) where
-    -- what stands at a place in one list stands no earlier in the other
+    -- an entry of one list comes no earlier in the other
     no_earlier : (j : ℕ) (l : j < n) → j ≤ (place ys q (slice_index xs j) (r.within j l)).0
     no_earlier zero l = omega arith
     no_earlier (suc j) l =
@@ -86,7 +86,7 @@ module _ (us : List (List ℕ)) (n : ℕ) where
         let so_far = no_earlier j low in
         omega (arith, up, so_far)
 
-  -- two lists of positions in ascending order are the same
+  -- two lists of positions in ascending order are equal
   one_rising : (xs ys : List ℕ) → IsRising xs → IsRising ys → xs ≡ ys
   one_rising xs ys r q = ext_get_or 0 xs ys (r.count ∙ sym q.count) (λ j low. same j (omega (arith, low, r.count)))
     where
@@ -141,11 +141,11 @@ module _ (f : List ℕ) (F : Frame) (heights : List ℕ) where
     spells : Spells f F n (Content.dict ks ms)
     many : pairs f F heights n ≡ Some (length ks)
 
-  -- how many positions object n has
+  -- the number of positions of object n
   abbrev many_of : ℕ → ℕ
   many_of n = unwrap_or (pairs f F heights n) 0
 
-  -- each position is one of an object
+  -- each position belongs to an object
   part_of : (n p : ℕ) → p < pairs_below f F heights n → (m : ℕ) × (m < n) × (pairs_below f F heights m ≤ p) × (p < pairs_below f F heights m + many_of m)
   part_of zero p l = absurd (omega (arith, l))
   part_of (suc n) p l = elim (cases_lt p (pairs_below f F heights n)) [
@@ -205,7 +205,7 @@ module _ (f : List ℕ) (F : Frame) (heights : List ℕ) where
         ∙ ap (λ xs. slice_index xs i) same
         ∙ get_or-part w.keyed.positions (pairs_below f F heights own.0) (length x.ks) i 0 within ∙ ap (slice_index w.keyed.positions) at
 
-    -- the certificate with key lists is one
+    -- the certificate with key lists is unique
     pub one_upgraded : c ≡ d
     one_upgraded =
         let starts : u.keyed.starts ≡ w.keyed.starts = starts_are c u ∙ sym (starts_are d w) in

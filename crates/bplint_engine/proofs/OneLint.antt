@@ -1,4 +1,4 @@
--- What `lint` says is one, and so is the first fault of a file.
+-- What `lint` says is unique, and so is the first fault of a file.
 use Rattle.std.proofs.Common.{◌≡◌, ℕ, ◌++◌, List, codes, map, slice_index, count_by, nat_lt, sym, ap, ◌∙◌, subst}
 use Rattle.bplist_objects.specs.declared.frame.Frame.{Frame}
 use Rattle.bplist_objects.specs.Heads.{HasShape}

@@ -1,4 +1,4 @@
--- Steps lead from an object that holds a value to one object.
+-- From an object that holds a value, steps lead to only one object.
 use Rattle.std.proofs.Common.{◌≡◌, ℕ, zero, suc, ◌<◌, List, [], ◌∷◌, slice_index, slice_index_or, length, inl, inr, refl, sym, ap, ◌∙◌, subst, arith}
 use Rattle.std.proofs.lemmas.Bool.{cases_order}
 use Rattle.std.proofs.lemmas.Fmt.{decimal_injective}
@@ -27,7 +27,7 @@ module _ (f : List ℕ) (F : Frame) where
       (omega (arith, r.0), r.1)
 
   module _ (is : IsFrame f F) where
-    -- one reference is taken for a step
+    -- a step follows only one reference
     one_taken : (v : Value) (n : ℕ) (s : List ℕ) (c : Content) (m k : ℕ) → Holds f F n v → Spells f F n c → IsTaken f F c s m → IsTaken f F c s k → m ≡ k
     one_taken (leaf l) n s c m k h sp t u = absurd (subst (λ x. IsTaken f F x s m) (one_head f F n _ _ sp h) t)
     one_taken (set vs) n s c m k h sp t u = absurd (subst (λ x. IsTaken f F x s m) (one_head f F n _ _ sp h.1) t)
@@ -50,7 +50,7 @@ module _ (f : List ℕ) (F : Frame) where
           | inr (inr l) ↦ absurd (h.4 b.0 a.0 s l x.0 (y.1 ∙ sym x.1))
         ]
 
-    -- steps lead to one object
+    -- steps lead to only one object
     pub one_end : (steps : List (List ℕ)) (v : Value) (n m k : ℕ) → Holds f F n v → LeadTo f F n steps m → LeadTo f F n steps k → m ≡ k
     one_end [] v n m k h a b = sym a ∙ b
     one_end (s ∷ steps) v n m k h (c, i, spells, a, rest) (d, j, spells', b, other) =

@@ -1,4 +1,4 @@
--- What is said for path texts is one, and so are their paths.
+-- The answer for path texts is unique, and so are the paths.
 use Rattle.std.proofs.Common.{◌≡◌, ℕ, List, [], ◌∷◌, map, inl, inr, refl, sym, ap, ◌∙◌, subst}
 use Rattle.std.specs.List.{AllZip}
 use Rattle.bplist_objects.specs.File.{FileHolds}
@@ -38,7 +38,7 @@ one_wrong (t ∷ ts) p q (inl h) (inr k) = absurd (h.none k.0 k.1)
 one_wrong (t ∷ ts) p q (inr h) (inl k) = absurd (k.none h.0 h.1)
 one_wrong (t ∷ ts) p q (inr h) (inr k) = one_wrong ts p q h.2 k.2
 
--- what is said for path texts is one, where what Says says is, and what P says
+-- the answer for path texts is unique if the answers of Says and of P are
 module _ (Says : Answer → Type 0) (f : List ℕ) (texts : List (List ℕ)) (P : List (List (List ℕ)) → Value → Answer → Type 0)
     (one : (a b : Answer) → Says a → Says b → a ≡ b) (same : (paths : List (List (List ℕ))) (v : Value) → FileHolds f v → (a b : Answer) → P paths v a → P paths v b → a ≡ b) where
   pub one_for_paths : (a b : Answer) → ForPaths Says f texts P a → ForPaths Says f texts P b → a ≡ b

@@ -1,4 +1,4 @@
--- What is said for path texts, of a file that is refused and of one that holds a value.
+-- The answer for path texts, of a file that is refused and of one that holds a value.
 use Rattle.std.proofs.Common.{◌≡◌, ◌∙◌, ◌++◌, inl, inr, ℕ, List, [], ◌∷◌, Result, codes, map, slice_index, refl, sym, subst}
 use Rattle.std.specs.List.{AllZip, flat_map}
 use Rattle.std.proofs.Math.Logic.{∥∥₁_map}
@@ -30,18 +30,18 @@ use Rattle.bplint_engine.specs.Output.{IsRefusal}
 use Rattle.bplint_engine.specs.PathTexts.{ForPaths, IsWrongAmong, OnPath}
 use Rattle.bplint_engine.specs.Print.{PathSays}
 
--- a refusal of one answer is one of another that has the same faults
+-- a refusal under one description of the answer is one under another that has the same faults
 refused_as : (P Q : Answer → Type 0) (fault : RunFault) → ((x : RunFault) → P (refuses x) → Q (refuses x)) → IsRefusal P fault → IsRefusal Q fault
 refused_as P Q (faults.Write _) to h = h
 refused_as P Q (faults.Read _) to h = tt
 refused_as P Q faults.Memory to h = tt
 refused_as P Q fault to h = to fault h
 
--- what is said of paths and a value by their lines
+-- the answer for paths and a value, given their lines
 abbrev pub AreLines : (Result Value (ℕ × Why) → List ℕ) → List (List (List ℕ)) → Value → Answer → Type 0
 AreLines lines paths v answer = answer ≡ gives (said_of (map (look 0 v) paths)) (flat_map lines (map (look 0 v) paths))
 
--- what is said of one path and a value by its text
+-- the answer for one path and a value, given its text
 abbrev pub IsText : ℕ → List ℕ → List (List (List ℕ)) → Value → Answer → Type 0
 IsText limit f paths v answer =
     (steps : List (List ℕ)) × (F : Frame) × (paths ≡ steps ∷ []) × IsFrame f F × PathSays f F limit steps v answer
@@ -59,7 +59,7 @@ module _ (Says : Answer → Type 0) (f : List ℕ) (texts : List (List ℕ)) (P 
   file_refused paths fault are = refused_as Says (ForPaths Says f texts P) fault (λ x h. inr (paths, refuses x, are, h, refl))
 
 -- ---- files that hold a value
--- Says says yes of a file
+-- Says accepts the file
 abbrev pub IsYes : (Answer → Type 0) → Type 0
 IsYes Says = (said : Said) × (bytes : List ℕ) × Says (gives said bytes)
 

@@ -1,4 +1,4 @@
--- Queries made of path texts.
+-- Queries that are made of path texts.
 use Rattle.std.proofs.Common.{◌≡◌, ◌∙◌, ℕ, zero, suc, ◌<◌, List, [], ◌∷◌, ◌++◌, length, take, map, get_or, inl, inr, ap, subst, sym, arith, String, Global, string_bytes}
 use Rattle.std.specs.List.{AllZip}
 use Rattle.std.proofs.lemmas.List.{map-append}
@@ -29,7 +29,7 @@ more_paths (t ∷ ts) (suc i) [] text path within is are spells = absurd are
 more_paths (t ∷ ts) (suc i) (q ∷ qs) text path within is are spells =
     (are.0, more_paths ts i qs text path (omega arith) is are.1 spells)
 
--- one text more, and its query
+-- one more text, and its query
 pub one_more : (texts : List (String Global)) (i : ℕ) (queries : List Query) (text : String Global) (path : List (List ℕ)) → i < length texts
     → text ≡ get_or texts i text → AreAsked (bytes_of (take i texts)) queries → IsPathOf (string_bytes text) path
     → AreAsked (bytes_of (take (suc i) texts)) (queries ++ Get path ∷ [])
@@ -39,7 +39,7 @@ one_more texts i queries text path within is (paths, are, same) spells = (
   ap (λ l. l ++ Get path ∷ []) same ∙ sym (map-append Get paths (path ∷ [])),
 )
 
--- the texts before are path texts, and this one is wrong
+-- the texts before this one are path texts, and this one is wrong
 first_wrong : (texts : List (String Global)) (i : ℕ) (paths : List (List (List ℕ))) (text : String Global) (place : ℕ) → i < length texts
     → text ≡ get_or texts i text → AllZip IsPathOf (bytes_of (take i texts)) paths → IsNoPath (string_bytes text) place
     → IsWrongAmong (bytes_of texts) place
@@ -49,7 +49,7 @@ first_wrong (t ∷ ts) (suc i) [] text place within is are wrong = absurd are
 first_wrong (t ∷ ts) (suc i) (q ∷ qs) text place within is are wrong =
     inr (q, are.0, first_wrong ts i qs text place (omega arith) is are.1 wrong)
 
--- a text gave no path
+-- a text is no path text
 pub text_refused : (texts : List (String Global)) (i : ℕ) (queries : List Query) (text : String Global) (fault : PathFault) → i < length texts
     → text ≡ get_or texts i text → AreAsked (bytes_of (take i texts)) queries → OnText (IsNoPath (string_bytes text)) fault
     → OnPath (IsWrongAmong (bytes_of texts)) (path_fault fault)

@@ -1,5 +1,5 @@
--- What `print` says and leaves, from the answers of the cursor and of the printer.
-use Rattle.std.proofs.Common.{◌≡◌, inl, inr, ◌∙◌, append_assoc, ℕ, ◌+◌, List, [], ◌∷◌, ◌++◌, length, ap, sym, subst, refl, arith, Option, Result, Ok, Err}
+-- What `print` says and leaves, derived from the contracts of the cursor and the printer.
+use Rattle.std.proofs.Common.{◌≡◌, inl, inr, ◌∙◌, append_assoc, ℕ, ◌+◌, List, [], ◌∷◌, ◌++◌, length, ap, sym, subst, refl, arith, Option, Some, Result, Ok, Err}
 use Rattle.std.specs.List.{AllZip}
 use Rattle.std.specs.Prelude.{IfOk, IfErr, MatchResult}
 use Rattle.std.proofs.Math.Logic.{∥∥₁_map}
@@ -37,7 +37,7 @@ use Rattle.bplint_engine.proofs.EqualAnswers.{same_gives}
 use Rattle.bplint_engine.proofs.LeftBytes.{begins_nothing, kept_self, said_as}
 use Rattle.bplint_engine.proofs.PathAnswers.{IsThere, IsYes}
 
--- the cursor met a failed read or a refused growth
+-- the cursor met a failed read or refused memory
 pub cursor_stopped : (Says : Answer → Type 0) (most : ℕ) (old : Option (List ℕ)) (fault : CursorFault) → IsExcused fault
     → LeavesBy Says most old old (Err (cursor_fault fault))
 cursor_stopped Says most old (cursor_faults.Read _) h = begins_nothing Says most old old (kept_self old)
@@ -47,10 +47,10 @@ cursor_stopped Says most old cursor_faults.Memory h = begins_nothing Says most o
 within : (old new : Option (List ℕ)) (s : Sending) (limit : ℕ) → s ≡ record { sent = 0; held = [] } → AtMost old new (length s.held + limit) → AtMost old new limit
 within old new s limit start (gone, few, added) = (gone, omega (arith, few, ap (λ x. length x.held) start), added)
 
--- a first part of the text is one of the answer
+-- a first part of the text is a first part of the answer
 begun_answer : (old new : Option (List ℕ)) (s : Sending) (f : List ℕ) (F : Frame) (n : ℕ) (w : Value) (limit : ℕ)
     → s ≡ record { sent = 0; held = [] } → HasText w limit (λ t. SendsSome old new (s.held ++ t)) → AtMost old new (length s.held + limit)
-    → BeginsAnswer (NodeSays f F limit n w) limit old new
+    → BeginsAnswer (NodeSays f F limit n w) (Some limit) old new
 begun_answer old new s f F n w limit start (t, is, low, few, some) bound =
     let all : t ++ 10 ∷ [] ≡ some.0 ++ (some.1 ++ 10 ∷ []) =
     ap (λ l. l ++ 10 ∷ []) (sym (ap (λ x. x.held ++ t) start) ∙ some.3) ∙ append_assoc some.0 some.1 (10 ∷ []) in (
@@ -58,7 +58,7 @@ begun_answer old new s f F n w limit start (t, is, low, few, some) bound =
       inr (All, t ++ 10 ∷ [], (t, is, low, few, (refl, refl)), (some.0, some.1 ++ 10 ∷ [], some.2, all)),
     )
 
--- the text was not put in whole
+-- the text was not put in as a whole
 print_failed : (old new : Option (List ℕ)) (s u : Sending) (f : List ℕ) (F : Frame) (n : ℕ) (w : Value) (limit : ℕ) (fault : PrintFault)
     → s ≡ record { sent = 0; held = [] } → IsPut old new s u f F n w limit (Err fault) → AtMost old new (length s.held + limit)
     → LeavesBy (NodeSays f F limit n w) limit old new (Err (print_fault fault))
@@ -75,7 +75,7 @@ print_failed old new s u f F n w limit (print_faults.Read _) start (inr begun) b
 print_failed old new s u f F n w limit print_faults.Changed start h bound = absurd h
 print_failed old new s u f F n w limit print_faults.Memory start begun bound = begun_answer old new s f F n w limit start begun bound
 
--- the same of an answer that is known to be this fault
+-- the same for an answer that is known to be this fault
 pub print_refused : (old new : Option (List ℕ)) (s u : Sending) (f : List ℕ) (F : Frame) (n : ℕ) (w : Value) (limit : ℕ) (r : Result (Unit {0}) PrintFault) (fault : PrintFault)
     → r ≡ Err fault → s ≡ record { sent = 0; held = [] } → IsPut old new s u f F n w limit r → AtMost old new (length s.held + limit)
     → LeavesBy (NodeSays f F limit n w) limit old new (Err (print_fault fault))
@@ -90,7 +90,7 @@ end_failed old mid new s t f F n w limit sent start (text, is, low, few, takes) 
     let out = out_takes (out_start old s (ap (λ x. x.sent) start) (ap (λ x. x.held) start)) takes in
     (All, text ++ 10 ∷ [], (text, is, low, few, (refl, refl)), out_part old mid new t text (10 ∷ []) sent out part)
 
--- text and line feed went out
+-- the text and the line feed were written
 pub printed : (old mid new : Option (List ℕ)) (s t u : Sending) (f : List ℕ) (F : Frame) (n : ℕ) (w : Value) (limit : ℕ)
     → s ≡ record { sent = 0; held = [] } → IsPut old mid s t f F n w limit (Ok tt) → Takes mid new t u (10 ∷ []) → u.held ≡ []
     → LeavesBy (NodeSays f F limit n w) limit old new (Ok All)
@@ -98,13 +98,13 @@ printed old mid new s t u f F n w limit start (text, is, low, few, takes) ended 
     let out = out_takes (out_start old s (ap (λ x. x.sent) start) (ap (λ x. x.held) start)) takes in
     (text ++ 10 ∷ [], (text, is, low, few, (refl, refl)), out_end (out_takes out ended) empty)
 
--- the answer for what a path leads to
+-- the answer for what is under a path
 abbrev pub FoundSays : List ℕ → Frame → ℕ → List (List ℕ) → Answer → Result Value (ℕ × Why) → Type 0
 FoundSays f F limit steps answer found = MatchResult found
     (λ w. (n : ℕ) × LeadTo f F F.top.0 steps n × NodeSays f F limit n w answer)
     (λ missing. answer ≡ gives SomeMissing (missing_line missing.0 missing.1 ++ 10 ∷ []))
 
--- the answer for the node that a path leads to is that for the path
+-- the answer for the node under a path is the answer for the path
 node_to_path : (f : List ℕ) (F : Frame) (limit n : ℕ) (steps : List (List ℕ)) (v w : Value) → LeadTo f F F.top.0 steps n → look 0 v steps ≡ Ok w
     → (a : Answer) → NodeSays f F limit n w a → PathSays f F limit steps v a
 node_to_path f F limit n steps v w leads is a h = subst (FoundSays f F limit steps a) (sym is) (n, leads, h)
@@ -126,7 +126,7 @@ missing_says f F limit steps v step why (Ok output) is told _ =
     subst (FoundSays f F limit steps (gives output.said output.bytes.items)) (sym is) (same_gives output.said SomeMissing output.bytes.items _ told.0 told.1)
 missing_says f F limit steps v step why (Err fault) is _ memory = subst (IsRefusal (PathSays f F limit steps v)) (sym memory) tt
 
--- Says says yes of the file, and the value under the path was printed
+-- Says accepts the file, and the value under the path was printed
 pub print_leaves : (Says : Answer → Type 0) (f : List ℕ) (texts : List (List ℕ)) (limit : ℕ) (steps : List (List ℕ)) (F : Frame) (old new : Option (List ℕ))
     (result : Result Said RunFault) → AllZip IsPathOf texts (steps ∷ []) → IsYes Says → ∥ IsThere f F ∥₁
     → ((v : Value) → Holds f F F.top.0 v → LeavesBy (PathSays f F limit steps v) limit old new result)
@@ -135,7 +135,7 @@ print_leaves Says f texts limit steps F old new result are (said, bytes, says) t
     said_as (PathSays f F limit steps v) (PrintSays limit Says f texts) limit old new result
     (λ a h. inr (steps ∷ [], gives said bytes, are, says, (v, holds, (steps, F, refl, frame, h)))) (left v held))
 
--- a line feed was put in, and a flush cut it
+-- a line feed was put in, and the flush failed
 pub line_cut : (old mid new : Option (List ℕ)) (s t : Sending) (r : Result (Unit {0}) WriteFault) → Takes old mid s t (10 ∷ [])
     → IfErr r (λ fault. TakesPart mid new t [] fault.sent) → IfErr r (λ fault. TakesPart old new s (10 ∷ []) fault.sent)
 line_cut old mid new s t (Ok _) takes part = tt

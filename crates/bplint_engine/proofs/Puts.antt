@@ -13,7 +13,7 @@ use Rattle.bplint_lines.specs.Faults.{IsExcused}
 use Rattle.bplint_engine.specs.Streams.{Fails, begun}
 use Rattle.bplint_engine.proofs.LowerFaults.{cursor_fault}
 
--- first bytes were put in, some more failed and others would have followed
+-- the first bytes were put in, the next ones failed, and others would have followed
 pub fails_behind : (old mid new : Option (List ℕ)) {s t : Sending} {xs : List ℕ} (ys zs whole : List ℕ) (fault : RunFault) → Takes old mid s t xs
     → Fails mid new t ys fault → whole ≡ xs ++ (ys ++ zs) → Fails old new s whole fault
 fails_behind old mid new {s} {t} {xs} ys zs whole fault takes part is = go fault part
@@ -27,7 +27,7 @@ fails_behind old mid new {s} {t} {xs} ys zs whole fault takes part is = go fault
     go faults.Memory part = some part
     go _ part = absurd part
 
--- first bytes were put in, and then a read failed or memory was refused
+-- the first bytes were put in, and then a read failed or memory was refused
 pub stopped_behind : (old new : Option (List ℕ)) {s t : Sending} {xs : List ℕ} (ys whole : List ℕ) (fault : RunFault) → Takes old new s t xs
     → IsExcused fault → whole ≡ xs ++ ys → Fails old new s whole fault
 stopped_behind old new {s} {t} {xs} ys whole fault takes excused is = go fault excused
@@ -40,18 +40,18 @@ stopped_behind old new {s} {t} {xs} ys whole fault takes excused is = go fault e
     go faults.Memory h = some
     go _ h = absurd h
 
--- all that was put into a sink went out
+-- all bytes that were put into a sink were written
 pub flushed : {old mid new : Option (List ℕ)} {s t u : Sending} {bytes : List ℕ} → s ≡ begun → Takes old mid s t bytes → Takes mid new t u [] → u.held ≡ [] → Appends old new bytes
 flushed {old} {mid} {new} {s} {t} {u} {bytes} is takes rest empty =
     subst (Appends old new) (append-nil bytes) (out_end (out_takes (out_takes (out_start old s (ap (λ x. x.sent) is) (ap (λ x. x.held) is)) takes) rest) empty)
 
--- a flush was cut
+-- a flush failed
 pub flush_cut : (old mid new : Option (List ℕ)) (s t : Sending) (bytes : List ℕ) (sent : ℕ) → s ≡ begun → Takes old mid s t bytes → TakesPart mid new t [] sent
     → TakesPart old new begun bytes sent
 flush_cut old mid new s t bytes sent is takes part =
     subst (λ x. TakesPart old new x bytes sent) is (subst (λ l. TakesPart old new s l sent) (append-nil bytes) (takes_then_part old mid new s t bytes [] sent takes part))
 
--- what is put into a sink that begins is what is sent
+-- putting bytes into a fresh sink sends them
 pub fails_begun : (old new : Option (List ℕ)) (s : Sending) (bytes : List ℕ) (fault : RunFault) → s ≡ begun → Fails old new s bytes fault → Fails old new begun bytes fault
 fails_begun old new s bytes fault is h = subst (λ x. Fails old new x bytes fault) is h
 

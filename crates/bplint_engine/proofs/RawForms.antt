@@ -55,7 +55,7 @@ module _ (f : List ℕ) (F : Frame) where
     other_raw (set vs) a w d h = refl
     other_raw (dict ps) a w d h = refl
 
--- a text each surrogate of which has its partner
+-- a text whose surrogates all have partners
 pub paired_raw : (units : List ℕ) → has_unpaired_surrogate units ≡ false → utf8_text units ≡ Some (encode_utf8_all (utf16_lossy_chars units))
 paired_raw units h = rw h refl
 

@@ -1,4 +1,4 @@
--- Texts that are read in parts, each of which ends between two characters.
+-- Texts that are read in parts, none of which ends inside a character.
 use Rattle.std.proofs.Common.{◌≡◌, ◌<◌, ◌≤◌, ◌+◌, ◌-◌, ◌&&◌, ◌||◌, ◌++◌, ℕ, suc, List, [], ◌∷◌, Bool, true, false, Option, map, length, take, drop, slice_index, ap, sym, ◌∙◌, refl, arith, append_assoc, append-nil, cond}
 use Rattle.std.proofs.Common.{take-append-drop, get_or-drop, Some}
 use Rattle.std.proofs.lemmas.Bool.Decides.{nat_tests}
@@ -14,13 +14,13 @@ use Rattle.std.specs.Char.Utf16.{has_unpaired_surrogate, is_high_surrogate, is_l
 use Rattle.bplist_octets.specs.Octets.{part}
 use Rattle.bplint_engine.specs.Streams.{IsCut}
 
--- the last unit is the first of a pair
+-- the last unit is the first half of a pair
 abbrev ends_high : List ℕ → Bool
 ends_high [] = false
 ends_high (u ∷ []) = is_high_surrogate u
 ends_high (u ∷ v ∷ us) = ends_high (v ∷ us)
 
--- the first unit is the second of a pair
+-- the first unit is the second half of a pair
 abbrev starts_low : List ℕ → Bool
 starts_low [] = false
 starts_low (u ∷ us) = is_low_surrogate u
@@ -43,7 +43,7 @@ chars_split (u ∷ v ∷ us) bs h =
     go true p q = ap (λ cs. Some (surrogate_pair_char u v) ∷ cs) p
     go false p q = ap (λ cs. lone_unit_char u ∷ cs) q
 
--- the last unit of a part, and the first behind it, by their places
+-- the last unit of a part, and the first one after it, by their places
 
 ends_at : (us : List ℕ) → ends_high us ≡ is_high_surrogate (slice_index us (length us - 1))
 ends_at [] = refl
@@ -56,7 +56,7 @@ starts_at : (us : List ℕ) → starts_low us ≡ is_low_surrogate (slice_index 
 starts_at [] = refl
 starts_at (u ∷ us) = refl
 
--- the characters from a cut on are those up to the next, and those behind it
+-- the characters from a cut on are those up to the next cut and those after it
 pub chars_step : (us : List ℕ) (a n : ℕ) → 0 < n → a + n ≤ length us → IsCut us (a + n) → utf16_chars (drop a us) ≡ utf16_chars (part us a n) ++ utf16_chars (drop (a + n) us)
 chars_step us a n some within cut =
     let long = length-part us a n within in
@@ -75,11 +75,11 @@ utf8_of cs = encode_utf8_all (map (λ o. unwrap_or o 0xFFFD) cs)
 pub utf8_append : (xs bs : List (Option ℕ)) → utf8_of (xs ++ bs) ≡ utf8_of xs ++ utf8_of bs
 utf8_append xs bs = ap encode_utf8_all (map-append (λ o. unwrap_or o 0xFFFD) xs bs) ∙ encodes-append (map (λ o. unwrap_or o 0xFFFD) xs) (map (λ o. unwrap_or o 0xFFFD) bs)
 
--- a surrogate without its partner is among the characters
+-- some surrogate among the characters has no partner
 abbrev pub have_lone : List (Option ℕ) → Bool
 have_lone cs = list_any (λ o. not (is_some o)) cs
 
--- the characters before this place, and those from it on, are all
+-- the characters before this place and those from it on are all characters
 abbrev pub IsRead : List ℕ → ℕ → List (Option ℕ) → Type 0
 IsRead us done cs = utf16_chars us ≡ cs ++ utf16_chars (drop done us)
 
@@ -94,7 +94,7 @@ read_on us done n cs some within cut is =
 pub read_end : (us : List ℕ) (done : ℕ) (cs : List (Option ℕ)) → length us ≤ done → IsRead us done cs → utf16_chars us ≡ cs
 read_end us done cs past is = is ∙ ap (λ l. cs ++ utf16_chars l) (drop_all done us past) ∙ ap (λ l. cs ++ l) utf16_chars-nil ∙ append-nil cs
 
--- a part with a lone surrogate shows that the text has one
+-- a part with a lone surrogate shows that the whole text has one
 pub lone_in_part : (us : List ℕ) (done n : ℕ) (cs : List (Option ℕ)) → 0 < n → done + n ≤ length us → IsCut us (done + n) → IsRead us done cs
     → has_unpaired_surrogate (part us done n) ≡ true → has_unpaired_surrogate us ≡ true
 lone_in_part us done n cs some within cut is lone =
@@ -111,7 +111,7 @@ lone_in_part us done n cs some within cut is lone =
 pub none_lone_on : (cs ds : List (Option ℕ)) → have_lone cs ≡ false → have_lone ds ≡ false → have_lone (cs ++ ds) ≡ false
 none_lone_on cs ds h k = list_any-append (λ o. not (is_some o)) cs ds ∙ (λ i. h i || k i)
 
--- the UTF-8 of all, by what is read and what is left
+-- the UTF-8 of the whole text, from what is read and what is left
 pub utf8_rest : (us : List ℕ) (done : ℕ) (cs : List (Option ℕ)) → IsRead us done cs → utf8_of (utf16_chars us) ≡ utf8_of cs ++ utf8_of (utf16_chars (drop done us))
 utf8_rest us done cs is = ap utf8_of is ∙ utf8_append cs (utf16_chars (drop done us))
 
@@ -122,11 +122,12 @@ utf8_parts us done n cs some within cut is =
     utf8_rest us done cs is
     ∙ ap (λ l. utf8_of cs ++ l) (ap utf8_of (chars_step us done n some within cut) ∙ utf8_append (utf16_chars (part us done n)) (utf16_chars (drop (done + n) us)))
 
--- a unit that is the first of a pair is not the second of one
+-- the first half of a pair is not also a second half
 high_not_low : (u : ℕ) → is_high_surrogate u ≡ true → is_low_surrogate u ≡ false
 high_not_low u h = grind (arith, nat_tests, h)
 
--- a part up to the end, one whose last unit is no first of a pair, and one before a first of a pair end between characters
+-- a part ends between characters if it ends with the text, if its last unit is no first half, or if it ends before a
+-- first half
 pub cut_at_end : (us : List ℕ) (place : ℕ) → length us ≤ place → IsCut us place
 cut_at_end us place past = ap (λ u. is_high_surrogate (slice_index us (place - 1)) && is_low_surrogate u) (get_or_past us place 0 past) ∙ none (is_high_surrogate (slice_index us (place - 1)))
   where
@@ -144,7 +145,7 @@ cut_before us place h = ap (λ b. is_high_surrogate (slice_index us (place - 1))
     none true = refl
     none false = refl
 
--- a front of what was read
+-- a first part of what was read
 pub front_read : (us into rest : List ℕ) (from n m : ℕ) → m ≤ n → from + n ≤ length us → into ≡ part us from n → take m (into ++ rest) ≡ part us from m
 front_read us into rest from n m less within read =
     let long = ap length read ∙ length-part us from n within in
@@ -156,7 +157,7 @@ last_read us into rest from n some within read =
     let long = ap length read ∙ length-part us from n within in
     get_or_append_left into rest 0 (n - 1) (omega (arith, long, some)) ∙ ap (λ l. get_or l (n - 1) 0) read ∙ get_or-part us from n (n - 1) 0 (omega (arith, some))
 
--- of the units of a text in a file
+-- units of a text in a file
 pub not_lone : (b : Bool) → true ≡ not b → b ≡ false
 not_lone false h = refl
 not_lone true h = cc h

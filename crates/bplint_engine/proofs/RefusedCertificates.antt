@@ -16,19 +16,19 @@ use Rattle.bplint_engine.specs.Output.{IsRefusal}
 use Rattle.bplint_engine.proofs.LowerFaults.{check_fault, octets_fault}
 use Rattle.bplint_engine.specs.Check.{CheckSays}
 
--- the bytes are not those of a certificate
+-- the bytes are no certificate
 pub octets_refused : (f cert : List ℕ) (refusal : CertRefusal) → IsCertRefusal cert refusal → IsRefusal (CheckSays f cert) (octets_fault refusal)
 octets_refused f cert (cert_refusals.Fault fault) first = inl first
 octets_refused f cert cert_refusals.Memory first = tt
 
--- the bytes are those of a certificate, and the check refuses it
+-- the bytes are a certificate, and the check refuses it
 pub check_refused : (f cert : List ℕ) (lists : Lists) (refusal : Refusal) → IsCertificate lists → cert ≡ octets_of lists
     → GivesRefusal (IsPairFault f lists) refusal → IsRefusal (CheckSays f cert) (check_fault refusal)
 check_refused f cert lists (refusals.Fault fault) is spelled first = inr (lists, is, spelled, first)
 check_refused f cert lists (refusals.Read _) is spelled first = tt
 check_refused f cert lists refusals.Memory is spelled first = tt
 
--- the same where there are no replies
+-- the same if there are no replies
 pub answer_refused : (f cert : List ℕ) (lists : Lists) (fault : AnswerFault) → IsCertificate lists → cert ≡ octets_of lists
     → RefusesBy (IsPairFault f lists) fault → IsRefusal (CheckSays f cert) (answer_fault fault)
 answer_refused f cert lists (answers.Fault fault) is spelled first = inr (lists, is, spelled, first)

@@ -1,61 +1,57 @@
 -- What a run leaves that sends its answer in parts.
-use Rattle.std.proofs.Common.{◌≡◌, ◌++◌, inr, ℕ, List, [], ◌∷◌, Option, Result, Ok, Err, length, arith, ap, refl, subst, sym}
+use Rattle.std.proofs.Common.{◌≡◌, ◌++◌, inl, inr, ℕ, List, [], ◌∷◌, Option, None, Result, Ok, Err, refl, subst, sym}
 use Rattle.std.specs.Prelude.{IfOk, IfErr}
-use Rattle.std.proofs.lemmas.List.{length-append}
 use Rattle.std.specs.List.{AllZip}
 use Rattle.bplist_objects.specs.declared.frame.Frame.{Frame}
 use Rattle.bplist_objects.specs.Holds.{Holds}
 use Rattle.bplist_objects.specs.Value.{Value}
 use Rattle.bplist_cursor.specs.declared.faults.CursorFault.{CursorFault}
+use Rattle.bplist_cursor.specs.declared.faults.CursorFault.TheVariants as cursor_faults
 use Rattle.bplist_cursor.specs.declared.found.Why.{Why}
 use Rattle.bplist_cursor.proofs.Causes.{IsExcused as IsCursorExcused}
 use Rattle.bplist_cursor.specs.Path.{IsPathOf}
-use Rattle.bplist_ascii.specs.Sending.{AtMost, SendsSome}
 use Rattle.bplint_lines.specs.declared.fault.RunFault.{RunFault}
 use Rattle.bplint_lines.specs.declared.fault.RunFault.TheVariants as faults
 use Rattle.bplint_lines.specs.declared.raw_fault.RawFault.{RawFault}
 use Rattle.bplint_lines.specs.declared.raw_fault.RawFault.TheVariants.{Run, NoRawForm}
 use Rattle.bplint_lines.specs.declared.said.Said.{Said}
 use Rattle.bplint_lines.specs.declared.said.Said.TheVariants.{SomeMissing}
-use Rattle.bplint_lines.specs.Answers.{Answer, gives}
+use Rattle.bplint_lines.specs.Answers.{Answer, LeavesSomeBy, gives}
 use Rattle.bplint_lines.specs.Faults.{IsExcused}
 use Rattle.bplint_lines.specs.OutputLines.{missing_line}
 use Rattle.bplint_engine.specs.declared.output.Output.{Output}
 use Rattle.bplint_engine.specs.Output.{Answers, IsRefusal}
 use Rattle.bplint_engine.specs.Raw.{IsRawless, LeadsToRawless, LeavesRawBy, PathShowsRaw, ShowsRaw}
-use Rattle.bplint_engine.specs.Streams.{Fails, LeavesSomeBy, begun}
+use Rattle.bplint_engine.specs.Streams.{Fails, begun}
 use Rattle.bplint_engine.specs.Tree.{ListsAll, PathLists}
 use Rattle.bplint_engine.proofs.PathAnswers.{IsThere, IsYes}
 use Rattle.bplint_engine.proofs.EqualAnswers.{same_gives}
-use Rattle.bplint_engine.proofs.LeftBytes.{begins_nothing, kept_self, said_as}
+use Rattle.bplint_engine.proofs.LeftBytes.{kept_self, said_within}
 use Rattle.bplint_engine.proofs.LowerFaults.{cursor_fault}
-use Rattle.bplint_engine.proofs.PrintAnswers.{cursor_stopped}
 
--- a first part went out, which is no longer than all
-most_of_some : (old new : Option (List ℕ)) (bytes : List ℕ) → SendsSome old new bytes → AtMost old new (length bytes)
-most_of_some old new bytes (gone, rest, added, is) = let long = ap length is in (gone, omega (arith, long, length-append gone rest), added)
-
--- an answer was cut
+-- only a first part of an answer was written
 pub some_failed : (Says : Answer → Type 0) (said : Said) (bytes : List ℕ) (old new : Option (List ℕ)) (fault : RunFault) → Says (gives said bytes)
     → Fails old new begun bytes fault → LeavesSomeBy Says old new (Err fault)
-some_failed Says said bytes old new (faults.Write sent) says part = (0, (said, bytes, says, part))
-some_failed Says said bytes old new (faults.Read _) says some = (length bytes, (most_of_some old new bytes some, inr (said, bytes, says, some)))
-some_failed Says said bytes old new faults.Memory says some = (length bytes, (most_of_some old new bytes some, inr (said, bytes, says, some)))
+some_failed Says said bytes old new (faults.Write sent) says part = (said, bytes, says, part)
+some_failed Says said bytes old new (faults.Read _) says some = (tt, inr (said, bytes, says, some))
+some_failed Says said bytes old new faults.Memory says some = (tt, inr (said, bytes, says, some))
 some_failed Says said bytes old new _ says h = absurd h
 
--- a read failed or memory was refused before anything went out
+-- a read failed or memory was refused before anything was written
 pub excused_leaves : (Says : Answer → Type 0) (old : Option (List ℕ)) (fault : RunFault) → IsExcused fault → LeavesSomeBy Says old old (Err fault)
-excused_leaves Says old (faults.Read _) h = (0, begins_nothing Says 0 old old (kept_self old))
-excused_leaves Says old faults.Memory h = (0, begins_nothing Says 0 old old (kept_self old))
+excused_leaves Says old (faults.Read _) h = (tt, inl (kept_self old))
+excused_leaves Says old faults.Memory h = (tt, inl (kept_self old))
 excused_leaves Says old _ h = absurd h
 
 pub cursor_leaves : (Says : Answer → Type 0) (old : Option (List ℕ)) (fault : CursorFault) → IsCursorExcused fault → LeavesSomeBy Says old old (Err (cursor_fault fault))
-cursor_leaves Says old fault h = (0, cursor_stopped Says 0 old fault h)
+cursor_leaves Says old (cursor_faults.Read _) h = (tt, inl (kept_self old))
+cursor_leaves Says old cursor_faults.Changed h = absurd (h refl)
+cursor_leaves Says old cursor_faults.Memory h = (tt, inl (kept_self old))
 
--- another way to say the answer
+-- the same under another description of the answer
 pub some_as : (P Q : Answer → Type 0) (old new : Option (List ℕ)) (result : Result Said RunFault) → ((a : Answer) → P a → Q a)
     → LeavesSomeBy P old new result → LeavesSomeBy Q old new result
-some_as P Q old new result to left = (left.0, said_as P Q left.0 old new result to left.1)
+some_as P Q old new result to left = said_within P Q None old new result to left
 
 pub raw_as : (P Q : Answer → Type 0) (R T : ℕ → Type 0) (old new : Option (List ℕ)) (result : Result Said RawFault) → ((a : Answer) → P a → Q a)
     → ((n : ℕ) → R n → T n) → LeavesRawBy P R old new result → LeavesRawBy Q T old new result
@@ -71,7 +67,7 @@ missing_made P step why (Ok output) to told _ = to (gives output.said output.byt
 missing_made P step why (Err fault) to _ memory = subst (IsRefusal P) (sym memory) tt
 
 -- ---- whole files
--- Says says yes of the file, and what is under the path was shown raw
+-- Says accepts the file, and what is under the path was shown raw
 pub raw_says : (Says : Answer → Type 0) (f text : List ℕ) (steps : List (List ℕ)) (F : Frame) (old new : Option (List ℕ)) (result : Result Said RawFault)
     → AllZip IsPathOf (text ∷ []) (steps ∷ []) → IsYes Says → IsThere f F
     → ((v : Value) → Holds f F F.top.0 v → LeavesRawBy (PathShowsRaw steps v) (LeadsToRawless f F steps v) old new result)
@@ -82,7 +78,7 @@ raw_says Says f text steps F old new result are (said, octets, says) (v, frame, 
     (λ n h. (steps, said, octets, F, v, are.0, says, frame, holds, h))
     (left v held)
 
--- the same of what was listed
+-- the same for what was listed
 pub lists_all : (limit : ℕ) (Says : Answer → Type 0) (f text : List ℕ) (steps : List (List ℕ)) (F : Frame) (old new : Option (List ℕ)) (result : Result Said RunFault)
     → AllZip IsPathOf (text ∷ []) (steps ∷ []) → IsYes Says → IsThere f F
     → ((v : Value) → Holds f F F.top.0 v → LeavesSomeBy (PathLists limit text steps v) old new result)

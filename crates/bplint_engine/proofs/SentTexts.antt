@@ -1,4 +1,4 @@
--- Texts that go out through a sink.
+-- Texts that are written through a sink.
 use Rattle.std.proofs.Common.{◌≡◌, ℕ, List, [], ap, append-nil, subst}
 use Rattle.std.specs.Prelude.{Option, Result, Ok, Err, MatchResult, OnOk, IfErr}
 use Rattle.std.specs.Io.KnownBytes.{Appends}
@@ -6,7 +6,7 @@ use Rattle.bplist_ascii.specs.declared.sink.WriteFault.{WriteFault}
 use Rattle.bplist_ascii.specs.Sending.{Sending, SendsPart, Takes, TakesPart}
 use Rattle.bplist_ascii.proofs.SinkSteps.{out_start, out_takes, out_end, out_part}
 
--- a sink that held a text is emptied
+-- a sink that held a text was flushed
 pub all_sent : (old mid new : Option (List ℕ)) (s t u : Sending) (bytes : List ℕ) (r : Result (Unit {0}) WriteFault) → s ≡ record { sent = 0; held = [] }
     → Takes old mid s t bytes → OnOk r (u.held ≡ []) → OnOk r (Takes mid new t u []) → IfErr r (λ fault. TakesPart mid new t [] fault.sent)
     → MatchResult r (λ _. Appends old new bytes) (λ fault. SendsPart old new 0 bytes fault.sent)

@@ -12,7 +12,7 @@ use Rattle.bplint_engine.specs.Tree.{joined_lines, named_members, tree_lines}
 use Rattle.bplint_engine.proofs.Puts.{fails_behind, stopped_behind}
 use Rattle.bplint_engine.proofs.TreeLines.{lines_of_all, tree_by_members}
 
--- all lines by the first
+-- all lines, given the first
 pub line_first : (name : List ℕ) (w : Value) → joined_lines (tree_lines name w) ≡ named_line name w ++ joined_lines (lines_of_all (named_members name w))
 line_first name w = ap joined_lines (tree_by_members name w)
 

@@ -1,4 +1,4 @@
--- The lines of a value and of all that it has, by its members.
+-- The lines of a value and everything inside it, by its members.
 use Rattle.std.proofs.Common.{◌≡◌, ◌<◌, ◌≤◌, ◌+◌, ◌*◌, ◌++◌, ◌∷◌, [], ◌∙◌, ℕ, zero, suc, List, drop, length, map, Some, Ok, ap, append-nil, arith, refl, sym}
 use Rattle.std.specs.Prelude.{option_map, slice_get}
 use Rattle.std.specs.List.{enumerate_from, flat_map}
@@ -33,28 +33,28 @@ dict_tree : (name : List ℕ) (i : ℕ) (ps : Pairs) → dict_lines name i ps �
 dict_tree name i no_pairs = refl
 dict_tree name i (pair u v ps) = ap (λ l. tree_lines (key_name name i u) v ++ l) (dict_tree name (i + 1) ps)
 
--- a value's own line, and then for each member its lines
+-- a value's own line, and then the lines of each member
 pub tree_by_members : (name : List ℕ) (w : Value) → tree_lines name w ≡ named_line name w ∷ lines_of_all (named_members name w)
 tree_by_members name (leaf l) = refl
 tree_by_members name (array vs) = ap (λ l. named_line name (array vs) ∷ l) (array_tree name 0 vs)
 tree_by_members name (set vs) = ap (λ l. named_line name (set vs) ∷ l) (set_tree 0 vs)
 tree_by_members name (dict ps) = ap (λ l. named_line name (dict ps) ∷ l) (dict_tree name 0 ps)
 
--- what `ls` has at a container is for each member its line
+-- what `ls` writes for a container is one line for each member
 pub listed_by_members : (name : List ℕ) (w : Value) → (IsLeaf w → ⊥) → listed name (Ok w) ≡ flat_map (λ m. named_line m.0 m.1) (named_members name w)
 listed_by_members name (leaf l) h = absurd (h tt)
 listed_by_members name (array vs) h = sym (flat_map-map (λ m. named_line m.0 m.1) (λ e. (index_name name e.0, e.1)) (enumerate_from 0 (members vs)))
 listed_by_members name (set vs) h = sym (flat_map-map (λ m. named_line m.0 m.1) (λ e. (bracketed e.0, e.1)) (enumerate_from 0 (members vs)))
 listed_by_members name (dict ps) h = sym (flat_map-map (λ m. named_line m.0 m.1) (λ e. (key_name name e.0 e.1.0, e.1.1)) (enumerate_from 0 (entries ps)))
 
--- of a leaf there is its own line
+-- a leaf has only its own line
 pub listed_leaf : (name : List ℕ) (w : Value) → IsLeaf w → listed name (Ok w) ≡ joined_lines (tree_lines name w)
 listed_leaf name (leaf l) is = sym (append-nil (named_line name (leaf l)))
 listed_leaf name _ is = absurd is
 
 -- ---- how many lines there are
 mutual
-  -- no more than nodes
+  -- there are no more lines than nodes
   pub tree_few : (name : List ℕ) (w : Value) → length (tree_lines name w) ≤ nodes w
   tree_few name (leaf l) = omega arith
   tree_few name (array vs) = let few = array_few name 0 vs in omega (arith, few)
@@ -86,7 +86,7 @@ length-entries : (ps : Pairs) → length (entries ps) ≡ length (keys ps)
 length-entries no_pairs = refl
 length-entries (pair u v ps) = ap suc (length-entries ps)
 
--- as many members as the container has
+-- there are as many named members as the container has members
 pub length-named : (kind : Members) (n : ℕ) (name : List ℕ) (w : Value) → IsContainer kind n w → length (named_members name w) ≡ n
 length-named Array n name (array vs) is = length-map (enumerate_from 0 (members vs)) (λ e. (index_name name e.0, e.1)) ∙ length-enumerate_from 0 (members vs) ∙ is
 length-named Set n name (set vs) is = length-map (enumerate_from 0 (members vs)) (λ e. (bracketed e.0, e.1)) ∙ length-enumerate_from 0 (members vs) ∙ is
@@ -135,7 +135,7 @@ set_named n i (set vs) is within =
     )
 set_named n i _ is within = absurd is
 
--- a key of a dictionary, its value, and the name of that
+-- a key of a dictionary, its value, and the name of the value
 pub dict_named : (n i : ℕ) (w : Value) → IsContainer Dict n w → i < n
     → (u : List ℕ) × (m : Value) × (member_of w (2 * i) ≡ Some (leaf (text u))) × (member_of w (2 * i + 1) ≡ Some m)
     × ((name : List ℕ) → slice_get (named_members name w) i ≡ Some (key_name name i u, m))
@@ -159,11 +159,11 @@ drop_at [] i x e = cc e
 drop_at (y ∷ ys) zero x e = let same : y ≡ x = cc e in ap (λ z. z ∷ ys) same
 drop_at (y ∷ ys) (suc i) x e = drop_at ys i x e ∙ (let step : suc (i + 1) ≡ suc i + 1 = omega arith in ap (λ j. x ∷ drop j (y ∷ ys)) step)
 
--- the next member's lines, and those of the members behind it
+-- the next member's lines, and those of the members after it
 pub lines_next : (ms : List (List ℕ × Value)) (i : ℕ) (name : List ℕ) (m : Value) → slice_get ms i ≡ Some (name, m)
     → lines_of_all (drop i ms) ≡ tree_lines name m ++ lines_of_all (drop (i + 1) ms)
 lines_next ms i name m e = ap lines_of_all (drop_at ms i (name, m) e)
 
--- behind the last member there are none
+-- there are no lines after the last member
 pub lines_end : (ms : List (List ℕ × Value)) (i : ℕ) → length ms ≤ i → lines_of_all (drop i ms) ≡ []
 lines_end ms i past = ap lines_of_all (drop_all i ms past)

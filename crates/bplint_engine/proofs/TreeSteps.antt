@@ -1,4 +1,4 @@
--- What is left to list, step by step.
+-- What a recursive listing still has to list, step by step.
 use Rattle.std.proofs.Common.{IsTrue, ◌≡◌, ◌≤◌, ◌+◌, ◌++◌, ◌∷◌, [], ◌∙◌, ℕ, List, drop, length, take, Some, Option, Result, Ok, Err, ap, append_assoc, append-nil, arith, refl, subst, sym}
 use Rattle.std.specs.Prelude.{MatchResult, reverse, slice_get}
 use Rattle.std.proofs.lemmas.List.{drop-append-le, length-append, length-take, length-take-le, reverse-append, take_all, take-take}
@@ -19,7 +19,7 @@ use Rattle.bplint_engine.specs.TreeWalks.{AreOpen, GoesOn, IsOpen, OpenedLeft, S
 use Rattle.bplint_engine.proofs.Puts.{fails_behind}
 use Rattle.bplint_engine.proofs.TreeLines.{length-named, lines_end, lines_next, lines_of_all, tree_by_members}
 
--- lines, and then more
+-- lines, and then more lines
 pub joined_more : (xs ys : List (List ℕ)) → joined_lines (xs ++ ys) ≡ joined_lines xs ++ joined_lines ys
 joined_more xs ys = flat_map-append (λ line. line) xs ys
 
@@ -27,11 +27,11 @@ joined_more xs ys = flat_map-append (λ line. line) xs ys
 pub joined_one : (line : List ℕ) → joined_lines (line ∷ []) ≡ line
 joined_one line = append-nil line
 
--- a front of a front
+-- a first part of a first part
 front : (m n : ℕ) (xs : List ℕ) → m ≤ length (take n xs) → take m (take n xs) ≡ take m xs
 front m n xs within = let long = length-take n xs in take-take m n xs (omega (arith, within, long))
 
--- containers whose names are in a front of these bytes
+-- containers whose names are in a first part of these bytes
 pub open_in_all : (F : Frame) (n : ℕ) (names : List ℕ) (os : List Opened) → AreOpen F (take n names) os → AreOpen F names os
 open_in_all F n names [] are = tt
 open_in_all F n names (o ∷ os) (first, rest) =
@@ -41,7 +41,7 @@ open_in_all F n names (o ∷ os) (first, rest) =
       subst (λ t. AreOpen F t os) (front o.name.«end» n names within) rest,
     )
 
--- the names of a container and of those round it are the same
+-- the names of a container and of those around it are unchanged
 pub open_same : (F : Frame) (names names' : List ℕ) (o : Opened) (os : List Opened) → take o.name.«end» names' ≡ take o.name.«end» names
     → o.name.«end» ≤ length names' → AreOpen F names (o ∷ os) → AreOpen F names' (o ∷ os)
 open_same F names names' o os same within (first, rest) = (
@@ -58,11 +58,11 @@ open_next F names names' o os i few same within (first, rest) = (
   subst (λ t. AreOpen F t os) (sym same) rest,
 )
 
--- a container whose name is all of these bytes from its beginning on stands on those before
+-- a container whose name ends these bytes can be pushed on the others
 pub open_push : (F : Frame) (names : List ℕ) (o : Opened) (os : List Opened) → o.name.«end» ≡ length names → IsOpen F names o → AreOpen F names os → AreOpen F names (o ∷ os)
 open_push F names o os last first rest = (first, subst (λ t. AreOpen F t os) (sym (take_all o.name.«end» names (omega (arith, last)))) rest)
 
--- a name that goes on from another, or stands alone
+-- a name that extends another one, or begins after it
 pub name_on : (text suffix : List ℕ) (start «end» : ℕ) → start ≤ «end» → «end» ≤ length text
     → drop start (take (length (take «end» text ++ suffix)) (take «end» text ++ suffix)) ≡ drop start (take «end» text) ++ suffix
 name_on text suffix start «end» order within =
@@ -86,7 +86,7 @@ module _ (checked : CheckedFile) where
   left_in_all F n names [] left are is = is
   left_in_all F n names (o ∷ os) left (first, rest) is = left_same (take n names) names o os left (sym (front o.name.«end» n names first.name.1)) is
 
-  -- a container stands on the others
+  -- a container is pushed on the others
   pub left_push : (names : List ℕ) (o : Opened) (os : List Opened) (own left : List (List ℕ)) → o.name.«end» ≡ length names
       → OpenedLeft checked (name_in names o.name) o own → StackLeft checked names os left → StackLeft checked names (o ∷ os) (own ++ left)
   left_push names o os own left last opened stack = (
@@ -97,7 +97,7 @@ module _ (checked : CheckedFile) where
     refl,
   )
 
-  -- nothing is left of the container on top
+  -- the container on top has nothing left to list
   pub left_end : (F : Frame) (names : List ℕ) (o : Opened) (os : List Opened) (left : List (List ℕ)) → o.next ≡ o.count → AreOpen F names (o ∷ os)
       → StackLeft checked names (o ∷ os) left → StackLeft checked names os left
   left_end F names o os left last (first, rest) (own, outer, (w, head, is, own_is), stack, all) =
@@ -105,7 +105,7 @@ module _ (checked : CheckedFile) where
       let none = own_is ∙ lines_end (named_members (name_in names o.name) w) o.next (omega (arith, last, count)) in
       subst (StackLeft checked names os) (sym (all ∙ ap (λ l. l ++ outer) none)) (left_in_all F o.name.«end» names os outer rest stack)
 
-  -- what is left are the next member's lines, and what is left behind it
+  -- the next member's lines are left, and then everything after it
   pub record Next (names : List ℕ) (o : Opened) (os : List Opened) (left : List (List ℕ)) (name : List ℕ) (m : Value) : Type 0 where
     pub rest : List (List ℕ)
     pub stands : (i : ℕ) → i ≡ o.next + 1
@@ -128,7 +128,7 @@ module _ (checked : CheckedFile) where
       }
 
   -- ---- what was put in
-  -- lines, and then more
+  -- lines, and then more lines
   pub goes_more : (old mid new : Option (List ℕ)) (a b d c : Listing) (lines : List (List ℕ)) → d.sink ≡ b.sink → d.room ≡ b.room
       → (p : GoesOn checked old mid a b lines) → GoesOn checked mid new d c p.rest → GoesOn checked old new a c lines
   goes_more old mid new a b d c lines sink room p q = record {
@@ -140,7 +140,7 @@ module _ (checked : CheckedFile) where
     is = p.is ∙ ap (λ l. p.written ++ l) q.is ∙ sym (append_assoc p.written q.written q.rest);
   }
 
-  -- after the first lines a fault came
+  -- a fault came after the first lines
   pub goes_fail : (old mid new : Option (List ℕ)) (a b d : Listing) (lines : List (List ℕ)) (fault : RunFault) → d.sink ≡ b.sink → d.room ≡ b.room
       → (p : GoesOn checked old mid a b lines) → (length p.rest ≤ d.room → Fails mid new d.sink (joined_lines p.rest) fault) → length lines ≤ a.room
       → Fails old new a.sink (joined_lines lines) fault
@@ -151,7 +151,7 @@ module _ (checked : CheckedFile) where
       (subst (λ s. Fails mid new s (joined_lines p.rest) fault) sink (fails (omega (arith, x, long, few, room, length-append p.written p.rest))))
       (ap joined_lines p.is ∙ joined_more p.written p.rest ∙ ap (λ l. joined_lines p.written ++ l) (sym (append-nil (joined_lines p.rest))))
 
-  -- with an empty stack all lines were put in
+  -- if the stack is empty, all lines were put in
   pub goes_all : {old new : Option (List ℕ)} {a b : Listing} {lines : List (List ℕ)} → reverse b.stack.items ≡ [] → GoesOn checked old new a b lines
       → Takes old new a.sink b.sink (joined_lines lines)
   goes_all {old} {new} {a} {b} {lines} empty p =
@@ -175,7 +175,7 @@ module _ (checked : CheckedFile) where
   begun_leaf old new a b name (set vs) left is takes room names stack stands = absurd is
   begun_leaf old new a b name (dict ps) left is takes room names stack stands = absurd is
 
-  -- the line of a container was put in, and the container was opened
+  -- the line of a container was put in, and the container was pushed
   pub begun_container : (old new : Option (List ℕ)) (a b : Listing) (o : Opened) (w : Value) (left : List (List ℕ)) → IsHeadFor checked o.head w
       → IsContainer o.members o.count w → o.next ≡ 0 → o.name.«end» ≡ length a.names
       → Takes old new a.sink b.sink (named_line (name_in a.names o.name) w) → b.room + 1 ≡ a.room → b.names ≡ a.names → b.stack.items ≡ a.stack.items ++ o ∷ []
@@ -195,7 +195,7 @@ module _ (checked : CheckedFile) where
         is = ap (λ l. l ++ left) (tree_by_members name w);
       }
 
-  -- nothing is left of the container on top, and nothing was put in
+  -- the container on top has nothing left, and nothing was put in
   pub step_ends : (F : Frame) (now : Option (List ℕ)) (a : Listing) (o : Opened) (left : List (List ℕ)) → o.next ≡ o.count
       → AreOpen F a.names (o ∷ reverse a.stack.items) → StackLeft checked a.names (o ∷ reverse a.stack.items) left → GoesOn checked now now a a left
   step_ends F now a o left last are stands = record {
@@ -229,7 +229,7 @@ module _ (checked : CheckedFile) where
       fails_behind old old new (joined_lines lines) (joined_lines rest) (joined_lines left) fault (takes_nothing old a.sink)
       (subst (λ s. Fails old new s (joined_lines lines) fault) sink part) (ap joined_lines is ∙ joined_more lines rest)
 
-  -- ---- one step, by what it says of a file that is the same
+  -- ---- one step, for a checked file that is the same
   pub step_more : (file : CheckedFile) → file ≡ checked → (old mid new : Option (List ℕ)) (a b d c : Listing) (os : List Opened) (lines : List (List ℕ))
       → reverse b.stack.items ≡ os → d.sink ≡ b.sink → d.room ≡ b.room → GoesOn checked old mid a b lines → IsTrue checked.source.honest
       → (IsTrue file.source.honest → (left : List (List ℕ)) → StackLeft file b.names os left → GoesOn file mid new d c left) → GoesOn checked old new a c lines

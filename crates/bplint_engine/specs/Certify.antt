@@ -12,11 +12,11 @@ use Rattle.bplint_lines.specs.declared.said.Said.TheVariants.{All}
 use Rattle.bplint_lines.specs.Answers.{Answer, gives, refuses}
 use Rattle.bplint_engine.specs.Lint.{LintSays}
 
--- a certificate's bytes, or their hexadecimal text with a line feed
+-- a certificate's bytes, or their hexadecimal text and a line feed
 abbrev pub written : Bool → List ℕ → List ℕ
 written hex octets = if hex then encode_lower octets ++ codes "\n" else octets
 
--- `certify` answers the certificate of the least heights, or with `sorted` one with these heights and key lists
+-- `certify` writes the certificate of the least heights, or with `sorted` one with these heights and key lists
 abbrev pub CertifySays : Bool → Bool → List ℕ → Answer → Type 0
 CertifySays sorted hex f (gives said bytes) = (F : Frame) × (lint : Lint) × (lists : Lists) × IsFrame f F × IsLintedBy f F lint
     × MatchBool sorted (IsCertificate lists × ∥ IsUpgraded f F lint.certificate.heights lists ∥₁) (lists ≡ lint.certificate)

@@ -10,11 +10,11 @@ use Rattle.bplint_lines.specs.declared.said.Said.TheVariants.{All}
 use Rattle.bplint_lines.specs.Answers.{Answer, gives, refuses}
 use Rattle.bplint_lines.specs.OutputLines.{check_line}
 
--- decoding these bytes gave this: the certificate that has them, or why they are none
+-- the result of decoding these bytes: the certificate that has them, or why no certificate has them
 abbrev pub IsDecoded : List ℕ → Result Lists CertRefusal → Type 0
 IsDecoded cert decoded = MatchResult decoded (λ lists. IsCertificate lists × (cert ≡ octets_of lists)) (IsCertRefusal cert)
 
--- `check` answers the number of objects and the top's height, or the first fault of certificate bytes and file
+-- `check` writes the number of objects and the top's height, or returns the first fault of certificate bytes and file
 abbrev pub CheckSays : List ℕ → List ℕ → Answer → Type 0
 CheckSays f cert (gives said bytes) = (F : Frame) × (lists : Lists) × IsVouchedFor f cert F lists × (said ≡ All)
     × (bytes ≡ check_line F.objects (slice_index lists.heights F.top.0) ++ codes "\n")

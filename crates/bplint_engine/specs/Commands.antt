@@ -1,9 +1,9 @@
--- What is asked of a command. Source: profile.
+-- What a caller asks the engine to do. Source: profile.
 use Rattle.std.specs.Prelude.{◌≡◌, ℕ, Bool, List, length}
 use Rattle.bplint_engine.specs.declared.command.Verb.{Verb}
 use Rattle.bplint_engine.specs.declared.command.Verb.TheVariants.{Print}
 
--- a command: verb, path texts, limit of Print, whether inputs are hexadecimal, whether Certify sorts
+-- a command: verb, path texts, limit of Print, whether inputs are hexadecimal, whether Certify writes key lists
 pub record Asked : Type 0 where
   pub verb : Verb
   pub paths : List (List ℕ)

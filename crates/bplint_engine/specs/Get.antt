@@ -17,16 +17,16 @@ use Rattle.bplint_lines.specs.Answers.{Answer, gives}
 use Rattle.bplint_lines.specs.OutputLines.{face_line, missing_line}
 use Rattle.bplint_engine.specs.PathTexts.{ForPaths}
 
--- the line of the value that a path leads to, or of a path that leads nowhere
+-- the line of the value under a path, or of a path that leads nowhere
 abbrev pub found_line : Result Value (ℕ × Why) → List ℕ
 found_line (Ok w) = face_line (face w) ++ codes "\n"
 found_line (Err (step, why)) = missing_line step why ++ codes "\n"
 
--- whether a path leads nowhere
+-- whether some path leads nowhere
 abbrev pub said_of : List (Result Value (ℕ × Why)) → Said
 said_of found = if list_any is_err found then SomeMissing else All
 
--- lines for what the paths lead to, one after the other, in a file of which Says says yes
+-- the answer is the lines of what the paths lead to, one after the other, if Says accepts the file
 abbrev pub LinesSay : (Result Value (ℕ × Why) → List ℕ) → (Answer → Type 0) → List ℕ → List (List ℕ) → Answer → Type 0
 LinesSay lines Says f texts = ForPaths Says f texts (λ paths v answer.
     answer ≡ gives (said_of (map (look 0 v) paths)) (flat_map lines (map (look 0 v) paths)))
@@ -38,15 +38,15 @@ reply_line (Face face) = face_line face ++ codes "\n"
 reply_line (Missing step why) = missing_line step why ++ codes "\n"
 reply_line _ = []
 
--- the reply says that the path leads nowhere
+-- true if the reply says that the path leads nowhere
 abbrev pub is_missing : Reply → Bool
 is_missing reply = elim reply [ Missing step why ↦ true | _ ↦ false ]
 
--- what is said of replies
+-- whether some reply says that a path leads nowhere
 abbrev pub replies_said : List Reply → Said
 replies_said replies = if list_any is_missing replies then SomeMissing else All
 
--- the fault of a run for that of the replies
+-- the fault of a run for each fault of the cursor
 abbrev pub answer_fault : AnswerFault → RunFault
 answer_fault (answers.Fault broken) = faults.Fault broken
 answer_fault (answers.Read failed) = faults.Read failed

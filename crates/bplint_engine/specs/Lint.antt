@@ -10,7 +10,7 @@ use Rattle.bplint_lines.specs.declared.fault.RunFault.TheVariants.{Circle, Fault
 use Rattle.bplint_lines.specs.Answers.{Answer, gives, refuses}
 use Rattle.bplint_lines.specs.OutputLines.{lint_line}
 
--- `lint` answers how many objects are reached, the top's least height and its kind, or the first broken rule or the circle
+-- `lint` writes the number of reachable objects, the top's least height and kind, or returns the first fault or circle
 abbrev pub LintSays : List ℕ → Answer → Type 0
 LintSays f (gives said bytes) = (lint : Lint) × (kind : Kind) × IsLintedWithKind f lint kind × (said ≡ All)
     × (bytes ≡ lint_line lint.reached lint.height kind ++ codes "\n")

@@ -19,14 +19,14 @@ abbrev pub IsLeaf : Value → Type 0
 IsLeaf (leaf l) = ⊤
 IsLeaf _ = ⊥
 
--- the value is a container of this kind with so many members, or pairs
+-- the value is a container of this kind with n members, or n pairs
 abbrev pub IsContainer : Members → ℕ → Value → Type 0
 IsContainer Array n (array vs) = length (members vs) ≡ n
 IsContainer Set n (set vs) = length (members vs) ≡ n
 IsContainer Dict n (dict ps) = length (keys ps) ≡ n
 IsContainer _ n w = ⊥
 
--- an object that is vouched for holds the value, and has this head
+-- some vouched object holds the value and has this head
 abbrev pub IsHeadFor : CheckedFile → Head → Value → Type 0
 IsHeadFor checked head w =
     (n : ℕ) × IsVouchedBy checked.certificate.heights n × Holds checked.source.octets checked.frame n w
@@ -36,17 +36,17 @@ IsHeadFor checked head w =
 abbrev pub named_line : List ℕ → Value → List ℕ
 named_line name w = name ++ codes "\t" ++ found_line (Ok w)
 
--- the line of a member, if there is one
+-- the line of a member, or no bytes if there is no member
 abbrev pub line_of_member : List ℕ → Option Value → List ℕ
 line_of_member name None = []
 line_of_member name (Some w) = named_line name w
 
--- the line of a key's value, if there is one
+-- the line of a key's value, or no bytes if there is none
 abbrev pub line_of_pair : List ℕ → ℕ → Option Value → Option Value → List ℕ
 line_of_pair path i (Some (leaf (text units))) member = line_of_member (key_name path i units) member
 line_of_pair path i _ member = []
 
--- the line of member or pair i; a leaf has none
+-- the line of member or pair i; a leaf has no members
 abbrev pub member_line : List ℕ → Value → ℕ → List ℕ
 member_line path (leaf l) i = []
 member_line path (array vs) i = line_of_member (index_name path i) (member_of (array vs) i)
@@ -58,7 +58,7 @@ abbrev pub first_lines : List ℕ → Value → ℕ → List ℕ
 first_lines path w zero = []
 first_lines path w (suc n) = first_lines path w n ++ member_line path w n
 
--- the lines of a found value's members, or of the leaf, or of a path that leads nowhere
+-- the lines of the members of the value, or of the leaf, or of a path that leads nowhere
 abbrev pub listed : List ℕ → Result Value (ℕ × Why) → List ℕ
 listed path (Ok (leaf l)) = named_line path (leaf l)
 listed path (Ok (array vs)) = flat_map (λ e. named_line (index_name path e.0) e.1) (enumerate_from 0 (members vs))

@@ -1,16 +1,16 @@
--- Names that stand one behind the other. Source: profile.
+-- Names that follow one another in a buffer. Source: profile.
 use Rattle.std.specs.Prelude.{◌≡◌, ℕ, ◌≤◌, List, length, take, drop}
 use Rattle.bplint_engine.specs.declared.names.Name.{Name}
 
--- the name stands in these bytes
+-- the range of the name is in these bytes
 abbrev pub IsNameIn : List ℕ → Name → Type 0
 IsNameIn text name = (name.start ≤ name.«end») × (name.«end» ≤ length text)
 
--- the name
+-- the bytes of the name
 abbrev pub name_in : List ℕ → Name → List ℕ
 name_in text name = drop name.start (take name.«end» text)
 
--- the bytes end with a further name, and are the same up to the end of the one that it is behind
+-- the new bytes end with a further name, and agree with the old ones up to the end of the name before it
 pub record Extends (old new : List ℕ) (behind name : Name) : Type 0 where
   pub same : take behind.«end» new ≡ take behind.«end» old
   pub order : name.start ≤ name.«end»

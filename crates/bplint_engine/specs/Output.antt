@@ -1,4 +1,4 @@
--- What a command has to write, or why not, and sending it.
+-- The output or fault of a command, and how it is sent. Source: profile.
 use Rattle.std.specs.Prelude.{◌≡◌, ℕ, List, Bool, Option, Result, Ok, Err}
 use Rattle.std.specs.Io.KnownBytes.{Appends, Keeps}
 use Rattle.bplist_ascii.specs.Sending.{SendsPart}
@@ -12,19 +12,19 @@ use Rattle.bplint_engine.specs.declared.output.Output.{Output}
 abbrev pub is_read : RunFault → Bool
 is_read fault = read_failed {X = Unit {0}} (Err fault)
 
--- a fault before anything is written; nothing is said of a failed read or of refused memory
+-- this fault may come before anything is written; a failed read or refused memory may always come
 abbrev pub IsRefusal : (Answer → Type 0) → RunFault → Type 0
 IsRefusal Says (faults.Write _) = ⊥
 IsRefusal Says (faults.Read _) = Unit {0}
 IsRefusal Says faults.Memory = Unit {0}
 IsRefusal Says fault = Says (refuses fault)
 
--- bytes to write, or a fault, are the answer
+-- these bytes, or this fault, are the answer
 abbrev pub Answers : (Answer → Type 0) → Result Output RunFault → Type 0
 Answers Says (Ok output) = Says (gives output.said output.bytes.items)
 Answers Says (Err fault) = IsRefusal Says fault
 
--- what was made is sent: all its bytes went out, or where a write failed a first part of them; of a fault nothing does
+-- the output was sent: all of its bytes, or a first part of them if a write failed; a fault sends nothing
 abbrev pub Sends : Option (List ℕ) → Option (List ℕ) → Result Output RunFault → Result Said RunFault → Type 0
 Sends old new (Ok output) (Ok said) = (said ≡ output.said) × Appends old new output.bytes.items
 Sends old new (Ok output) (Err fault) = (sent : ℕ) × (fault ≡ faults.Write sent) × SendsPart old new 0 output.bytes.items sent

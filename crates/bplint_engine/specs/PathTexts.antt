@@ -1,4 +1,4 @@
--- Path texts, and what is said where paths of a file are asked for. Source: profile.
+-- Path texts, and the answer to a command that has some. Source: profile.
 use Rattle.std.specs.Prelude.{◌≡◌, ◌⊎◌, ℕ, List, [], ◌∷◌}
 use Rattle.std.specs.List.{AllZip}
 use Rattle.bplist_objects.specs.File.{FileHolds}
@@ -13,13 +13,13 @@ abbrev pub IsWrongAmong : List (List ℕ) → ℕ → Type 0
 IsWrongAmong [] place = ⊥
 IsWrongAmong (text ∷ texts) place = IsNoPath text place ⊎ ((steps : List (List ℕ)) × IsPathOf text steps × IsWrongAmong texts place)
 
--- what is asked for path texts is answered: the first wrong one, else the fault with which Says refuses the file, or where Says
--- says yes of it, what P says of the paths and the file's value
+-- the answer for path texts: the first wrong text, or the refusal of the file by Says, or what P says of paths and
+-- value
 abbrev pub ForPaths : (Answer → Type 0) → List ℕ → List (List ℕ) → (List (List (List ℕ)) → Value → Answer → Type 0) → Answer → Type 0
 ForPaths Says f texts P answer = ((place : ℕ) × IsWrongAmong texts place × (answer ≡ refuses (Path place)))
     ⊎ ((paths : List (List (List ℕ))) × (own : Answer) × AllZip IsPathOf texts paths × Says own
     × elim own as (λ _. Type 0) [ refuses fault ↦ answer ≡ own | gives said bytes ↦ (v : Value) × FileHolds f v × P paths v answer ])
 
--- P holds of the place of a wrong path text, nothing is said of refused memory, and no other fault comes
+-- a wrong path text is wrong at a place of which P holds; refused memory may always come, and no other fault comes
 abbrev pub OnPath : (ℕ → Type 0) → RunFault → Type 0
 OnPath P fault = elim fault [ Path place ↦ P place | Memory ↦ Unit {0} | _ ↦ ⊥ ]

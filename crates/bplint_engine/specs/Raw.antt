@@ -1,5 +1,5 @@
--- What `show --raw` says: the bytes of data, the UTF-8 of a text, the digits of an integer or a UID, the word of a truth
--- value. Source: profile.
+-- What `show --raw` says: bytes of data, UTF-8 of a text, digits of an integer or UID, `true` or `false`. Source:
+-- profile.
 use Rattle.std.specs.Prelude.{◌≡◌, ℕ, ◌∷◌, List, [], codes, Bool, true, false, if◌then◌else◌, Option, None, Some, Result, Ok, Err, MatchOption, MatchResult, encode_utf8_all, ⊤}
 use Rattle.std.specs.Char.Utf16.{has_unpaired_surrogate, utf16_lossy_chars}
 use Rattle.std.specs.Fmt.{decimal, signed_decimal}
@@ -22,18 +22,17 @@ use Rattle.bplint_lines.specs.declared.raw_fault.RawFault.{RawFault}
 use Rattle.bplint_lines.specs.declared.raw_fault.RawFault.TheVariants.{Run, NoRawForm}
 use Rattle.bplint_lines.specs.declared.said.Said.{Said}
 use Rattle.bplint_lines.specs.declared.said.Said.TheVariants.{All, SomeMissing}
-use Rattle.bplint_lines.specs.Answers.{Answer, gives, refuses}
+use Rattle.bplint_lines.specs.Answers.{Answer, gives, refuses, LeavesSomeBy}
 use Rattle.bplint_engine.specs.declared.raw_form.Raw.{Raw}
 use Rattle.bplint_engine.specs.declared.raw_form.Raw.TheVariants.{Data, Text, Word}
 use Rattle.bplint_engine.specs.Get.{found_line}
 use Rattle.bplint_engine.specs.PathTexts.{ForPaths}
-use Rattle.bplint_engine.specs.Streams.{LeavesSomeBy}
 
--- the UTF-8 of a text with these units, none if a surrogate has no partner
+-- the UTF-8 of a text with these units, or none if a surrogate has no partner
 abbrev pub utf8_text : List ℕ → Option (List ℕ)
 utf8_text units = if has_unpaired_surrogate units then None else Some (encode_utf8_all (utf16_lossy_chars units))
 
--- the raw bytes of a value, if it has some
+-- the raw bytes of a value, if it has any
 abbrev pub raw_bytes : Value → Option (List ℕ)
 raw_bytes (leaf (bytes l)) = Some l
 raw_bytes (leaf (text units)) = utf8_text units
@@ -42,7 +41,7 @@ raw_bytes (leaf (uid x)) = Some (decimal x)
 raw_bytes (leaf (boolean b)) = Some (if b then codes "true" else codes "false")
 raw_bytes _ = None
 
--- the raw bytes are the answer
+-- the answer is the raw bytes of the value
 abbrev pub NodeShowsRaw : Value → Answer → Type 0
 NodeShowsRaw w (gives said octets) = (said ≡ All) × (raw_bytes w ≡ Some octets)
 NodeShowsRaw w (refuses _) = ⊥
@@ -52,7 +51,7 @@ abbrev pub PathShowsRaw : List (List ℕ) → Value → Answer → Type 0
 PathShowsRaw steps v answer = MatchResult (look 0 v steps) (λ w. NodeShowsRaw w answer)
     (λ missing. answer ≡ gives SomeMissing (found_line (Err missing)))
 
--- the answer for one path text, in a file of which Says says yes
+-- the answer for one path text, if Says accepts the file
 abbrev pub ShowsRaw : (Answer → Type 0) → List ℕ → List ℕ → Answer → Type 0
 ShowsRaw Says f path = ForPaths Says f (path ∷ [])
     (λ paths v answer. (steps : List (List ℕ)) × (paths ≡ steps ∷ []) × PathShowsRaw steps v answer)
@@ -61,16 +60,16 @@ ShowsRaw Says f path = ForPaths Says f (path ∷ [])
 abbrev pub LeadsToRawless : List ℕ → Frame → List (List ℕ) → Value → ℕ → Type 0
 LeadsToRawless f F steps v n = (w : Value) × LeadTo f F F.top.0 steps n × (look 0 v steps ≡ Ok w) × (raw_bytes w ≡ None)
 
--- the same of the path of a text, in a file of which Says says yes
+-- the same for the path of a text, if Says accepts the file
 abbrev pub IsRawless : (Answer → Type 0) → List ℕ → List ℕ → ℕ → Type 0
 IsRawless Says f path n = (steps : List (List ℕ)) × (said : Said) × (octets : List ℕ) × (F : Frame) × (v : Value)
     × IsPathOf path steps × Says (gives said octets) × IsFrame f F × FileHolds f v × LeadsToRawless f F steps v n
 
--- the answer is a failed read
+-- true if the result is a failed read
 abbrev pub raw_read_failed : {X : Type 0} → Result X RawFault → Bool
 raw_read_failed answer = elim answer [ Err (Run (faults.Read _)) ↦ true | _ ↦ false ]
 
--- what a run of which no bytes are counted leaves with the writer: what another run leaves, or that nothing has raw bytes
+-- what a run leaves with the writer: what LeavesSomeBy allows, or nothing if the value has no raw bytes
 abbrev pub LeavesRawBy : (Answer → Type 0) → (ℕ → Type 0) → Option (List ℕ) → Option (List ℕ) → Result Said RawFault → Type 0
 LeavesRawBy Says Rawless old new (Ok said) = LeavesSomeBy Says old new (Ok said)
 LeavesRawBy Says Rawless old new (Err (Run fault)) = LeavesSomeBy Says old new (Err fault)
@@ -83,22 +82,22 @@ raw_in f (Data head) = part f head.body head.count
 raw_in f (Text head) = encode_utf8_all (utf16_lossy_chars (units_of f head))
 raw_in f (Word word) = word.items
 
--- a body that is sent lies in a file of so many bytes
+-- the body that is sent lies in a file of `len` bytes
 abbrev pub IsSafeRaw : ℕ → Raw → Type 0
 IsSafeRaw len (Data head) = (head.kind ≡ data_kind) × IsSafeBody len head
 IsSafeRaw len (Text head) = IsTextKind head.kind × IsSafeBody len head
 IsSafeRaw len (Word word) = ⊤
 
--- each surrogate of a text that is sent has its partner
+-- each surrogate of the text that is sent has its partner
 abbrev pub IsPairedRaw : List ℕ → Raw → Type 0
 IsPairedRaw f (Text head) = has_unpaired_surrogate (units_of f head) ≡ false
 IsPairedRaw f _ = ⊤
 
--- what is sent are the raw bytes of the value, or it has none
+-- the bytes that are sent are the raw bytes of the value, or it has none
 abbrev pub IsRawOf : List ℕ → Value → Option Raw → Type 0
 IsRawOf f w found = MatchOption found (raw_bytes w ≡ None) (λ raw. (raw_bytes w ≡ Some (raw_in f raw)) × IsPairedRaw f raw)
 
--- the word or the digits of what a value shows, if these are its raw bytes
+-- the word or the digits for a face, if these are the raw bytes of its value
 abbrev pub raw_word : Face → Option (List ℕ)
 raw_word (faces.Bool b) = Some (if b then codes "true" else codes "false")
 raw_word (faces.Int i) = Some (signed_decimal i)

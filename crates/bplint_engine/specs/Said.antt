@@ -1,4 +1,4 @@
--- What a run says. Source: profile.
+-- What a run says: the answer to each command. Source: profile.
 use Rattle.std.specs.Prelude.{◌≡◌, ℕ, List, [], Bool, true, false, MatchResult, if◌then◌else◌}
 use Rattle.bplint_engine.specs.declared.command.Verb.{Verb}
 use Rattle.bplint_engine.specs.declared.command.Verb.TheVariants.{Lint, Check, Get, Certify, Print}
@@ -12,7 +12,7 @@ use Rattle.bplint_engine.specs.Hexadecimal.{spelled}
 use Rattle.bplint_engine.specs.Lint.{LintSays}
 use Rattle.bplint_engine.specs.Print.{PrintSays}
 
--- a command's answer for a file and certificate bytes
+-- the answer to a command for a file and the bytes of a certificate
 abbrev pub Says : Asked → List ℕ → List ℕ → Answer → Type 0
 Says command f cert answer = elim command.verb [
   | Lint ↦ LintSays f answer
@@ -22,19 +22,19 @@ Says command f cert answer = elim command.verb [
   | Print ↦ PrintSays command.limit (CheckSays f cert) f command.paths answer
 ]
 
--- how many bytes may go out before a failed read or refused memory: the limit of Print, else none
+-- how many bytes may be written before a failed read or refused memory: the limit of Print, otherwise 0
 abbrev pub most : Asked → ℕ
 most command = elim command.verb [ Print ↦ command.limit | _ ↦ 0 ]
 
--- the verb looks at the certificate
+-- true if the verb uses the certificate
 abbrev pub takes_cert : Verb → Bool
 takes_cert verb = elim verb [ Lint ↦ false | Certify ↦ false | _ ↦ true ]
 
--- P of the bytes that a hexadecimal text spells, or `Hex` where it spells none
+-- P of the bytes that a hexadecimal text spells, or `Hex` if it spells none
 abbrev pub Spells : (List ℕ → Answer → Type 0) → List ℕ → Answer → Type 0
 Spells P text answer = MatchResult (spelled text) (λ bytes. P bytes answer) (λ _. answer ≡ refuses Hex)
 
--- a command's answer for inputs; with `hex` for the bytes that they spell, the certificate's if it is looked at
+-- the answer to a command for its inputs; with `hex`, for the bytes they spell, the certificate's only if it is used
 abbrev pub SaysOver : Bool → Asked → List ℕ → List ℕ → Answer → Type 0
 SaysOver true c file cert answer = Spells (λ f. Spells (Says c f) (if takes_cert c.verb then cert else [])) file answer
 SaysOver false c file cert answer = Says c file cert answer

@@ -1,38 +1,31 @@
--- Bytes that go through a sink, and the cuts of units of UTF-16 between characters. Source: profile.
+-- Bytes that go through a sink, and places between the characters of UTF-16 units. Source: profile.
 use Rattle.std.specs.Prelude.{◌≡◌, ℕ, ◌-◌, ◌&&◌, List, [], ◌++◌, false, slice_index, Option, Result, MatchResult}
 use Rattle.std.specs.Char.Utf16.{is_high_surrogate, is_low_surrogate}
 use Rattle.std.specs.Io.KnownBytes.{Appends}
 use Rattle.bplist_ascii.specs.Sending.{Sending, SendsSome, Takes, TakesPart}
 use Rattle.bplint_lines.specs.declared.fault.RunFault.{RunFault}
 use Rattle.bplint_lines.specs.declared.fault.RunFault.TheVariants as faults
-use Rattle.bplint_lines.specs.declared.said.Said.{Said}
-use Rattle.bplint_lines.specs.Answers.{Answer, LeavesBy}
 
--- a sink that has sent nothing and holds nothing back
+-- a sink that has sent nothing and holds nothing
 abbrev pub begun : Sending
 begun = record { sent = 0; held = [] }
 
 module _ (old new : Option (List ℕ)) (before : Sending) where
-  -- why bytes were not put into a sink: a write failed, or, with a first part of them in, a read failed or memory was refused
+  -- why bytes were not all put into a sink: a write failed; or a read failed or memory was refused after a first part
   abbrev pub Fails : List ℕ → RunFault → Type 0
   Fails bytes (faults.Write sent) = TakesPart old new before bytes sent
   Fails bytes (faults.Read _) = SendsSome old new (before.held ++ bytes)
   Fails bytes faults.Memory = SendsSome old new (before.held ++ bytes)
   Fails bytes _ = ⊥
 
--- bytes were put into a sink, or why not
+-- the bytes were put into a sink, or why they were not
 abbrev pub Puts : Option (List ℕ) → Option (List ℕ) → Sending → Sending → List ℕ → Result (Unit {0}) RunFault → Type 0
 Puts old new before after bytes result =
     MatchResult result (λ _. Takes old new before after bytes) (Fails old new before bytes)
 
--- bytes went out, or why not
+-- the bytes were written, or why they were not
 abbrev pub SendsAll : Option (List ℕ) → Option (List ℕ) → List ℕ → Result (Unit {0}) RunFault → Type 0
 SendsAll old new bytes result = MatchResult result (λ _. Appends old new bytes) (Fails old new begun bytes)
-
--- what a run leaves with the writer, where after a failed read or refused memory a first part of the answer of any length may
--- be out
-abbrev pub LeavesSomeBy : (Answer → Type 0) → Option (List ℕ) → Option (List ℕ) → Result Said RunFault → Type 0
-LeavesSomeBy Says old new result = (most : ℕ) × LeavesBy Says most old new result
 
 -- no pair of surrogates stands round this place
 abbrev pub IsCut : List ℕ → ℕ → Type 0

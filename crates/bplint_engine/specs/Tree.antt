@@ -1,4 +1,4 @@
--- What `ls --recursive` says: a value's line and those of all that it has, one line each. Source: profile.
+-- What `ls --recursive` says: the line of a value, then one for each value inside it. Source: profile.
 use Rattle.std.specs.Prelude.{◌≡◌, ◌∷◌, ◌++◌, ℕ, ◌+◌, ◌<◌, ◌≤◌, List, [], map, Err, MatchResult}
 use Rattle.std.specs.List.{enumerate_from, flat_map}
 use Rattle.bplist_objects.specs.Value.{Value, leaf, array, set, dict, Values, no_values, value, Pairs, no_pairs, pair}
@@ -21,7 +21,7 @@ named_members name (set vs) = map (λ e. (bracketed e.0, e.1)) (enumerate_from 0
 named_members name (dict ps) = map (λ e. (key_name name e.0 e.1.0, e.1.1)) (enumerate_from 0 (entries ps))
 
 abbrev mutual
-  -- the lines of a value with this name: its own, and then those of its members in their order
+  -- the lines of a value with this name: its own, and then those of its members in order
   pub tree_lines : List ℕ → Value → List (List ℕ)
   tree_lines name (leaf l) = named_line name (leaf l) ∷ []
   tree_lines name (array vs) = named_line name (array vs) ∷ array_lines name 0 vs
@@ -43,26 +43,26 @@ abbrev mutual
   dict_lines name i no_pairs = []
   dict_lines name i (pair units v ps) = tree_lines (key_name name i units) v ++ dict_lines name (i + 1) ps
 
--- lines one after the other
+-- the lines, one after the other
 abbrev pub joined_lines : List (List ℕ) → List ℕ
 joined_lines lines = flat_map (λ line. line) lines
 
--- the value has at most so many nodes, and fewer than 18446744073709551615
+-- the value has at most `limit` nodes, and fewer than 18446744073709551615
 abbrev pub HasNodes : Value → ℕ → Type 0
 HasNodes w limit = (nodes w ≤ limit) × (nodes w < 18446744073709551615)
 
--- the lines of the value, or that it has too many nodes
+-- the answer is the lines of the value, or that it has too many nodes
 abbrev pub NodeLists : ℕ → List ℕ → Value → Answer → Type 0
 NodeLists limit name w (gives said bytes) = HasNodes w limit × (said ≡ All) × (bytes ≡ joined_lines (tree_lines name w))
 NodeLists limit name w (refuses TooLong) = ¬ HasNodes w limit
 NodeLists limit name w (refuses _) = ⊥
 
--- the lines of the value under the path with this text, or that the path leads nowhere
+-- the answer is the lines of the value under the path with this text, or that the path leads nowhere
 abbrev pub PathLists : ℕ → List ℕ → List (List ℕ) → Value → Answer → Type 0
 PathLists limit text steps v answer = MatchResult (look 0 v steps) (λ w. NodeLists limit text w answer)
     (λ missing. answer ≡ gives SomeMissing (found_line (Err missing)))
 
--- the answer of `ls --recursive` for one path text, in a file of which Says says yes
+-- the answer of `ls --recursive` for one path text, if Says accepts the file
 abbrev pub ListsAll : ℕ → (Answer → Type 0) → List ℕ → List ℕ → Answer → Type 0
 ListsAll limit Says f text = ForPaths Says f (text ∷ [])
     (λ paths v answer. (steps : List (List ℕ)) × (paths ≡ steps ∷ []) × PathLists limit text steps v answer)

@@ -1,4 +1,4 @@
--- What is left to list, where containers whose members are not all listed wait on a stack. Source: profile.
+-- The state of a recursive listing: a stack of containers, and the lines that they still have to list. Source: profile.
 use Rattle.std.specs.Prelude.{◌≡◌, ◌∷◌, ◌++◌, ℕ, ◌+◌, ◌*◌, ◌^◌, ◌<◌, ◌≤◌, List, [], Option, Some, drop, length, reverse, slice_get, take, ⊤}
 use Rattle.std.specs.List.{flat_map}
 use Rattle.bplist_objects.specs.declared.frame.Frame.{Frame}
@@ -15,42 +15,42 @@ use Rattle.bplint_engine.specs.Ls.{IsContainer, IsHeadFor}
 use Rattle.bplint_engine.specs.Names.{IsNameIn, name_in}
 use Rattle.bplint_engine.specs.Tree.{joined_lines, named_members, tree_lines}
 
--- a container on the stack can be read under the frame, and its name is among these bytes
+-- the container can be read under the frame, and its name is in these bytes
 pub record IsOpen (F : Frame) (names : List ℕ) (o : Opened) : Type 0 where
   pub head : IsSafeHead F o.head
   pub few : o.members ≡ Dict → 2 * o.count < 2 ^ 64
   pub within : o.next ≤ o.count
   pub name : IsNameIn names o.name
 
--- so are the containers of a stack, the innermost first: the names of those round it end where its own does, or before
+-- so can all containers of a stack, the innermost first: each outer name ends no later than the one inside it
 abbrev pub AreOpen : Frame → List ℕ → List Opened → Type 0
 AreOpen F names [] = ⊤
 AreOpen F names (o ∷ os) = IsOpen F names o × AreOpen F (take o.name.«end» names) os
 
--- the call changed neither the stack nor what is left of the room, and put nothing in
+-- the call changed neither the stack nor the room, and put nothing into the sink
 pub record IsKept (old new : Listing) : Type 0 where
   pub stack : new.stack.items ≡ old.stack.items
   pub room : new.room ≡ old.room
   pub sink : new.sink ≡ old.sink
 
 module _ (checked : CheckedFile) where
-  -- `left` are the lines that are left of a container with this name
+  -- `left` are the lines that a container with this name still has to list
   abbrev pub OpenedLeft : List ℕ → Opened → List (List ℕ) → Type 0
   OpenedLeft name o left = (w : Value) × IsHeadFor checked o.head w × IsContainer o.members o.count w
       × (left ≡ flat_map (λ m. tree_lines m.0 m.1) (drop o.next (named_members name w)))
 
-  -- `left` are the lines that are left of all containers of the stack, the innermost first
+  -- `left` are the lines that all containers of the stack still have to list, the innermost first
   abbrev pub StackLeft : List ℕ → List Opened → List (List ℕ) → Type 0
   StackLeft names [] left = left ≡ []
   StackLeft names (o ∷ os) left = (own outer : List (List ℕ)) × OpenedLeft (name_in names o.name) o own
       × StackLeft (take o.name.«end» names) os outer × (left ≡ own ++ outer)
 
-  -- the node holds member i of the value with this name, and its own name is the one of that member
+  -- the node holds member i of the value with this name, and has the name of that member
   abbrev pub IsMemberAt : Value → List ℕ → ℕ → List ℕ → Named → Type 0
   IsMemberAt w name i names at = (m : Value) × (slice_get (named_members name w) i ≡ Some (name_in names at.name, m))
       × IsHeld checked at.node.object.0 m
 
-  -- of the lines that were left the first were put in, and the rest are left by the stack
+  -- a first part of these lines was put into the sink, and the stack still has to list the rest
   pub record GoesOn (old new : Option (List ℕ)) (before after : Listing) (lines : List (List ℕ)) : Type 0 where
     pub written : List (List ℕ)
     pub rest : List (List ℕ)

@@ -1,4 +1,4 @@
-//! A file with a certificate.
+//! A file together with a certificate that fits it: one that a caller gives, or the one that the linter makes.
 ghost use Rattle.std.specs.Prelude.{◌≡◌, ℕ, List, length, IfOk, IsTrue, MatchResult};
 ghost use Rattle.bplint_engine.specs.Prelude.{OnlyReads, IsSafeFrame, read_failed, IsRefusal, is_read, CheckSays, IsDecoded, LintSays, IsVouchedFor, IsLeastFor};
 
@@ -9,7 +9,8 @@ use bplist_objects::{Frame, ObjectFault, trailer_of};
 use bplist_octets::Source;
 use std::alloc::Global;
 
-/// The file with the certificate that was decoded, where it is one of the file.
+/// Checks the file against the decoded certificate. Returns the file with the certificate if it is accepted, or else
+/// the first fault and the source.
 pub(crate) fn check_decoded<S: Source>(
     alloc: Global,
     src: S,
@@ -32,8 +33,8 @@ pub(crate) fn check_decoded<S: Source>(
     }
 }
 
-/// The file with the certificate of its least heights, where it holds a value. The linter's certificate is proved valid, so
-/// no check is made.
+/// Lints the file. Returns the file with the certificate of its least heights if it holds a value, or else the fault
+/// and the source. The linter's certificate is proved valid, so no check is needed.
 pub(crate) fn checked_by_lint<S: Source>(alloc: Global, src: S) -> Result<Checked<S>, (RunFault, S)>
     ensures handed { MatchResult result
         (λ checked. checked.source ≡ S.means src)
@@ -49,8 +50,8 @@ pub(crate) fn checked_by_lint<S: Source>(alloc: Global, src: S) -> Result<Checke
     }
 }
 
-/// The frame of a file that holds a value, and the certificate of its least heights. Over any source the frame fits it, and
-/// there is a height for each object.
+/// Returns the frame of a file that holds a value and the certificate of its least heights. Over any source, honest or
+/// not, the frame fits the source and the certificate has one height for each object.
 fn lint_with_frame<S: Source>(alloc: Global, src: &mut S) -> Result<(Frame, Certificate), RunFault>
     ensures reads { OnlyReads (read_failed result) (S.means src.old) (S.means src.new) }
     ensures exact { IsTrue (S.means src.old).honest → MatchResult result
@@ -60,7 +61,7 @@ fn lint_with_frame<S: Source>(alloc: Global, src: &mut S) -> Result<(Frame, Cert
     ensures count { IfOk result (λ found. length found.1.heights ≡ found.0.objects) }
 {
     let found = lint(alloc, src)?;
-    // The linter has read this trailer, so a broken rule or another number of objects means that the file has changed.
+    // The linter has read the same trailer. A broken rule or another number of objects now means that the file changed.
     let frame = match trailer_of(src) {
         Ok(frame) => frame,
         Err(ObjectFault::Fault(_)) => return Err(RunFault::Changed),

@@ -1,4 +1,4 @@
-//! The answer of `certify`.
+//! The command `certify`: writes a certificate of the file.
 ghost use Rattle.std.specs.Prelude.{◌≡◌, IfOk, IsTrue, false, true};
 ghost use Rattle.bplint_engine.specs.Prelude.{OnlyReads, octets_of, Lists, IsCertificate, IsUpgraded, read_failed, Answers, CertifySays, written, Gives};
 
@@ -9,7 +9,7 @@ use bplist_lint::{UpgradeFault, lint, upgrade};
 use bplist_octets::Source;
 use std::alloc::{AllocError, Global};
 
-/// The bytes of a certificate of the file, and the source again.
+/// Returns the bytes of a certificate of the file, and the source.
 pub(crate) fn certify_output<S: Source>(
     alloc: Global,
     src: S,
@@ -26,7 +26,7 @@ pub(crate) fn certify_output<S: Source>(
     (least_output(alloc, &mut src, hex), src)
 }
 
-/// The bytes of the certificate of the least heights.
+/// Returns the bytes of the certificate of the least heights.
 fn least_output<S: Source>(alloc: Global, src: &mut S, hex: bool) -> Result<Output, RunFault>
     ensures reads { OnlyReads (read_failed result) (S.means src.old) (S.means src.new) }
     ensures exact { IsTrue (S.means src.old).honest → Answers (CertifySays false hex (S.means src.old).octets) result }
@@ -35,7 +35,7 @@ fn least_output<S: Source>(alloc: Global, src: &mut S, hex: bool) -> Result<Outp
     Ok(output_of(alloc, &found.certificate, hex)?)
 }
 
-/// The bytes of the certificate of the least heights with key lists, and the source again.
+/// Returns the bytes of the certificate of the least heights with key lists, and the source.
 fn sorted_output<S: Source>(alloc: Global, src: S, hex: bool) -> (Result<Output, RunFault>, S)
     ensures source { OnlyReads (read_failed result.0) (S.means src) (S.means result.1) }
     ensures exact { IsTrue (S.means src).honest → Answers (CertifySays true hex (S.means src).octets) result.0 }
@@ -47,12 +47,12 @@ fn sorted_output<S: Source>(alloc: Global, src: S, hex: bool) -> (Result<Output,
     };
     match check(alloc, src, found.certificate) {
         Ok(checked) => upgraded_output(alloc, checked, hex),
-        // The linter has found a value and made the certificate, so a broken rule means that the file has changed.
+        // The linter accepted the file and made this certificate. A broken rule now means that the file changed.
         Err((refusal, src, _)) => (Err(RunFault::from(UpgradeFault::from(refusal))), src),
     }
 }
 
-/// The bytes of the certificate of a checked file with key lists, and its source.
+/// Adds key lists to the certificate of a checked file. Returns its bytes, and the source.
 fn upgraded_output<S: Source>(
     alloc: Global,
     checked: Checked<S>,
@@ -68,7 +68,7 @@ fn upgraded_output<S: Source>(
     (made, checked.into_parts().0)
 }
 
-/// The bytes of the certificate of a checked file with key lists.
+/// Adds key lists to the certificate of a checked file. Returns its bytes.
 fn output_with_keys<S: Source>(
     alloc: Global,
     checked: &mut Checked<S>,
@@ -83,7 +83,7 @@ fn output_with_keys<S: Source>(
     Ok(output_of(alloc, &certificate, hex)?)
 }
 
-/// What is written for a certificate.
+/// Encodes a certificate as the output of `certify`.
 fn output_of(alloc: Global, certificate: &Certificate, hex: bool) -> Result<Output, AllocError>
     ensures { IfOk result (λ output. IsCertificate certificate.now × (output.said ≡ Said.All)
         × (output.bytes.items ≡ written hex (octets_of certificate.now))) }
@@ -95,7 +95,7 @@ fn output_of(alloc: Global, certificate: &Certificate, hex: bool) -> Result<Outp
     })
 }
 
-/// The bytes of a certificate, or with `hex` their text and a line feed.
+/// Returns the bytes of a certificate, or with `hex` their hexadecimal text and a line feed.
 fn bytes_of(alloc: Global, certificate: &Certificate, hex: bool) -> Result<Vec<u8>, AllocError>
     ensures { IfOk result (λ bytes. IsCertificate certificate.now × (bytes.items ≡ written hex (octets_of certificate.now))) }
 {

@@ -1,4 +1,4 @@
-//! The units of a text, read in parts that end between two characters.
+//! Reads the UTF-16 units of a text in parts, and never splits a character between two parts.
 ghost use Rattle.std.specs.Prelude.{◌≡◌, ◌+◌, ◌<◌, ◌≤◌, IfOk, length, take};
 ghost use Rattle.std.specs.Char.Utf16.{is_high_surrogate};
 ghost use Rattle.bplist_octets.specs.Octets.{part};
@@ -14,11 +14,11 @@ use bplist_cursor::{Unread, body_units};
 use bplist_objects::Head;
 use bplist_octets::Source;
 
-/// How many units of a text are read at once at most.
+/// The largest number of units that one read takes.
 pub(crate) const PART: usize = 1024;
 
-/// Reads units of a text from number `from` on, as many as fit and do not end between the halves of a pair of surrogates.
-/// Returns how many.
+/// Reads units of a text from number `from` on into the buffer. Reads as many as fit, but one less if the part would
+/// end between the two halves of a surrogate pair. Returns how many units it read.
 pub(crate) fn read_characters<S: Source>(
     checked: &mut Checked<S>,
     head: &Head,
@@ -44,7 +44,7 @@ pub(crate) fn read_characters<S: Source>(
     }
 }
 
-/// Is it the first unit of a pair?
+/// Returns true for the first half of a surrogate pair.
 fn is_high_surrogate(unit: u16) -> bool
     ensures { result ≡ is_high_surrogate unit }
 {

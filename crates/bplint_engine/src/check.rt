@@ -1,4 +1,4 @@
-//! The answer of `check`.
+//! The command `check`: says whether a certificate is valid for a file.
 ghost use Rattle.std.specs.Prelude.{◌≡◌, ◌++◌, ℕ, List, IfErr, IfOk, IsTrue, codes, slice_index};
 ghost use Rattle.bplint_engine.specs.Prelude.{OnlyReads, read_failed, Answers, CheckSays, IsDecoded, check_line};
 
@@ -9,7 +9,7 @@ use bplist_cert::{CertRefusal, Certificate, Checked};
 use bplist_octets::Source;
 use std::alloc::Global;
 
-/// The line of `check`, and the source again.
+/// Returns the line of `check`, and the source.
 pub(crate) fn check_output<S: Source>(
     alloc: Global,
     src: S,

@@ -1,34 +1,34 @@
-//! What the engine is asked to do.
+//! The commands that the engine runs, and their options.
 
 use std::marker::Model;
 
-/// The five things that the engine does.
+/// The five commands of [`crate::run_on`].
 #[derive(Clone, Copy, Debug, PartialEq, Eq, Drop)]
 pub enum Verb {
-    /// Says whether a file holds a value.
+    /// Decide whether a file holds a value.
     Lint,
-    /// Checks a certificate of a file.
+    /// Check a certificate against a file.
     Check,
-    /// Prints what lies under each path.
+    /// Print one line for the value under each path.
     Get,
-    /// Writes a certificate of a file.
+    /// Write a certificate of a file.
     Certify,
-    /// Prints the value under one path as old-style text.
+    /// Print the value under one path as old-style text.
     Print,
 }
 
-/// What the engine is asked to do.
+/// A command with its options.
 #[derive(Debug, Drop)]
 pub struct Command {
-    /// Which of the five things.
+    /// Which command to run.
     pub verb: Verb,
-    /// The path texts. Only Get and Print look at them; Print takes exactly one.
+    /// The path texts. Only `Get` and `Print` use them. `Print` needs exactly one.
     pub paths: Vec<String>,
-    /// How many bytes the text of Print may have, its line feed not counted.
+    /// The largest text that `Print` may write, in bytes, not counting the final line feed.
     pub limit: u64,
-    /// File and certificate are hexadecimal text, and what Certify writes is.
+    /// If true, the file and the certificate are given as hexadecimal text, and `Certify` writes hexadecimal text.
     pub hex: bool,
-    /// Certify writes key lists too.
+    /// If true, `Certify` also writes key lists.
     pub sorted: bool,
 }
 

@@ -1,4 +1,4 @@
-//! The way of an answer to the writer.
+//! Writes an answer to the caller's writer.
 ghost use Rattle.std.specs.Prelude.{◌≡◌, MatchResult};
 ghost use Rattle.std.specs.Io.KnownBytes.{Appends};
 ghost use Rattle.bplint_engine.specs.Prelude.{SendsPart, read_failed, Sends};
@@ -9,7 +9,7 @@ use bplist_ascii::{Sink, WriteFault};
 use bplist_octets::Source;
 use std::io::Write;
 
-/// Writes what was made, and hands the source on.
+/// Writes the output if there is one, and passes the source on.
 pub(crate) fn send_made<S: Source, W: Write>(
     made: (Result<Output, RunFault>, S),
     out: &mut W,
@@ -22,7 +22,7 @@ pub(crate) fn send_made<S: Source, W: Write>(
     (send_output(made, out), src)
 }
 
-/// Writes what was made, or hands its fault on.
+/// Writes the output if there is one, or passes its fault on.
 pub(crate) fn send_output<W: Write>(
     made: Result<Output, RunFault>,
     out: &mut W,
@@ -35,7 +35,6 @@ pub(crate) fn send_output<W: Write>(
     Ok(output.said)
 }
 
-/// Writes all of the bytes.
 fn send<W: Write>(out: &mut W, bytes: &[u8]) -> Result<(), WriteFault>
     ensures { MatchResult result
         (λ _. Appends (W.contents out.old) (W.contents out.new) bytes.now)

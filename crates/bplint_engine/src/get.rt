@@ -1,4 +1,4 @@
-//! The answer of `get`.
+//! The command `get`: one line for each path.
 ghost use Rattle.std.specs.Prelude.{◌≡◌, ◌++◌, ℕ, List, Err, IfOk, IsTrue, MatchResult, OnOk, map, string_bytes};
 ghost use Rattle.std.specs.List.{flat_map};
 ghost use Rattle.std.specs.List.{list_any};
@@ -13,7 +13,7 @@ use bplist_cursor::{AnswerFault, Query, Reply, answer_all, answer_certified};
 use bplist_octets::Source;
 use std::alloc::{AllocError, Global};
 
-/// The lines of `get`, one for each path text, and the source again.
+/// Returns the lines of `get`, one for each path text, and the source.
 pub(crate) fn get_output<S: Source>(
     alloc: Global,
     src: S,
@@ -37,7 +37,7 @@ pub(crate) fn get_output<S: Source>(
     (lines_told(alloc, told), src)
 }
 
-/// The lines of the replies, or why there are none.
+/// Turns the replies into lines, or the cursor's fault into that of the run.
 fn lines_told(alloc: Global, told: Result<Vec<Reply>, AnswerFault>) -> Result<Output, RunFault>
     ensures reads { read_failed result ≡ answer_read told }
     ensures exact { MatchResult told
@@ -49,7 +49,7 @@ fn lines_told(alloc: Global, told: Result<Vec<Reply>, AnswerFault>) -> Result<Ou
     Ok(lines_of(alloc, &replies)?)
 }
 
-/// The lines of the answers, and the source again.
+/// Answers the queries. Returns their lines, and the source.
 pub(crate) fn answer_queries<S: Source>(
     alloc: Global,
     checked: Checked<S>,
@@ -66,7 +66,7 @@ pub(crate) fn answer_queries<S: Source>(
     (made, checked.into_parts().0)
 }
 
-/// The lines of the answers.
+/// Answers the queries. Returns their lines.
 fn lines_for<S: Source>(
     alloc: Global,
     checked: &mut Checked<S>,
@@ -82,7 +82,7 @@ fn lines_for<S: Source>(
     Ok(lines_of(alloc, &replies)?)
 }
 
-/// The lines of replies, and whether one of them says that a path leads nowhere.
+/// Returns the lines of the replies, and whether one of them says that a path leads nowhere.
 fn lines_of(alloc: Global, replies: &[Reply]) -> Result<Output, AllocError>
     ensures { IfOk result (λ output. (output.said ≡ spec.replies_said replies.now)
         × (output.bytes.items ≡ flat_map reply_line replies.now)) }
@@ -119,7 +119,8 @@ fn is_missing(reply: &Reply) -> bool
     matches!(reply, Reply::Missing { .. })
 }
 
-/// Adds the line of a reply, with its line feed. Nothing but faces is asked for, and other replies add nothing.
+/// Adds the line of a reply, with its line feed. Every query asks for a face, so the other replies do not occur; they
+/// add nothing.
 fn add_reply(alloc: Global, reply: &Reply, lines: &mut Vec<u8>) -> Result<(), AllocError>
     ensures { OnOk result (lines.new.items ≡ lines.old.items ++ reply_line reply.now) }
 {

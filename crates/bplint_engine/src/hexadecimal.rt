@@ -1,4 +1,4 @@
-//! Inputs that are hexadecimal text.
+//! Input as hexadecimal text.
 ghost use Rattle.std.specs.Prelude.{◌≡◌, ◌⊎◌, ◌-◌, ◌==◌, IfOk, IfErr, IsErr, Ok, if◌then◌else◌, length, slice_index, take};
 ghost use Rattle.bplint_engine.specs.Prelude.{spelled};
 
@@ -6,8 +6,8 @@ use bplint_lines::RunFault;
 use hex::FromHexError;
 use std::alloc::Global;
 
-/// The bytes that a hexadecimal text spells, with digits of either case. One line feed at its end
-/// is dropped. Any other text is the fault `Hex`.
+/// Decodes hexadecimal text with digits of either case. Drops one line feed at the end of the text. Returns `Hex` if
+/// the text is anything else, and `Memory` if memory is refused.
 pub fn undo_hex(alloc: Global, text: &[u8]) -> Result<Vec<u8>, RunFault>
     ensures bytes { IfOk result (λ bytes. spelled text.now ≡ Ok bytes.items) }
     ensures refused { IfErr result (λ fault.

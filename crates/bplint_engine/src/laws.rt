@@ -1,4 +1,4 @@
-//! Laws of the definitions: each is the contract of a function that does nothing.
+//! Laws about the definitions. Each law is the contract of a function with an empty body.
 
 ghost use Rattle.std.specs.Prelude.{◌≡◌, ◌∷◌, ℕ, List, Bool, Ok};
 ghost use Rattle.std.specs.List.{flat_map};
@@ -6,19 +6,20 @@ ghost use Rattle.bplint_engine.specs.Ls.{named_line};
 ghost use Rattle.bplint_engine.specs.Prelude.{Answer, Asked, IsLeaf, Says, SaysOver, Value, listed};
 ghost use Rattle.bplint_engine.specs.Tree.{joined_lines, named_members, tree_lines};
 
-/// The answer to a command over a file and a certificate's bytes is one.
+/// A command has only one answer for a file and the bytes of a certificate.
 pub fn one_answer()
     ensures { (command : Asked) (f cert : List ℕ) (a b : Answer) → Says command f cert a → Says command f cert b → a ≡ b }
 {}
 
-/// The answer to a command over inputs is one, with `hex` and without.
+/// A command has only one answer for its inputs, with `hex` and without.
 pub fn one_answer_over()
     ensures { (hex : Bool) (command : Asked) (file cert : List ℕ) (a b : Answer) → SaysOver hex command file cert a
         → SaysOver hex command file cert b → a ≡ b }
 {}
 
-/// The lines of a recursive listing are those of `ls` at each container, one after the other: a value's own line, and then for
-/// each line of `ls` at it that line with those of all that is in its member. Of a leaf they are what `ls` has.
+/// A recursive listing consists of the lines of `ls` at each container. The value's own line comes first. Then each
+/// line of `ls` follows, together with the lines of everything inside that member. For a leaf both listings are the
+/// same.
 pub fn tree_of_ls()
     ensures tree { (name : List ℕ) (w : Value) → tree_lines name w
         ≡ named_line name w ∷ flat_map (λ m. tree_lines m.0 m.1) (named_members name w) }

@@ -1,4 +1,6 @@
-//! The commands of bplint over a file and a certificate: what each writes, and its faults.
+//! What each command of bplint writes for a file and a certificate, and which fault it returns. Not here: the command
+//! line, files and output of the program (crate `bplint`), and how a single line or fault is worded (crate
+//! `bplint_lines`).
 //!
 //! ```
 //! let command = Command { verb: Verb::Lint, paths: Vec::new(alloc), limit: 0, hex: false, sorted: false };
@@ -8,16 +10,32 @@
 //! }
 //! ```
 //!
-//! | what | calls |
+//! | to do this | call |
 //! |---|---|
-//! | lint, check, get, certify, print over a source | [`run_on`], [`Command`], [`Verb`] |
-//! | the same with a certificate that was decoded | [`run_certified`] |
-//! | the same over bytes or hexadecimal texts | [`run_over`], [`undo_hex`] |
-//! | show and ls, without a certificate | [`show_on`], [`show_text_on`], [`show_raw_on`], [`list_on`], [`list_all_on`] |
+//! | lint, check, get, certify or print over a source | [`run_on`], with a [`Command`] and its [`Verb`] |
+//! | the same with a certificate that is already decoded | [`run_certified`] |
+//! | the same over bytes or hexadecimal text | [`run_over`], [`undo_hex`] |
+//! | show values of a file that has no certificate | [`show_on`], [`show_text_on`], [`show_raw_on`] |
+//! | list them | [`list_on`], [`list_all_on`] |
 //!
-//! Answers are those of bplint_lines, `Said` and `RunFault`. Clause `exact` of each call says which bytes went out. The
-//! definitions of what commands say are in specs/Said.antt. The laws `one_answer` and `one_answer_over` say that a command
-//! has one answer, and `tree_of_ls` that the lines of a recursive listing are those of `ls` at each container.
+//! A call returns the `Said` or the `RunFault` of `bplint_lines`. The clause `exact` of each call says which bytes it
+//! wrote; specs/Said.antt defines what each command says. The laws `one_answer` and `one_answer_over` say that a
+//! command has only one answer, and `tree_of_ls` says that a recursive listing consists of the lines of `ls` at each
+//! container.
+//!
+//! The modules, in reading order:
+//!
+//! - `command`: what a caller asks for.
+//! - `run`: runs one command.
+//! - `lint`, `check`, `get`, `certify`, `print`: one command each.
+//! - `show`, `ls`, `tree`, `raw`: the calls that need no certificate.
+//! - `certified_file`: a file together with a checked certificate, or with the linter's own.
+//! - `path_queries`: path texts and the queries made of them.
+//! - `member_lines`, `tree_walk`, `names`: lines of members, the recursive walk, and the names in it.
+//! - `raw_form`, `raw_parts`, `characters`: raw bytes, and how they are sent in parts.
+//! - `hexadecimal`: input as hexadecimal text.
+//! - `output`, `delivery`: the bytes of an answer, and how they are written.
+//! - `laws`: facts about the definitions.
 #![tactic(auto)]
 
 mod certified_file;

@@ -1,4 +1,4 @@
-//! The answer of `lint`.
+//! The command `lint`: says whether a file holds a value.
 ghost use Rattle.std.specs.Prelude.{◌≡◌, ◌++◌, IfOk, IsTrue, codes};
 ghost use Rattle.bplint_engine.specs.Prelude.{OnlyReads, read_failed, Answers, LintSays, lint_line};
 
@@ -9,7 +9,7 @@ use bplist_objects::Kind;
 use bplist_octets::Source;
 use std::alloc::{AllocError, Global};
 
-/// The line of `lint`, and the source again.
+/// Returns the line of `lint`, and the source.
 pub(crate) fn lint_output<S: Source>(alloc: Global, src: S) -> (Result<Output, RunFault>, S)
     ensures source { OnlyReads (read_failed result.0) (S.means src) (S.means result.1) }
     ensures exact { IsTrue (S.means src).honest → Answers (LintSays (S.means src).octets) result.0 }
@@ -19,7 +19,7 @@ pub(crate) fn lint_output<S: Source>(alloc: Global, src: S) -> (Result<Output, R
     (made, src)
 }
 
-/// The line of `lint`.
+/// Returns the line of `lint`.
 fn line_of<S: Source>(alloc: Global, src: &mut S) -> Result<Output, RunFault>
     ensures reads { OnlyReads (read_failed result) (S.means src.old) (S.means src.new) }
     ensures exact { IsTrue (S.means src.old).honest → Answers (LintSays (S.means src.old).octets) result }

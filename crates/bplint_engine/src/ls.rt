@@ -1,4 +1,4 @@
-//! The members of a value in a file, with no certificate at hand.
+//! The command `ls`: lists the members of one value in a file that has no certificate.
 ghost use Rattle.std.specs.Prelude.{◌≡◌, ◌∷◌, [], ◌*◌, ◌^◌, ◌<◌, Ok, IfSome, IsTrue, MatchOption};
 ghost use Rattle.bplint_engine.specs.Prelude.{OnlyReads, Holds, Value, IsVouchedBy, OnlyReadsFile, look, face as face_of, HasRoom, Leaves, read_failed, Answers, Gives, said_of, IsContainer, IsLeaf, LinesSay, LintSays, listed};
 
@@ -15,17 +15,22 @@ use bplist_octets::Source;
 use std::alloc::Global;
 use std::io::Write;
 
-/// Writes one line for each member of the value under this path text, of a dictionary for each pair, of a leaf one for
-/// itself, and hands the source back.
+/// Lists the value under a path: writes one line for each member of an array or set, one for each pair of a dictionary,
+/// or one for a leaf itself. Returns the source too.
 ///
-/// A line has the member's own path text, a tab, and the line of `Get` for it. The place in brackets, counted from 0,
-/// stands for the path of a set's member, and of a key whose path text could not be shown on one line of UTF-8: it has
-/// a control character (one of U+0080 to U+009F too), a separator of lines or paragraphs (U+2028 and U+2029), a control
-/// of the direction of text (U+061C, U+200E, U+200F, U+202A to U+202E, U+2066 to U+2069) or a surrogate without its
-/// other half. A path that leads nowhere gets its line as with `Get`.
+/// A line has the member's own path text, a tab, and the line of `Get` for the member. If the member has no path text
+/// that can be shown, its index in brackets, counted from 0, replaces the path text. That is so for each member of a
+/// set, and for a key whose path text contains
 ///
-/// The answer is the first fault: `Path` for a wrong path text, or else `Fault` or `Circle` as `Lint` answers it. Nothing
-/// went out then. `Read`, `Memory`, `Write` and `Changed` are those of [`crate::run_on`].
+/// - a control character, including U+0080 to U+009F,
+/// - a line or paragraph separator (U+2028, U+2029),
+/// - a control of text direction (U+061C, U+200E, U+200F, U+202A to U+202E, U+2066 to U+2069), or
+/// - a surrogate without its other half.
+///
+/// A path that leads nowhere gets the same line as with `Get`.
+///
+/// These errors come before anything is written, in this order: `Path` for a wrong path text, then `Fault` or `Circle`
+/// as `Lint` returns it. `Read`, `Memory`, `Write` and `Changed` mean the same as in [`crate::run_on`].
 pub fn list_on<S: Source, W: Write>(
     alloc: Global,
     src: S,
@@ -40,7 +45,7 @@ pub fn list_on<S: Source, W: Write>(
     send_made(list_output(alloc, src, path), out)
 }
 
-/// The lines of `ls`, and the source again.
+/// Returns the lines of `ls`, and the source.
 fn list_output<S: Source>(alloc: Global, src: S, text: &str) -> (Result<Output, RunFault>, S)
     ensures source { OnlyReads (read_failed result.0) (S.means src) (S.means result.1) }
     ensures exact { IsTrue (S.means src).honest
@@ -56,7 +61,7 @@ fn list_output<S: Source>(alloc: Global, src: S, text: &str) -> (Result<Output, 
     }
 }
 
-/// The lines for what a checked file has under a path with this text, and its source.
+/// Returns the lines for what a checked file has under the path with this text, and the source.
 fn list_checked<S: Source>(
     alloc: Global,
     checked: Checked<S>,
@@ -74,7 +79,7 @@ fn list_checked<S: Source>(
     (made, checked.into_parts().0)
 }
 
-/// The lines for what a checked file has under a path with this text.
+/// Returns the lines for what a checked file has under the path with this text.
 fn list_path<S: Source>(
     alloc: Global,
     checked: &mut Checked<S>,
@@ -99,7 +104,7 @@ fn list_path<S: Source>(
     }
 }
 
-/// The lines for a node's value, which stands under the path of this text.
+/// Returns the lines for the value of a node. `text` is the path text that leads to it.
 fn lines_at<S: Source>(
     alloc: Global,
     checked: &mut Checked<S>,
@@ -129,7 +134,7 @@ fn lines_at<S: Source>(
     Ok(lines)
 }
 
-/// Which members a value shows to have in a file of this length, and how many. A leaf has none.
+/// Returns the kind and number of members that a face shows, in a file of `length` bytes. Returns `None` for a leaf.
 pub(crate) fn members_of(shown: &Face, length: u64) -> Option<(Members, u64)>
     requires { HasRoom length shown.now }
     ensures exact { (w : Value) → shown.now ≡ face_of w

@@ -1,4 +1,4 @@
-//! The lines of the members of containers.
+//! The lines of the members of one container.
 ghost use Rattle.std.specs.Prelude.{◌≡◌, ◌++◌, ◌*◌, ◌^◌, ◌<◌, IsTrue, OnOk, Some, codes};
 ghost use Rattle.bplint_engine.specs.Prelude.{IsSafeHead, Value, OnlyReadsFile, member_of, face as face_of, read_failed, Gives, IsContainer, IsHeadFor, first_lines, member_line, face_line};
 
@@ -9,31 +9,31 @@ use bplist_objects::Head;
 use bplist_octets::Source;
 use std::alloc::{AllocError, Global};
 
-/// What kind of members a container has.
+/// The kind of members that a container has.
 #[derive(Clone, Copy, Debug, PartialEq, Eq, Drop)]
 pub(crate) enum Members {
-    /// Those of an array, with indexes for names.
+    /// Members of an array; an index is the last step of their path.
     Array,
-    /// Those of a set, which have indexes alone.
+    /// Members of a set, which have an index but no path.
     Set,
-    /// The pairs of a dictionary, with keys for names.
+    /// Pairs of a dictionary; the key is the last step of the value's path.
     Dict,
 }
 
-/// A container whose members are listed.
+/// A container whose members are to be listed.
 #[derive(Clone, Copy, Drop)]
 pub(crate) struct Container<'a> {
-    /// The head of its object, which is read once for all members.
+    /// The head of the container's object. It is read once for all members.
     pub head: Head,
-    /// Which kind of members it has.
+    /// The kind of the members.
     pub members: Members,
-    /// How many members it has, or pairs.
+    /// The number of members, or of pairs.
     pub count: u64,
-    /// Its path text.
+    /// The path text of the container.
     pub path: &'a str,
 }
 
-/// Adds the lines of all members of a container, in their order.
+/// Adds the lines of all members of a container, in order.
 pub(crate) fn add_members<S: Source>(
     alloc: Global,
     checked: &mut Checked<S>,
@@ -110,7 +110,7 @@ fn add_pair<S: Source>(
     Ok(add_value(alloc, &shown, lines)?)
 }
 
-/// The face of member `i` of an object with this head.
+/// Returns the face of member `i` of the object with this head.
 pub(crate) fn member_face<S: Source>(
     alloc: Global,
     checked: &mut Checked<S>,
@@ -128,7 +128,7 @@ pub(crate) fn member_face<S: Source>(
     }
 }
 
-/// Adds a tab, the line of `get` for what a value shows, and a line feed.
+/// Adds a tab, the line of `get` for this face, and a line feed.
 pub(crate) fn add_value(alloc: Global, shown: &Face, lines: &mut Vec<u8>) -> Result<(), AllocError>
     ensures { OnOk result (lines.new.items ≡ lines.old.items ++ codes "\t" ++ face_line shown.now ++ codes "\n") }
 {

@@ -1,4 +1,4 @@
-//! The names of nodes in a recursive listing.
+//! The names of nodes in a recursive listing, in one buffer that names share.
 ghost use Rattle.std.specs.Prelude.{◌≡◌, ◌↔◌, IfOk, IsTrue, Some, length, slice_get};
 ghost use Rattle.bplint_lines.specs.MemberNames.{bracketed, index_name, key_name};
 ghost use Rattle.bplint_engine.specs.Names.{Extends, IsNameIn, name_in};
@@ -7,19 +7,17 @@ use bplint_lines::{add_index, add_index_name, add_key_name};
 use std::alloc::{AllocError, Global};
 use std::marker::Model;
 
-/// Where a name stands among the names.
+/// The range of a name in the buffer.
 #[derive(Clone, Copy, Debug, PartialEq, Eq, Drop)]
 pub(crate) struct Name {
-    /// Its first byte.
+    /// The place of its first byte.
     start: usize,
-    /// The place behind its last.
+    /// The place after its last byte.
     end: usize,
 }
 
-/// The name of a node, and before it the names of the containers that it is in. A name goes on from the one of its
-/// container, or begins behind it.
-///
-/// Contracts see the bytes.
+/// The names of a node and of the containers that it is in, the outermost first. The name of a member either extends
+/// the name of its container, or begins after it. In contracts, a `Names` is its bytes.
 #[derive(Drop)]
 pub(crate) struct Names {
     text: Vec<u8>,
@@ -34,7 +32,7 @@ impl Model for Names {
 }
 
 impl Names {
-    /// One name.
+    /// A buffer with one name.
     pub(crate) fn new(alloc: Global, top: &str) -> Result<Names, AllocError>
         ensures { IfOk result (λ names. names ≡ top.now) }
     {
@@ -43,7 +41,7 @@ impl Names {
         })
     }
 
-    /// All of it as one name.
+    /// Returns the whole buffer as one name.
     pub(crate) fn whole(&self) -> Name
         ensures { IsNameIn self.now result × (name_in self.now result ≡ self.now) × (result.«end» ≡ length self.now) }
     {
@@ -53,7 +51,7 @@ impl Names {
         }
     }
 
-    /// The name.
+    /// Returns the bytes of a name.
     pub(crate) fn get(&self, name: Name) -> &[u8]
         requires { IsNameIn self.now name }
         ensures { result.now ≡ name_in self.now name }
@@ -61,7 +59,7 @@ impl Names {
         &self.text[name.start..name.end]
     }
 
-    /// The name of member `i` of the array with this name, in place of what stands behind that.
+    /// Appends the name of member `i` to the name of its array. Drops what followed that name before.
     pub(crate) fn push_index(
         &mut self,
         alloc: Global,
@@ -80,7 +78,7 @@ impl Names {
         })
     }
 
-    /// The name of member `i` of the set with this name.
+    /// Appends the name of member `i` after the name of its set. Drops what followed that name before.
     pub(crate) fn push_place(
         &mut self,
         alloc: Global,
@@ -98,7 +96,8 @@ impl Names {
         })
     }
 
-    /// The name of the value of the key with these units, which is number `i` of the dictionary with this name.
+    /// Appends the name of the value of a key with these units. It is pair `i` of the dictionary with this name. Drops
+    /// what followed that name before.
     pub(crate) fn push_key(
         &mut self,
         alloc: Global,
@@ -125,7 +124,7 @@ impl Names {
     }
 }
 
-/// Whether a name that was added is a place in brackets.
+/// Returns true if the added name is an index in brackets, which does not extend the name before it.
 fn stands_alone(added: &[u8]) -> bool
     ensures { IsTrue result ↔ (slice_get added.now 0 ≡ Some 0x5B) }
 {

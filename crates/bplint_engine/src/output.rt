@@ -1,12 +1,12 @@
-//! What a command has to write.
+//! The answer of a command before it is written.
 
 use bplint_lines::Said;
 
-/// The bytes of an answer, and what is said of them.
+/// The bytes of an answer, and whether each path led to a value.
 #[derive(Debug, Drop)]
 pub(crate) struct Output {
-    /// Whether each path led somewhere.
+    /// Whether each path led to a value.
     pub said: Said,
-    /// All bytes of the answer, line feeds too.
+    /// All bytes of the answer, with line feeds.
     pub bytes: Vec<u8>,
 }

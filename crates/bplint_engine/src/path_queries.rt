@@ -1,4 +1,4 @@
-//! Path texts, and what is asked about the paths.
+//! Parses path texts, and makes queries of them.
 ghost use Rattle.std.specs.Prelude.{◌≡◌, ◌∷◌, [], ℕ, List, MatchResult, length, map, string_bytes};
 ghost use Rattle.std.specs.List.{AllZip};
 ghost use Rattle.bplint_engine.specs.Prelude.{IsPathOf, IsWrongAmong, OnPath};
@@ -7,7 +7,7 @@ use bplint_lines::RunFault;
 use bplist_cursor::{Path, Query};
 use std::alloc::Global;
 
-/// Asks what lies under the path of each text, in their order. The fault is the first wrong text.
+/// Makes one `Get` query for each path text, in order. Returns the fault of the first wrong text.
 pub(crate) fn queries_of(alloc: Global, texts: &[String]) -> Result<Vec<Query>, RunFault>
     ensures { MatchResult result
         (λ queries. (paths : List (List (List ℕ))) × AllZip IsPathOf (map (λ text. string_bytes text) texts.now) paths
@@ -22,7 +22,7 @@ pub(crate) fn queries_of(alloc: Global, texts: &[String]) -> Result<Vec<Query>, 
     Ok(queries)
 }
 
-/// The path of the one text that there is.
+/// Parses the only path text.
 pub(crate) fn path_of(alloc: Global, texts: &[String]) -> Result<Path, RunFault>
     requires { length texts.now ≡ 1 }
     ensures { MatchResult result
@@ -32,7 +32,7 @@ pub(crate) fn path_of(alloc: Global, texts: &[String]) -> Result<Path, RunFault>
     path_in(alloc, texts[0].as_str())
 }
 
-/// The path of a text.
+/// Parses a path text.
 pub(crate) fn path_in(alloc: Global, text: &str) -> Result<Path, RunFault>
     ensures { MatchResult result
         (λ path. AllZip IsPathOf (text.now ∷ []) (path ∷ []))

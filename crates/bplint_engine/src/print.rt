@@ -1,4 +1,4 @@
-//! The answer of `print`.
+//! The command `print`: writes one value as old-style text.
 ghost use Rattle.std.specs.Prelude.{◌≡◌, ◌∷◌, ◌++◌, ℕ, List, [], IfErr, IfOk, IsTrue, OnOk, codes, length, map, string_bytes};
 ghost use Rattle.bplint_engine.specs.Prelude.{OnlyReads, Holds, Value, IsVouchedBy, OnlyReadsFile, Takes, TakesPart, Leaves, LeavesBy, read_failed, missing_line, CheckSays, IsDecoded, NodeSays, PathSays, PrintSays};
 
@@ -14,8 +14,8 @@ use bplist_octets::Source;
 use std::alloc::Global;
 use std::io::Write;
 
-/// Writes the text of the value under a path and a line feed, or the line for a path that leads nowhere, and hands
-/// the source back. It has six parameters as `print` has.
+/// Writes the text of the value under a path and a line feed, or the line for a path that leads nowhere. Returns the
+/// source too. It has six parameters because `print` needs all of them.
 pub(crate) fn print_answer<S: Source, W: Write>(
     alloc: Global,
     src: S,
@@ -40,7 +40,7 @@ pub(crate) fn print_answer<S: Source, W: Write>(
     }
 }
 
-/// Writes what a checked file has under a path, and hands its source back.
+/// Writes what a checked file has under a path. Returns the source too.
 pub(crate) fn print_checked<S: Source, W: Write>(
     alloc: Global,
     checked: Checked<S>,
@@ -93,7 +93,7 @@ pub(crate) fn missing_output(alloc: Global, step: u64, why: Why) -> Result<Outpu
     })
 }
 
-/// Writes the text of a node's value and a line feed.
+/// Writes the text of a node's value, and a line feed.
 fn print_node<S: Source, W: Write>(
     alloc: Global,
     checked: &mut Checked<S>,
@@ -114,7 +114,7 @@ fn print_node<S: Source, W: Write>(
     Ok(Said::All)
 }
 
-/// Puts a line feed in, and sends what the sink holds.
+/// Puts a line feed into the sink, and flushes it.
 fn end_line<W: Write>(sink: &mut Sink, out: &mut W) -> Result<(), WriteFault>
     ensures taken { OnOk result (Takes (W.contents out.old) (W.contents out.new) sink.old sink.new (codes "\n")) }
     ensures empty { OnOk result (sink.new.held ≡ []) }

@@ -1,4 +1,4 @@
-//! The raw bytes of a value in a file, with no certificate at hand.
+//! The call of `show --raw`: writes the raw bytes of one value in a file that has no certificate.
 ghost use Rattle.std.specs.Prelude.{◌≡◌, None, IsTrue};
 ghost use Rattle.bplint_engine.specs.Prelude.{OnlyReads, Holds, Value, IsVouchedBy, OnlyReadsFile, LintSays, read_failed};
 ghost use Rattle.bplint_engine.specs.Raw.{LeadsToRawless, LeavesRawBy, IsRawless, NodeShowsRaw, PathShowsRaw, ShowsRaw, raw_bytes, raw_read_failed};
@@ -16,14 +16,22 @@ use bplist_octets::Source;
 use std::alloc::Global;
 use std::io::Write;
 
-/// Writes the raw bytes of the value under this path text, with no line feed, and hands the source back.
+/// Writes the raw bytes of the value under a path, without a line feed. Returns the source too.
 ///
-/// Of data these are its bytes, of a text its UTF-8, of an integer or a UID its digits, and of a truth value its word. Data
-/// and texts go out in parts and are never held whole. A path that leads nowhere gets its line as with `Get`.
+/// | value | raw bytes |
+/// |---|---|
+/// | data | its bytes |
+/// | text | its UTF-8 |
+/// | integer, UID | its digits |
+/// | truth value | `true` or `false` |
 ///
-/// The answer is the first fault: `Path` for a wrong path text; `Fault` or `Circle` as `Lint` answers it; `NoRawForm` for a
-/// value of another kind, and for a text with a surrogate without its other half. Nothing went out then. `Write` and
-/// `Changed` are those of [`crate::run_on`]; after `Read` and `Memory` a first part of the bytes may be out.
+/// Data and texts are written in parts, and never held in memory as a whole. A path that leads nowhere gets the same
+/// line as with `Get`.
+///
+/// These errors come before anything is written, in this order: `Path` for a wrong path text; `Fault` or `Circle` as
+/// `Lint` returns it; `NoRawForm` for a value of another kind, or for a text that has a surrogate without its other
+/// half. `Write` and `Changed` mean the same as in [`crate::run_on`]. Before `Read` or `Memory`, a first part of the
+/// bytes may have been written.
 pub fn show_raw_on<S: Source, W: Write>(
     alloc: Global,
     src: S,
@@ -46,7 +54,7 @@ pub fn show_raw_on<S: Source, W: Write>(
     }
 }
 
-/// Writes the raw bytes of what a checked file has under a path, and hands its source back.
+/// Writes the raw bytes of what a checked file has under a path. Returns the source too.
 fn raw_checked<S: Source, W: Write>(
     alloc: Global,
     checked: Checked<S>,

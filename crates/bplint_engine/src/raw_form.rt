@@ -1,4 +1,4 @@
-//! Which bytes a value has that are shown raw.
+//! Decides which raw bytes a value has.
 ghost use Rattle.std.specs.Prelude.{◌≡◌, IfOk, IfSome, IsTrue, length, not, option_map};
 ghost use Rattle.std.specs.Char.Utf16.{has_unpaired_surrogate};
 ghost use Rattle.bplist_objects.specs.Safe.{IsSafeBody};
@@ -14,18 +14,19 @@ use bplist_objects::{Head, Kind};
 use bplist_octets::Source;
 use std::alloc::{AllocError, Global};
 
-/// Bytes that are shown raw.
+/// The raw bytes of a value, or the head to read them with.
 #[derive(Debug, Drop)]
 pub(crate) enum Raw {
-    /// The bytes of data with this head.
+    /// The body of the data object with this head.
     Data(Head),
-    /// The UTF-8 of a text with this head, each surrogate of which has its other half.
+    /// The UTF-8 of the text object with this head. Each surrogate of the text has its other half.
     Text(Head),
-    /// These, which are few.
+    /// Short bytes, held here.
     Word(Vec<u8>),
 }
 
-/// The bytes of a node's value that are shown raw, if it has some. A text is read to its end.
+/// Returns the raw bytes of a node's value, or `None` if it has none. Reads a text to its end to look for surrogates
+/// without their other half.
 pub(crate) fn raw_of<S: Source>(
     alloc: Global,
     checked: &mut Checked<S>,
@@ -57,7 +58,7 @@ pub(crate) fn raw_of<S: Source>(
     }
 }
 
-/// The word or the digits of what a value shows, if these are its raw bytes.
+/// Returns the word or the digits for a face, if these are the raw bytes of its value.
 fn word_of(alloc: Global, shown: &Face) -> Result<Option<Vec<u8>>, AllocError>
     ensures { IfOk result (λ word. option_map (λ bytes. bytes.items) word ≡ raw_word shown.now) }
 {
@@ -70,7 +71,7 @@ fn word_of(alloc: Global, shown: &Face) -> Result<Option<Vec<u8>>, AllocError>
     }
 }
 
-/// Whether each surrogate of a text has its other half.
+/// Returns true if each surrogate of the text has its other half.
 fn is_paired<S: Source>(
     alloc: Global,
     checked: &mut Checked<S>,

@@ -1,4 +1,4 @@
-//! Raw bytes on their way to a writer, part by part.
+//! Writes raw bytes part by part.
 ghost use Rattle.std.specs.Prelude.{◌≡◌, false, IsTrue, length, encode_utf8_all};
 ghost use Rattle.std.specs.Char.Utf16.{has_unpaired_surrogate, utf16_lossy_chars};
 ghost use Rattle.bplist_octets.specs.Octets.{part};
@@ -20,7 +20,7 @@ use bplist_octets::Source;
 use std::alloc::Global;
 use std::io::Write;
 
-/// Sends raw bytes.
+/// Writes raw bytes, and flushes the sink.
 pub(crate) fn send_raw<S: Source, W: Write>(
     alloc: Global,
     checked: &mut Checked<S>,

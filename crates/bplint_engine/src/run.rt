@@ -1,4 +1,4 @@
-//! One command over a file and a certificate.
+//! Runs one command over a file and a certificate.
 ghost use Rattle.std.specs.Prelude.{◌≡◌, ℕ, List, [], false, IsTrue, if◌then◌else◌};
 ghost use Rattle.bplint_engine.specs.Prelude.{OnlyReads, IsDecoded, PrintsOnePath, Leaves, read_failed, Says, SaysOver, most, takes_cert};
 
@@ -16,18 +16,23 @@ use bplist_octets::{SliceSource, Source};
 use std::alloc::Global;
 use std::io::Write;
 
-/// Runs a command over a source and what decoding a certificate gave, and hands the source back.
+/// Runs a command over a source and a decoded certificate. Returns the source too.
 ///
-/// The answer goes to `out`: lines with a line feed behind each, or a certificate's bytes. `Lint` and `Certify` do not look
-/// at `decoded`. `Print` takes exactly one path.
+/// The answer goes to `out`: lines, each with a line feed, or the bytes of a certificate. `Lint` and `Certify` ignore
+/// `decoded`. `Print` requires exactly one path.
 ///
-/// The answer is the first fault, in this order: `Path` for a wrong path text, of several the first; the one of `decoded`;
-/// `Fault` or `Circle` for the file or its certificate; with `Print`, `NoAsciiForm` and then `TooLong`. Nothing went out
-/// then. `Write` is answered where a write failed: the first `sent` bytes of the answer went out, fewer than all.
+/// These errors come before anything is written, in this order:
 ///
-/// `Read` is answered where a read of the source failed, and `Memory` where a growth was refused. Nothing went out then,
-/// but with `Print` a first part of the answer may have. `Changed` is answered where the source gives other bytes than
-/// before, and never while it is honest.
+/// - `Path` for the first wrong path text,
+/// - the error in `decoded`,
+/// - `Fault` or `Circle` for the file or its certificate,
+/// - with `Print`, `NoAsciiForm` and then `TooLong`.
+///
+/// `Write` means that a write failed: the first `sent` bytes of the answer were written, and some were not.
+///
+/// `Read` means that a read of the source failed, and `Memory` that memory was refused. Nothing was written then,
+/// except that `Print` may have written a first part of the answer. `Changed` means that the source now gives other
+/// bytes than before. An honest source never causes it.
 pub fn run_certified<S: Source, W: Write>(
     alloc: Global,
     command: &Command,
@@ -50,8 +55,8 @@ pub fn run_certified<S: Source, W: Write>(
     }
 }
 
-/// Runs a command over a source and a certificate's bytes, as [`run_certified`] does with what decoding them gives: `Fault`
-/// by rule 24 or 25 for bytes that are no certificate. `Lint` and `Certify` do not look at `cert`.
+/// Decodes a certificate and runs a command, as [`run_certified`] does. If the bytes are no certificate, the error is
+/// `Fault` with rule 24 or 25. `Lint` and `Certify` ignore `cert`.
 pub fn run_on<S: Source, W: Write>(
     alloc: Global,
     command: &Command,
@@ -68,11 +73,11 @@ pub fn run_on<S: Source, W: Write>(
     run_certified(alloc, command, src, decoded, out)
 }
 
-/// Runs a command over the bytes of a file and a certificate. With `hex` these are hexadecimal texts;
-/// that of the certificate is looked at where the verb looks at the certificate.
+/// Runs a command over the bytes of a file and a certificate. With `hex` both are hexadecimal text; that of the
+/// certificate is only decoded if the verb uses the certificate.
 ///
-/// Before all faults of [`run_certified`] comes `Hex`: the file's text is wrong, or else the certificate's. Nothing went out then.
-/// `Read` and `Changed` are never answered.
+/// `Hex` comes before all errors of [`run_certified`]: the text of the file is wrong, or else that of the certificate.
+/// Nothing was written then. `Read` and `Changed` do not occur.
 pub fn run_over<W: Write>(
     alloc: Global,
     command: &Command,
@@ -93,7 +98,7 @@ pub fn run_over<W: Write>(
     run_over_bytes(alloc, command, &file, &cert, out)
 }
 
-/// The certificate's bytes, where the verb looks at the certificate, and else none.
+/// Returns the bytes of the certificate if the verb uses one, or else no bytes.
 fn looked_at(verb: Verb, cert: &[u8]) -> &[u8]
     ensures { result.now ≡ (if takes_cert verb then cert.now else []) }
 {

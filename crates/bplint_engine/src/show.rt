@@ -1,4 +1,4 @@
-//! Values under paths of a file, with no certificate at hand.
+//! The calls of `show`: values under paths of a file that has no certificate.
 ghost use Rattle.std.specs.Prelude.{◌∷◌, [], IsTrue, map, string_bytes};
 ghost use Rattle.bplint_engine.specs.Prelude.{OnlyReads, Leaves, read_failed, Answers, LinesSay, LintSays, PrintSays, found_line};
 
@@ -13,10 +13,10 @@ use bplist_octets::Source;
 use std::alloc::Global;
 use std::io::Write;
 
-/// Writes what `Get` writes for these path texts with the least certificate of the file, and hands the source back.
+/// Writes what `Get` writes for these path texts, with the certificate of the least heights. Returns the source too.
 ///
-/// The answer is the first fault: `Path` for the first wrong path text, or else `Fault` or `Circle` as `Lint` answers it.
-/// Nothing went out then. `Read`, `Memory`, `Write` and `Changed` are those of [`crate::run_on`].
+/// These errors come before anything is written, in this order: `Path` for the first wrong path text, then `Fault` or
+/// `Circle` as `Lint` returns it. `Read`, `Memory`, `Write` and `Changed` mean the same as in [`crate::run_on`].
 pub fn show_on<S: Source, W: Write>(
     alloc: Global,
     src: S,
@@ -31,7 +31,7 @@ pub fn show_on<S: Source, W: Write>(
     send_made(show_output(alloc, src, paths), out)
 }
 
-/// The lines of `show`, one for each path text, and the source again.
+/// Returns the lines of `show`, one for each path text, and the source.
 fn show_output<S: Source>(alloc: Global, src: S, texts: &[String]) -> (Result<Output, RunFault>, S)
     ensures source { OnlyReads (read_failed result.0) (S.means src) (S.means result.1) }
     ensures exact { IsTrue (S.means src).honest
@@ -48,12 +48,12 @@ fn show_output<S: Source>(alloc: Global, src: S, texts: &[String]) -> (Result<Ou
     }
 }
 
-/// Writes what `Print` writes for this path text and limit with the least certificate of the file, and hands the source
-/// back.
+/// Writes what `Print` writes for this path text and limit, with the certificate of the least heights. Returns the
+/// source too.
 ///
-/// The answer is the first fault: `Path` for a wrong path text; `Fault` or `Circle` as `Lint` answers it; `NoAsciiForm`
-/// and then `TooLong`. Nothing went out then. `Read`, `Memory`, `Write` and `Changed` are those of [`crate::run_on`] with
-/// `Print`.
+/// These errors come before anything is written, in this order: `Path` for a wrong path text; `Fault` or `Circle` as
+/// `Lint` returns it; `NoAsciiForm`; `TooLong`. `Read`, `Memory`, `Write` and `Changed` mean the same as in
+/// [`crate::run_on`] with `Print`.
 pub fn show_text_on<S: Source, W: Write>(
     alloc: Global,
     src: S,

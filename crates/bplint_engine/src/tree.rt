@@ -1,8 +1,8 @@
-//! A value in a file with all that it has, with no certificate at hand.
+//! The command `ls --recursive`: lists a value and everything inside it, in a file that has no certificate.
 ghost use Rattle.std.specs.Prelude.{◌≡◌, IsTrue};
 ghost use Rattle.bplint_engine.specs.Prelude.{Gives, OnlyReads, Holds, Value, IsVouchedBy, OnlyReadsFile, LintSays, read_failed};
 ghost use Rattle.bplist_cursor.specs.Nodes.{cap, nodes};
-ghost use Rattle.bplint_engine.specs.Streams.{LeavesSomeBy};
+ghost use Rattle.bplint_lines.specs.Answers.{LeavesSomeBy};
 ghost use Rattle.bplint_engine.specs.Tree.{ListsAll, NodeLists, PathLists};
 
 use crate::certified_file::checked_by_lint;
@@ -17,18 +17,21 @@ use bplist_octets::Source;
 use std::alloc::Global;
 use std::io::Write;
 
-/// Writes a line for the value under this path text and one for each value in it, and hands the source back.
+/// Lists the value under a path, and every value inside it. Returns the source too.
 ///
-/// The value's own line comes first: the path text, a tab, and the line of `Get` for it. Behind the line of a container
-/// stand those of its members in written order, each with all that is in it. They are the lines of [`crate::list_on`] at
-/// that container, so a key has no line of its own, and what is in a member without a path has that member's place in
-/// brackets in front. A path that leads nowhere gets its line as with `Get`.
+/// The value's own line comes first: the path text, a tab, and the line of `Get` for it. The line of a container is
+/// followed by the lines of its members in written order, each with everything inside it. These are the lines of
+/// [`crate::list_on`] at that container, so a key has no line of its own. If a member has no path, the names of
+/// everything inside it begin with the member's index in brackets. A path that leads nowhere gets the same line as with
+/// `Get`.
 ///
-/// Lines go out as they are made. Memory is taken by the number of objects, by the depth, and for one line.
+/// Lines are written as they are made. Memory grows with the number of objects, the depth of the value and the length
+/// of a line.
 ///
-/// The answer is the first fault: `Path` for a wrong path text; `Fault` or `Circle` as `Lint` answers it; `TooLong` for a
-/// value with more than `limit` nodes, or with 18446744073709551615 or more; each key is a node. Nothing went out then.
-/// `Write` and `Changed` are those of [`crate::run_on`]; after `Read` and `Memory` a first part of the lines may be out.
+/// These errors come before anything is written, in this order: `Path` for a wrong path text; `Fault` or `Circle` as
+/// `Lint` returns it; `TooLong` if the value has more than `limit` nodes, or 18446744073709551615 or more. Each key is
+/// a node. `Write` and `Changed` mean the same as in [`crate::run_on`]. Before `Read` or `Memory`, a first part of the
+/// lines may have been written.
 pub fn list_all_on<S: Source, W: Write>(
     alloc: Global,
     src: S,
@@ -60,18 +63,18 @@ pub fn list_all_on<S: Source, W: Write>(
     }
 }
 
-/// What a recursive listing is asked for.
+/// What to list.
 #[derive(Drop)]
 struct Branch<'a> {
     /// The path text of the value.
     text: &'a str,
-    /// Its path.
+    /// The path of the value.
     path: Path,
-    /// How many nodes the value may have.
+    /// The largest number of nodes that the value may have.
     limit: u64,
 }
 
-/// Writes the lines of what a checked file has under a path, and hands its source back.
+/// Lists what a checked file has under a path. Returns the source too.
 fn tree_checked<S: Source, W: Write>(
     alloc: Global,
     checked: Checked<S>,
@@ -89,7 +92,7 @@ fn tree_checked<S: Source, W: Write>(
     (answer, checked.into_parts().0)
 }
 
-/// Writes the lines of what a checked file has under a path.
+/// Lists what a checked file has under a path.
 fn tree_path<S: Source, W: Write>(
     alloc: Global,
     checked: &mut Checked<S>,
@@ -108,7 +111,7 @@ fn tree_path<S: Source, W: Write>(
     }
 }
 
-/// Writes the lines of a node's value.
+/// Lists a node's value.
 fn tree_node<S: Source, W: Write>(
     alloc: Global,
     checked: &mut Checked<S>,
@@ -130,7 +133,7 @@ fn tree_node<S: Source, W: Write>(
     Ok(Said::All)
 }
 
-/// How many nodes a node's value has, or 18446744073709551615 where there are more.
+/// Returns the number of nodes of a node's value, or 18446744073709551615 if there are more.
 fn nodes_at<S: Source>(alloc: Global, checked: &mut Checked<S>, node: Node) -> Result<u64, RunFault>
     ensures reads { OnlyReadsFile (read_failed result) checked.old checked.new }
     ensures exact { IsTrue checked.old.source.honest → IsVouchedBy checked.old.certificate.heights node.object.0

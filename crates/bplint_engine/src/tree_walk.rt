@@ -1,4 +1,5 @@
-//! The walk that lists a value with all that it has: containers whose members are not all listed wait on a stack.
+//! The walk that lists a value and everything inside it. A stack holds the containers whose members are not all listed
+//! yet.
 ghost use Rattle.std.specs.Prelude.{ℕ, List, ◌≡◌, ◌↔◌, ◌∷◌, ◌++◌, ◌*◌, ◌+◌, ◌^◌, ◌<◌, ◌≤◌, [], IfOk, IfSome, IsTrue, OnOk, Some, MatchOption, MatchResult, codes, length, reverse};
 ghost use Rattle.bplist_ascii.specs.Sending.{Takes};
 ghost use Rattle.bplist_cursor.specs.Found.{IsHeld};
@@ -21,26 +22,25 @@ use bplist_octets::Source;
 use std::alloc::{AllocError, Global};
 use std::io::Write;
 
-/// A node, and where its name stands.
+/// A node, and the range of its name.
 #[derive(Clone, Copy, Drop)]
 struct Named {
     node: Node,
     name: Name,
 }
 
-/// A container whose members before number `next` are listed or begun.
+/// A container on the stack. Its members before number `next` are listed or begun.
 #[derive(Clone, Copy, Drop)]
 struct Opened {
     head: Head,
     members: Members,
-    /// How many members it has, or pairs.
+    /// The number of members, or of pairs.
     count: u64,
     next: u64,
     name: Name,
 }
 
 impl Opened {
-    /// Whether all members are listed.
     fn is_done(&self) -> bool
         ensures { IsTrue result ↔ (self.now.next ≡ self.now.count) }
     {
@@ -48,22 +48,22 @@ impl Opened {
     }
 }
 
-/// A recursive listing.
+/// The state of a recursive listing.
 #[derive(Drop)]
 pub(crate) struct Listing {
     alloc: Global,
-    /// The containers round the node that is listed, the outermost first.
+    /// The containers around the current node, the outermost first.
     stack: Vec<Opened>,
     /// Their names.
     names: Names,
-    /// The line that is made.
+    /// The line that is being made.
     line: Vec<u8>,
-    /// How many lines may follow.
+    /// How many more lines may be written.
     room: u64,
     sink: Sink,
 }
 
-/// Writes the lines of a node's value and of all that it has, as far as the listing that begins has room.
+/// Writes the lines of a node's value and of everything inside it, if the listing has room for them.
 pub(crate) fn write_tree<S: Source, W: Write>(
     checked: &mut Checked<S>,
     node: Node,
@@ -86,7 +86,7 @@ pub(crate) fn write_tree<S: Source, W: Write>(
     Ok(())
 }
 
-/// Puts in the lines of a node's value and of all that it has.
+/// Puts the lines of a node's value and of everything inside it into the sink.
 fn list<S: Source, W: Write>(
     checked: &mut Checked<S>,
     top: Named,
@@ -108,7 +108,7 @@ fn list<S: Source, W: Write>(
     Ok(())
 }
 
-/// Puts in the line of a node, and opens it where it is a container.
+/// Puts the line of a node into the sink. Pushes the node on the stack if it is a container.
 fn begin<S: Source, W: Write>(
     checked: &mut Checked<S>,
     at: Named,
@@ -144,7 +144,7 @@ fn begin<S: Source, W: Write>(
     Ok(())
 }
 
-/// Puts in the line of a node. Returns which members it has, and how many, where it is a container.
+/// Puts the line of a node into the sink. Returns the kind and number of its members if it is a container.
 fn write_line<S: Source, W: Write>(
     checked: &mut Checked<S>,
     at: Named,
@@ -176,7 +176,7 @@ fn write_line<S: Source, W: Write>(
     Ok(members_of(&shown, length))
 }
 
-/// Goes on in a container, which was on top of the stack.
+/// Lists the next member of a container that was just popped from the stack.
 fn step<S: Source, W: Write>(
     checked: &mut Checked<S>,
     opened: Opened,
@@ -205,7 +205,7 @@ fn step<S: Source, W: Write>(
     begin(checked, at, listing, out)
 }
 
-/// The next member of a container, with its name.
+/// Returns the next member of a container, with its name.
 fn name_member<S: Source>(
     checked: &mut Checked<S>,
     opened: &Opened,
@@ -240,7 +240,7 @@ fn name_member<S: Source>(
     }
 }
 
-/// The value of the next key of a dictionary, with its name.
+/// Returns the value of the next key of a dictionary, with its name.
 fn name_value<S: Source>(
     checked: &mut Checked<S>,
     opened: &Opened,
@@ -269,7 +269,7 @@ fn name_value<S: Source>(
     Ok(Named { node, name })
 }
 
-/// The node of member `i` of an object with this head.
+/// Returns the node of member `i` of the object with this head.
 fn member_node<S: Source>(checked: &mut Checked<S>, head: &Head, i: u64) -> Result<Node, RunFault>
     requires { IsSafeHead checked.old.frame head.now }
     ensures reads { OnlyReadsFile (read_failed result) checked.old checked.new }
@@ -283,7 +283,7 @@ fn member_node<S: Source>(checked: &mut Checked<S>, head: &Head, i: u64) -> Resu
 }
 
 impl Listing {
-    /// A listing that begins: of a value with this path text, and with room for so many lines.
+    /// A listing that has not begun, of a value with this path text, with room for `room` lines.
     pub(crate) fn new(alloc: Global, path: &str, room: u64) -> Result<Listing, AllocError>
         ensures { IfOk result (λ listing. (listing.stack.items ≡ []) × (listing.names ≡ path.now) × (listing.room ≡ room)
             × (listing.sink ≡ begun)) }
@@ -298,7 +298,7 @@ impl Listing {
         })
     }
 
-    /// Makes the line of a value with this name that shows this.
+    /// Makes the line of a value with this name and this face.
     fn make_line(&mut self, name: Name, shown: &Face) -> Result<(), AllocError>
         requires { IsNameIn self.old.names name }
         ensures line { OnOk result (self.new.line.items

@@ -1,4 +1,4 @@
--- What is said of a rule under a fault's line. Source: profile.
+-- What the explanation of a fault says of the rule. Source: profile.
 use Rattle.std.specs.Prelude.{ℕ, List, ◌++◌, codes, Option, None, Some}
 use Rattle.std.specs.Fmt.{decimal}
 use Rattle.bplist_objects.specs.declared.rule.Rule.{Rule}
@@ -8,7 +8,7 @@ use Rattle.bplist_objects.specs.Words.{number_of}
 use Rattle.bplint_lines.specs.declared.fault.RunFault.{RunFault}
 use Rattle.bplint_lines.specs.declared.fault.RunFault.TheVariants.{Circle, Fault, Path}
 
--- the rule's line under a fault
+-- the line of the rule under a fault
 abbrev pub rule_line : Rule → List ℕ
 rule_line rule = codes "  rule " ++ decimal (number_of rule) ++ codes ": " ++ (text_of rule).0 ++ codes "\n"
 

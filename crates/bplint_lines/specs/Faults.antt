@@ -1,4 +1,4 @@
--- What is said of the faults of a run. Source: profile.
+-- What contracts say of the faults of a run. Source: profile.
 use Rattle.std.specs.Prelude.{Result, Ok, Err}
 use Rattle.bplint_lines.specs.declared.fault.RunFault.{RunFault}
 use Rattle.bplint_lines.specs.declared.fault.RunFault.TheVariants as faults
@@ -7,7 +7,7 @@ use Rattle.bplint_lines.specs.declared.fault.RunFault.TheVariants as faults
 abbrev pub IsExcused : RunFault → Type 0
 IsExcused fault = elim fault [ faults.Read _ ↦ Unit {0} | faults.Memory ↦ Unit {0} | _ ↦ ⊥ ]
 
--- P holds of the answer, and no fault comes but a failed read or refused memory
+-- P holds of the answer; the only faults are a failed read and refused memory
 abbrev pub Gives : {X : Type 0} → (X → Type 0) → Result X RunFault → Type 0
 Gives P (Ok x) = P x
 Gives P (Err fault) = IsExcused fault

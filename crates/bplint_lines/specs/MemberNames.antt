@@ -1,4 +1,4 @@
--- The names that lines have for the members of containers. Source: the path texts RFC 6901; the indexes profile.
+-- The names of members in lines. Source: the path texts RFC 6901; the indexes profile.
 use Rattle.std.specs.Prelude.{◌++◌, ℕ, ◌==◌, ◌||◌, List, Bool, nat_lt, if◌then◌else◌, codes, encode_utf8_all}
 use Rattle.std.specs.Char.{is_control}
 use Rattle.std.specs.Int.{is_in_range}
@@ -7,7 +7,7 @@ use Rattle.std.specs.Fmt.{decimal}
 use Rattle.std.specs.Char.Utf16.{has_unpaired_surrogate, utf16_lossy_chars}
 use Rattle.bplist_cursor.specs.Path.{escaped}
 
--- a line would not show this unit as it stands: a control character, or one that begins a line or turns the direction of text
+-- a line cannot show this unit: a control character, a line or paragraph separator, or a control of text direction
 abbrev pub is_unshown : ℕ → Bool
 is_unshown u = is_control u || u == 0x61C || is_in_range 0x200E 0x200F u || is_in_range 0x2028 0x202E u || is_in_range 0x2066 0x2069 u
 
@@ -15,7 +15,7 @@ is_unshown u = is_control u || u == 0x61C || is_in_range 0x200E 0x200F u || is_i
 abbrev pub is_ascii : ℕ → Bool
 is_ascii u = nat_lt u 0x80
 
--- an index among the members, in brackets
+-- an index in brackets
 abbrev pub bracketed : ℕ → List ℕ
 bracketed i = codes "[" ++ decimal i ++ codes "]"
 
@@ -23,8 +23,8 @@ bracketed i = codes "[" ++ decimal i ++ codes "]"
 abbrev pub index_name : List ℕ → ℕ → List ℕ
 index_name path i = path ++ codes "/" ++ decimal i
 
--- the name of value i: its index if the key is no UTF-16 or not all shown, else its container's path text, `/` and the escaped
--- key
+-- the name of value i: its index if the key is no UTF-16 or cannot be shown, or else the path text of its container,
+-- `/` and the escaped key
 abbrev pub key_name : List ℕ → ℕ → List ℕ → List ℕ
 key_name path i key = if list_any is_unshown key || has_unpaired_surrogate key then bracketed i
     else path ++ codes "/" ++ flat_map escaped (encode_utf8_all (utf16_lossy_chars key))

@@ -1,4 +1,4 @@
--- The lines of standard output, without line feeds. Source: profile.
+-- The lines of answers, without line feeds. Source: profile.
 use Rattle.std.specs.Prelude.{ℕ, List, [], ◌∷◌, ◌++◌, codes, get_or, if◌then◌else◌}
 use denote.Enum.Declared.{tag_of}
 use Rattle.std.specs.Fmt.{decimal, signed_decimal}
@@ -11,7 +11,7 @@ use Rattle.bplist_cursor.specs.declared.found.Why.{Why}
 use Rattle.bplist_cursor.specs.declared.found.Why.TheVariants.{NoKey, NoIndex, NotSteppable}
 use Rattle.bplist_cursor.specs.Texts.{text_of_units, text_of_bytes}
 
--- the words of the kinds, in the order in which they are declared
+-- the words for the kinds, in the order of their declaration
 abbrev pub kind_word : Kind → List ℕ
 kind_word kind = codes (get_or ("null" ∷ "false" ∷ "true" ∷ "int" ∷ "real" ∷ "date" ∷ "data" ∷ "text" ∷ "text"
     ∷ "uid" ∷ "array" ∷ "set" ∷ "dict" ∷ []) (tag_of kinds kind) "")
@@ -38,7 +38,7 @@ face_line (faces.Array count) = codes "array " ++ decimal count
 face_line (faces.Set count) = codes "set " ++ decimal count
 face_line (faces.Dict count) = codes "dict " ++ decimal count
 
--- the line for a path that leads nowhere: the step that can't be taken, and why
+-- the line for a path that leads nowhere: the step that fails, and why
 abbrev pub missing_line : ℕ → Why → List ℕ
 missing_line step why = codes "missing " ++ decimal step ++ codes " "
     ++ codes (elim why [ NoKey ↦ "NoKey" | NoIndex ↦ "NoIndex" | NotSteppable ↦ "NotSteppable" ])

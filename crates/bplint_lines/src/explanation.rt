@@ -1,4 +1,4 @@
-//! What is said under a fault's line: the rule, the numbers of the file, the path to the object, the bytes.
+//! Explains a fault: the rule, the numbers of the file, the path to the object, and the bytes.
 ghost use Rattle.std.specs.Prelude.{◌≡◌, ℕ, List, [], ◌<◌, ◌++◌, IfOk, IfSome, MatchOption, length, string_bytes};
 ghost use Rattle.bplist_octets.specs.Meaning.{OnlyReads};
 ghost use Rattle.bplist_objects.specs.Safe.{IsSafeFrame};
@@ -15,16 +15,20 @@ use bplist_objects::{Fault, Frame, Kind, ObjectFault, ObjectNo, Rule, offset_of,
 use bplist_octets::{SliceSource, Source};
 use std::alloc::{AllocError, Global};
 
-/// How many bytes before a place are shown, and how many from it on.
+/// The number of bytes that are shown before a place, and from it on.
 const CONTEXT: u64 = 8;
 
-/// The lines under a fault's line, each indented by two blanks and with its line feed; of a fault by which no rule is
-/// broken there are none.
+/// Returns the lines that explain a fault. Each is indented by two blanks and ends with a line feed. If the fault is
+/// not about a rule, there are none.
 ///
-/// The first line has the rule's number and what it asks. The others have the numbers of this file: length and trailer, or
-/// what a file without the header looks like; kind, count and place of the object; of a wrong key its number and text; the
-/// path that leads to the object (of a circle to its first object); and the bytes round the place, which stands in
-/// brackets. They are those of the certificate `cert` for rules whose places count there.
+/// The first line gives the number of the rule and what the rule requires. The others describe this file:
+///
+/// - its length and trailer, or what a file without the header looks like;
+/// - number, kind, count and place of the object;
+/// - number and text of a wrong key;
+/// - the path that leads to the object, or to the first object of a circle;
+/// - the bytes around the place, with the place in brackets. These are bytes of the certificate `cert` if the rule
+///   counts places there.
 pub fn explain<S: Source>(
     alloc: Global,
     src: &mut S,
@@ -52,7 +56,7 @@ pub fn explain<S: Source>(
     }
 }
 
-/// The line of a rule, and the lines behind it.
+/// Returns the line of a rule, followed by these lines.
 fn behind_rule(alloc: Global, rule: Rule, lines: &str) -> Result<String, AllocError>
     ensures { IfOk result (λ text. string_bytes text ≡ rule_line rule ++ lines.now) }
 {
@@ -61,7 +65,7 @@ fn behind_rule(alloc: Global, rule: Rule, lines: &str) -> Result<String, AllocEr
     Ok(text)
 }
 
-/// The lines for the place of a broken rule.
+/// Returns the lines about the place of a broken rule.
 fn fault_lines<S: Source>(
     alloc: Global,
     src: &mut S,
@@ -88,7 +92,7 @@ fn fault_lines<S: Source>(
     Ok(text)
 }
 
-/// The lines for a circle with this first object.
+/// Returns the lines about a circle that begins with this object.
 fn circle_lines<S: Source>(alloc: Global, src: &mut S, first: ObjectNo) -> Result<String, RunFault>
     ensures reads { OnlyReads (read_failed result) (S.means src.old) (S.means src.new) }
 {
@@ -98,7 +102,7 @@ fn circle_lines<S: Source>(alloc: Global, src: &mut S, first: ObjectNo) -> Resul
     }
 }
 
-/// The frame of a file, if its trailer keeps the rules.
+/// Returns the frame of a file if it keeps the rules of frames.
 fn frame_in<S: Source>(src: &mut S) -> Result<Option<Frame>, RunFault>
     ensures reads { OnlyReads (read_failed result) (S.means src.old) (S.means src.new) }
     ensures safe { IfOk result (λ found. IfSome found (IsSafeFrame (length (S.means src.old).octets))) }
@@ -110,7 +114,7 @@ fn frame_in<S: Source>(src: &mut S) -> Result<Option<Frame>, RunFault>
     }
 }
 
-/// The lines for an object of a broken rule: what it is, of a wrong key which one, and the path to it.
+/// Returns the lines about the object that breaks a rule: what it is, which key is wrong, and the path to it.
 fn object_lines<S: Source>(
     alloc: Global,
     src: &mut S,
@@ -132,7 +136,7 @@ fn object_lines<S: Source>(
     Ok(text)
 }
 
-/// Number, kind, count and place of an object, as far as it has them.
+/// Returns number, kind, count and place of an object, as far as they are known.
 fn object_line<S: Source>(
     alloc: Global,
     src: &mut S,
@@ -154,8 +158,8 @@ fn object_line<S: Source>(
     }
 }
 
-/// Number and text of the key whose reference stands at a place; behind the front of a long text ` ..`, which no whole
-/// text ends in, since one with a blank stands in quotes.
+/// Returns number and text of the key whose reference is at this place. ` ..` marks a text that is cut. No whole text
+/// ends so, because a text with a blank is in quotes.
 fn key_line<S: Source>(
     alloc: Global,
     src: &mut S,
@@ -185,7 +189,7 @@ fn key_line<S: Source>(
     Ok(line)
 }
 
-/// The path that leads to an object.
+/// Returns the line with the path to an object.
 fn path_line<S: Source>(
     alloc: Global,
     src: &mut S,
@@ -208,7 +212,8 @@ fn path_line<S: Source>(
     }
 }
 
-/// The bytes round a place, from the place of the first of them on. The place stands in brackets, empty ones at the end.
+/// Returns the line with the bytes around a place, after the place of the first of them. The place is in brackets; at
+/// the end of the file the brackets are empty.
 fn bytes_line<S: Source>(alloc: Global, src: &mut S, place: u64) -> Result<String, RunFault>
     ensures reads { OnlyReads (read_failed result) (S.means src.old) (S.means src.new) }
 {
@@ -223,7 +228,7 @@ fn bytes_line<S: Source>(alloc: Global, src: &mut S, place: u64) -> Result<Strin
     Ok(dump(alloc, start, shown, (place - start) as usize)?)
 }
 
-/// The line of bytes that begin at `start`, of which number `marked` stands in brackets.
+/// Formats bytes that begin at `start`, with byte number `marked` in brackets.
 fn dump(alloc: Global, start: u64, octets: &[u8], marked: usize) -> Result<String, AllocError> {
     let mut line = format!(in alloc; "  bytes at {start}:")?;
     for (k, octet) in octets.iter().enumerate() {

@@ -1,4 +1,4 @@
-//! Why a run gives no answer, the line that says so, and the exit status.
+//! The errors of a run, with the line and the exit status of each.
 ghost use Rattle.std.specs.Prelude.{◌≡◌, IfOk, string_bytes};
 ghost use Rattle.bplint_lines.specs.declared.fault.RunFault.TheVariants.{Changed, Circle, Fault, Memory, NoAsciiForm, Path};
 ghost use Rattle.bplint_lines.specs.declared.fault.RunFault.TheVariants.{Read, TooLong, Write};
@@ -21,38 +21,38 @@ use bplist_objects::{Fault, ObjectNo, Rule, rule_name};
 use bplist_octets::ReadFault;
 use std::alloc::{AllocError, AllocFailed, Global};
 
-/// Why a run gives no answer.
+/// Why a run has no answer.
 #[derive(Debug, Drop)]
 pub enum RunFault {
-    /// A broken rule of the file or the certificate.
+    /// The file or the certificate breaks a rule.
     Fault(Fault),
-    /// The objects of a reference circle.
+    /// References form a circle of these objects.
     Circle(ObjectNos),
-    /// A wrong path text.
+    /// A path text is wrong.
     Path {
-        /// The byte at which it is wrong, counted from the text's first.
+        /// The number of the wrong byte in the text, counted from 0.
         place: usize,
     },
-    /// The first object, in the order of writing, whose kind has no old-style text.
+    /// The value has no old-style text. This is the first object, in the order of writing, whose kind has none.
     NoAsciiForm(ObjectNo),
-    /// The text is longer than the limit.
+    /// The text or listing is longer than the limit.
     TooLong,
     /// A read of the file failed.
     Read(ReadFault),
-    /// A wrong hexadecimal text.
+    /// A hexadecimal text is wrong.
     Hex,
     /// The file changed between two reads.
     Changed,
     /// A write failed.
     Write {
-        /// How many bytes of the answer had gone out, fewer than all.
+        /// The number of bytes of the answer that were written, which is less than all.
         sent: u64,
     },
     /// Memory was refused.
     Memory,
     /// A file could not be opened.
     Open,
-    /// An input that is read whole is longer than the program takes.
+    /// An input that must be read as a whole is longer than the limit of the program.
     InputTooLong,
 }
 
@@ -222,7 +222,7 @@ impl<T: Drop> From<AllocFailed<T>> for RunFault {
 }
 
 impl RunFault {
-    /// The exit status.
+    /// Returns the exit status.
     pub fn status(&self) -> u8
         ensures { result ≡ (report_of self.now).1 }
     {
@@ -243,7 +243,7 @@ impl RunFault {
         }
     }
 
-    /// The printed line, without its line feed. Only memory can be refused.
+    /// Returns the line to print, without a line feed. The only error is refused memory.
     pub fn line(&self, alloc: Global) -> Result<String, AllocError>
         ensures { IfOk result (λ text. string_bytes text ≡ (report_of self.now).0) }
     {

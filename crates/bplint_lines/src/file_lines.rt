@@ -1,4 +1,4 @@
-//! The lines for a file as a whole: its length and the numbers of its trailer, or what it looks like instead.
+//! Describes a file as a whole: its length and the numbers of its trailer, or what it looks like instead.
 ghost use Rattle.bplist_octets.specs.Meaning.{OnlyReads};
 ghost use Rattle.bplint_lines.specs.Answers.{read_failed};
 
@@ -6,17 +6,17 @@ use crate::fault::RunFault;
 use bplist_octets::{Source, sized};
 use std::alloc::{AllocError, Global};
 
-/// How many bytes a trailer has.
+/// The length of a trailer in bytes.
 const TRAILER: u64 = 32;
 
-/// How many bytes at the beginning of a file are looked at for what it looks like.
+/// The number of bytes at the start of a file that decide what it looks like.
 const FRONT: usize = 256;
 
-/// How many bytes are read at once where all have to be looked at.
+/// The number of bytes that one read takes if the whole file is read.
 const BLOCK: usize = 4096;
 
-/// The length of a file. Behind the header `bplist00` the line has the numbers of the trailer too, if the file has room for
-/// one. For any other file the next line says what it looks like, if that is known.
+/// Returns the line with the length of a file. If the file begins with `bplist00` and has room for a trailer, the line
+/// also gives the numbers of the trailer. For any other file, a second line says what it looks like, if that is known.
 pub(crate) fn file_lines<S: Source>(alloc: Global, src: &mut S) -> Result<String, RunFault>
     ensures reads { OnlyReads (read_failed result) (S.means src.old) (S.means src.new) }
 {
@@ -34,7 +34,7 @@ pub(crate) fn file_lines<S: Source>(alloc: Global, src: &mut S) -> Result<String
     Ok(lines)
 }
 
-/// The length of a file, and the numbers of its trailer where it has room for one.
+/// Returns the length of a file, and the numbers of its trailer if the file has room for one.
 fn trailer_line<S: Source>(alloc: Global, src: &mut S) -> Result<String, RunFault>
     ensures reads { OnlyReads (read_failed result) (S.means src.old) (S.means src.new) }
 {
@@ -53,7 +53,7 @@ fn trailer_line<S: Source>(alloc: Global, src: &mut S) -> Result<String, RunFaul
     )?)
 }
 
-/// What a file without the header looks like that begins with `front`, if that is known.
+/// Returns what a file without the header looks like, if that is known. `front` is its start.
 fn look_of<S: Source>(
     alloc: Global,
     src: &mut S,
@@ -78,7 +78,7 @@ fn are_zeros(octets: &[u8]) -> bool {
     octets.iter().all(|octet| *octet == 0)
 }
 
-/// Whether all bytes of a file are zeros, which are read up to the first block that has another.
+/// Returns true if all bytes of a file are zeros. Stops reading at the first block that has another byte.
 fn is_all_zeros<S: Source>(src: &mut S) -> Result<bool, RunFault>
     ensures reads { OnlyReads (read_failed result) (S.means src.old) (S.means src.new) }
 {
@@ -96,7 +96,7 @@ fn is_all_zeros<S: Source>(src: &mut S) -> Result<bool, RunFault>
     Ok(true)
 }
 
-/// What a file looks like that begins so.
+/// Returns what a file with this start looks like.
 fn look_by_front(alloc: Global, front: &[u8]) -> Result<Option<&'static str>, AllocError> {
     if front.starts_with(b"bplist15") {
         return Ok(Some("bplist15, another binary format"));
@@ -111,7 +111,7 @@ fn look_by_front(alloc: Global, front: &[u8]) -> Result<Option<&'static str>, Al
     Ok(look_of_text(text.trim_ascii_start()))
 }
 
-/// A text in UTF-8 or UTF-16, with or without a byte order mark, with one byte for each ASCII character.
+/// Converts UTF-8 or UTF-16, with or without a byte order mark, to one byte for each ASCII character.
 fn one_byte_text(alloc: Global, front: &[u8]) -> Result<Vec<u8>, AllocError> {
     match front {
         [0xef, 0xbb, 0xbf, text @ ..] => text.to_vec(alloc),
@@ -127,7 +127,7 @@ fn every_second(alloc: Global, octets: &[u8], first: usize) -> Result<Vec<u8>, A
     octets.iter().skip(first).step_by(2).copied().collect(alloc)
 }
 
-/// What a text looks like that begins so. The word `plist` tells a property list from other XML.
+/// Returns what a text with this start looks like. The word `plist` tells a property list from other XML.
 fn look_of_text(text: &[u8]) -> Option<&'static str> {
     let has_plist = text.windows(5).any(|word| word == b"plist".as_slice());
     match text {

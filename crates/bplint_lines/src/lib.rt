@@ -1,4 +1,5 @@
-//! The lines that bplint writes: faults, exit statuses, rules in plain words, values.
+//! The wording of bplint: the line and exit status of each fault, the rules in plain words, and the lines of answers.
+//! Not here: which answer or fault a command has (crate `bplint_engine`).
 //!
 //! ```
 //! if let Err(fault) = answer {
@@ -8,17 +9,25 @@
 //! }
 //! ```
 //!
-//! | what | calls |
+//! | to do this | call |
 //! |---|---|
-//! | a fault's line and exit status | [`RunFault`]: `line`, `status` |
-//! | the same of raw bytes | [`RawFault`] |
-//! | what a fault is about | [`explain`] |
-//! | what a rule asks, and the rule of a word | [`rule_text`], [`rule_of_word`] |
-//! | the lines of answers | [`add_lint`], [`add_check`], [`add_face`], [`add_missing`], [`kind_name`] |
-//! | the names of members in them | [`add_index_name`], [`add_key_name`], [`add_index`] |
-//! | what a run says of its answer | [`Said`] |
+//! | write the line of a fault, get its exit status | [`RunFault`]: `line`, `status` |
+//! | the same for raw bytes | [`RawFault`] |
+//! | explain a fault | [`explain`] |
+//! | explain a rule, find the rule of a word | [`rule_text`], [`rule_of_word`] |
+//! | write the line of an answer | [`add_lint`], [`add_check`], [`add_face`], [`add_missing`], [`kind_name`] |
+//! | write the name of a member | [`add_index_name`], [`add_key_name`], [`add_index`] |
+//! | tell whether each path led to a value | [`Said`] |
 //!
-//! Answers, and what a run leaves with the writer, are defined in specs/Answers.antt.
+//! specs/Answers.antt defines answers, and what a run leaves with the writer.
+//!
+//! The modules, in reading order:
+//!
+//! - `said`, `fault`, `raw_fault`: how a run ends.
+//! - `rule_lines`: rules in plain words.
+//! - `output_lines`, `member_names`: the lines of answers, and the names of members in them.
+//! - `explanation`: the lines under the line of a fault.
+//! - `file_lines`, `object_path`: what an explanation says of the file, and the path to an object.
 #![tactic(auto)]
 
 mod explanation;

@@ -1,6 +1,6 @@
-//! The names that lines have for the members of containers.
+//! The names of members in lines.
 //!
-//! Each call adds its name to the bytes. The one refusal is that of a growth.
+//! Each call adds a name to the bytes. The only error is refused memory.
 ghost use Rattle.std.specs.Prelude.{◌≡◌, ◌++◌, ◌∷◌, OnOk, true};
 ghost use Rattle.std.specs.List.{flat_map, list_all, list_any};
 ghost use Rattle.bplist_cursor.specs.Path.{escaped};
@@ -31,8 +31,8 @@ pub fn add_index(alloc: Global, i: u64, lines: &mut Vec<u8>) -> Result<(), Alloc
     lines.extend_from_slice(index.as_bytes())
 }
 
-/// Adds the path text of the value of a key with these units, which is number `i`, or its index where it has none that
-/// can be shown.
+/// Adds the path text of the value of pair `i`, whose key has these units. Adds the index in brackets if the key cannot
+/// be shown.
 pub fn add_key_name(
     alloc: Global,
     path: &str,
@@ -61,15 +61,15 @@ fn are_ascii(units: &[u16]) -> bool
     units.iter().all(|unit| *unit < 0x80)
 }
 
-/// Is there a unit that no line shows?
+/// Returns true if a line cannot show one of the units.
 fn have_unshown(units: &[u16]) -> bool
     ensures { result ≡ list_any spec.is_unshown units.now }
 {
     units.iter().any(|unit| is_unshown(*unit))
 }
 
-/// Is it a control character, a separator of lines or paragraphs, or a control of the direction of text? At each of these
-/// readers may begin a new line, or a terminal take a command or show a line in another order.
+/// Returns true for a control character, a line or paragraph separator, and a control of text direction. These could
+/// begin a new line, give a command to the terminal, or change the order in which a line is displayed.
 fn is_unshown(unit: u16) -> bool
     ensures { result ≡ spec.is_unshown unit }
 {
@@ -79,7 +79,7 @@ fn is_unshown(unit: u16) -> bool
     )
 }
 
-/// Adds a path text, `/` and a token, in which `~0` stands for `~` and `~1` for `/`.
+/// Adds a path text, `/` and a token. In the token, `~` becomes `~0` and `/` becomes `~1`.
 fn add_path(path: &str, token: &[u8], lines: &mut Vec<u8>) -> Result<(), AllocError>
     ensures { OnOk result (lines.new.items ≡ lines.old.items ++ (path.now ++ 0x2F ∷ flat_map escaped token.now)) }
 {

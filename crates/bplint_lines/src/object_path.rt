@@ -1,7 +1,7 @@
-//! The path from the top to an object, in files that need not be sound.
+//! Finds the path from the top to an object, in any file.
 //!
-//! It goes by members of arrays and by values of dictionaries, as paths do. An object that breaks a rule of marker and
-//! count leads nowhere.
+//! The search follows members of arrays and values of dictionaries, as paths do. It does not go on from an object that
+//! breaks a rule about markers or counts.
 ghost use Rattle.std.specs.Prelude.{◌<◌, IfOk, IfSome, length};
 ghost use Rattle.bplist_octets.specs.Meaning.{OnlyReads};
 ghost use Rattle.bplist_objects.specs.Safe.{IsSafe, IsSafeFrame, IsSafeHead, ref_count};
@@ -13,48 +13,48 @@ use bplist_objects::{Frame, Head, Kind, ObjectFault, ObjectNo, read_units, ref_a
 use bplist_octets::Source;
 use std::alloc::{AllocError, Global};
 
-/// How many units of a key are read.
+/// The largest number of units of a key that is read.
 const KEY_UNITS: u64 = 4096;
 
-/// What was read of a key.
+/// The start of a key.
 #[derive(Drop)]
 pub(crate) struct KeyFront {
-    /// Its first units.
+    /// The first units of the key.
     pub units: Vec<u16>,
-    /// Whether it has more.
+    /// True if the key has more units.
     pub is_cut: bool,
 }
 
-/// One step: by member or pair `index` of object `from`.
+/// One step: from object `from`, through its member or pair number `index`.
 #[derive(Clone, Copy, Debug, Drop)]
 struct Step {
     from: u32,
     index: u64,
 }
 
-/// The objects that were met, in their order, and the step by which each was met first.
+/// The state of the search: the objects that were found, in order, and the step that found each first.
 #[derive(Drop)]
 struct Search {
-    /// By number, the step to each object that was met. That to the top is one from itself.
+    /// By object number: the step to each object that was found. The top has a step from itself.
     steps: Vec<Option<Step>>,
-    /// The objects that were met.
+    /// The objects that were found.
     met: Vec<u32>,
-    /// How many references may still be looked at. A file whose objects do not overlap has fewer than bytes.
+    /// How many more references may be read. If no objects overlap, a file has fewer references than bytes.
     budget: u64,
 }
 
-/// How an object is reached from the top.
+/// The path from the top to an object.
 #[derive(Debug, Drop)]
 pub(crate) enum ObjectPath {
-    /// By this path text.
+    /// This path text leads to the object.
     Path(Vec<u8>),
     /// No path leads to the object.
     None,
-    /// The objects overlap, and not all ways were tried.
+    /// The objects overlap, and the search gave up.
     Unknown,
 }
 
-/// The path text of the first way from the top to an object.
+/// Returns the text of the first path from the top to an object.
 pub(crate) fn path_to<S: Source>(
     alloc: Global,
     src: &mut S,
@@ -72,7 +72,7 @@ pub(crate) fn path_to<S: Source>(
     }
 }
 
-/// Looks for an object from the top on, nearer ones first.
+/// Searches from the top for an object, breadth first.
 fn search_for<S: Source>(
     alloc: Global,
     src: &mut S,
@@ -108,7 +108,7 @@ fn search_for<S: Source>(
 }
 
 impl Search {
-    /// Meets the objects that a step leads to from object `n`.
+    /// Finds the objects that object `n` refers to.
     fn go_on<S: Source>(&mut self, src: &mut S, frame: &Frame, n: ObjectNo) -> Result<(), RunFault>
         requires safe { IsSafe (length (S.means src.old).octets) frame.now }
         requires within { n.0 < frame.now.objects }
@@ -133,7 +133,7 @@ impl Search {
         Ok(())
     }
 
-    /// Keeps the step to an object that was not met before.
+    /// Records the step to an object that was not found before.
     fn meet(&mut self, object: u64, step: Step) -> Result<(), AllocError> {
         let Ok(n) = u32::try_from(object) else {
             return Ok(());
@@ -147,7 +147,7 @@ impl Search {
         Ok(())
     }
 
-    /// The steps from an object back to the top, the last first, if it was met.
+    /// Returns the steps from an object back to the top, the last step first, or nothing if the object was not found.
     fn steps_back(
         &self,
         alloc: Global,
@@ -170,7 +170,7 @@ impl Search {
     }
 }
 
-/// The path text of steps, of which the last comes first.
+/// Returns the path text of these steps, of which the last comes first.
 fn path_of<S: Source>(
     alloc: Global,
     src: &mut S,
@@ -188,8 +188,8 @@ fn path_of<S: Source>(
     Ok(path)
 }
 
-/// Adds the token of a step to a path text. A key that was not read whole has its index, as one that cannot be shown:
-/// its front would be the token of another key.
+/// Adds the token of a step to a path text. A key that was cut is given by its index, because its start could be the
+/// token of another key.
 fn add_step<S: Source>(
     alloc: Global,
     src: &mut S,
@@ -215,7 +215,7 @@ fn add_step<S: Source>(
     Ok(add_index_name(alloc, "", step.index, path)?)
 }
 
-/// The first 4,096 units of a key of a dictionary, or all of fewer, if it is a text.
+/// Returns the first 4,096 units of a key, or all if it has fewer, if the key is a text.
 pub(crate) fn key_front<S: Source>(
     alloc: Global,
     src: &mut S,
@@ -244,7 +244,7 @@ pub(crate) fn key_front<S: Source>(
     }
 }
 
-/// The head of an object, if it keeps the rules of marker and count.
+/// Returns the head of an object if it keeps the rules about markers and counts.
 pub(crate) fn head_in<S: Source>(
     src: &mut S,
     frame: &Frame,

@@ -1,6 +1,6 @@
-//! The lines of standard output.
+//! The lines of answers.
 //!
-//! Each call adds its line to the bytes, without a line feed. The one refusal is that of a growth.
+//! Each call adds a line to the bytes, without a line feed. The only error is refused memory.
 
 ghost use Rattle.std.specs.Prelude.{◌≡◌, ℕ, ◌++◌, OnOk, codes};
 ghost use Rattle.std.specs.Fmt.{decimal};
@@ -12,7 +12,7 @@ use bplist_cursor::{Face, Why};
 use bplist_objects::Kind;
 use std::alloc::{AllocError, Global};
 
-/// The line of `lint`.
+/// Adds the line of `lint`.
 pub fn add_lint(
     alloc: Global,
     reached: u64,
@@ -27,7 +27,7 @@ pub fn add_lint(
     lines.extend_from_slice(line.as_bytes())
 }
 
-/// The line of `check`.
+/// Adds the line of `check`.
 pub fn add_check(
     alloc: Global,
     objects: u32,
@@ -40,7 +40,7 @@ pub fn add_check(
     lines.extend_from_slice(line.as_bytes())
 }
 
-/// The line of `get` for what lies under a path.
+/// Adds the line of `get` for the value under a path.
 pub fn add_face(alloc: Global, face: &Face, lines: &mut Vec<u8>) -> Result<(), AllocError>
     ensures { OnOk result (lines.new.items ≡ lines.old.items ++ face_line face.now) }
 {
@@ -66,7 +66,7 @@ pub fn add_face(alloc: Global, face: &Face, lines: &mut Vec<u8>) -> Result<(), A
     }
 }
 
-/// The line for a path that leads nowhere.
+/// Adds the line for a path that leads nowhere.
 pub fn add_missing(
     alloc: Global,
     step: u64,
@@ -113,7 +113,7 @@ fn add_hexadecimal(
     lines.extend_from_slice(digits.as_bytes())
 }
 
-/// The word that lines have for a kind.
+/// Returns the word for a kind.
 pub fn kind_name(kind: Kind) -> &'static str
     ensures { result.now ≡ kind_word kind }
 {
@@ -133,7 +133,7 @@ pub fn kind_name(kind: Kind) -> &'static str
     }
 }
 
-/// The word that ends the line for a path that leads nowhere.
+/// Returns the word that ends the line for a path that leads nowhere.
 fn reason_of(why: Why) -> &'static str
     ensures { (step : ℕ) → missing_line step why ≡ codes "missing " ++ decimal step ++ codes " " ++ result.now }
 {

@@ -1,4 +1,4 @@
-//! Why raw bytes are not shown, the line that says so, and the exit status.
+//! The errors of `show --raw`, with the line and the exit status of each.
 ghost use Rattle.std.specs.Prelude.{◌≡◌, IfOk, string_bytes};
 ghost use Rattle.bplist_cursor.specs.declared.faults.CursorFault.TheVariants as cursor;
 ghost use Rattle.bplint_lines.specs.declared.fault.RunFault.TheVariants.{Changed, Memory, Read};
@@ -13,9 +13,9 @@ use std::alloc::{AllocError, Global};
 /// Why the raw bytes of a value are not shown.
 #[derive(Debug, Drop)]
 pub enum RawFault {
-    /// A fault that other commands have too.
+    /// A fault that other commands have as well.
     Run(RunFault),
-    /// The object of the value, which has no raw bytes.
+    /// The value of this object has no raw bytes.
     NoRawForm(ObjectNo),
 }
 
@@ -40,7 +40,7 @@ impl From<CursorFault> for RawFault {
 }
 
 impl RawFault {
-    /// The exit status.
+    /// Returns the exit status.
     pub fn status(&self) -> u8
         ensures { result ≡ (raw_report_of self.now).1 }
     {
@@ -50,7 +50,7 @@ impl RawFault {
         }
     }
 
-    /// The printed line, without its line feed. Only memory can be refused.
+    /// Returns the line to print, without a line feed. The only error is refused memory.
     pub fn line(&self, alloc: Global) -> Result<String, AllocError>
         ensures { IfOk result (λ text. string_bytes text ≡ (raw_report_of self.now).0) }
     {

@@ -1,4 +1,4 @@
-//! Rules in plain words: of a fault, and by their words.
+//! Rules in plain words.
 ghost use Rattle.std.specs.Prelude.{◌≡◌, ◌++◌, IfOk, MatchOption, codes, string_bytes};
 ghost use Rattle.std.specs.Fmt.{decimal};
 ghost use Rattle.bplist_objects.specs.Words.{number_of, word_of};
@@ -9,7 +9,7 @@ ghost use Rattle.bplint_lines.specs.Explanation.{rule_line};
 use bplist_objects::{Rule, rule_name, rule_number, rule_of_number, texts_of};
 use std::alloc::{AllocError, Global};
 
-/// The rule of a word, as fault lines have it, if there is one.
+/// Returns the rule that has this word in fault lines, or `None` if no rule has it.
 pub fn rule_of_word(word: &str) -> Option<Rule>
     ensures { MatchOption result ((rule : Rule) → ¬ (word_of rule ≡ word.now)) (λ rule. word_of rule ≡ word.now) }
 {
@@ -22,7 +22,7 @@ pub fn rule_of_word(word: &str) -> Option<Rule>
     None
 }
 
-/// What a rule asks, with its number and its word, and something that breaks it, in two lines.
+/// Returns two lines: number, word and requirement of a rule, and an example that breaks it.
 pub fn rule_text(alloc: Global, rule: Rule) -> Result<String, AllocError>
     ensures { IfOk result (λ text. string_bytes text ≡ codes "rule " ++ decimal (number_of rule) ++ codes " " ++ word_of rule
         ++ codes ": " ++ (text_of rule).0 ++ codes "\nbroken by: " ++ (text_of rule).1 ++ codes "\n") }
@@ -32,7 +32,7 @@ pub fn rule_text(alloc: Global, rule: Rule) -> Result<String, AllocError>
     format!(in alloc; "rule {number} {word}: {demand}\nbroken by: {breach}\n")
 }
 
-/// The line of a rule under a fault of it.
+/// Returns the line of a rule that explains a fault.
 pub(crate) fn rule_line_of(alloc: Global, rule: Rule) -> Result<String, AllocError>
     ensures { IfOk result (λ text. string_bytes text ≡ rule_line rule) }
 {

@@ -1,9 +1,9 @@
-//! What a run says of its answer.
+//! The success values of a run.
 
-/// What a run that wrote all its lines says of them.
+/// Whether each path led to a value, of a run that wrote its whole answer.
 #[derive(Clone, Copy, Debug, PartialEq, Eq, Drop)]
 pub enum Said {
-    /// Each path, if there was any, led somewhere.
+    /// Each path led to a value, or there was no path.
     All,
     /// At least one line says that a path leads nowhere.
     SomeMissing,

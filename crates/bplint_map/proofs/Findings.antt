@@ -1,5 +1,5 @@
 -- What is found of an object is one.
-use Rattle.std.proofs.Common.{◌≡◌, ◌⊎◌, ℕ, ◌<◌, ◌≤◌, ◌-◌, List, ◌∷◌, None, inl, inr, Bool, true, false, cond, nat_le, refl, sym, ap, ◌∙◌, subst, arith}
+use Rattle.std.proofs.Common.{◌≡◌, ◌⊎◌, ℕ, ◌<◌, ◌≤◌, ◌-◌, List, [], ◌∷◌, None, inl, inr, Bool, true, false, cond, nat_le, refl, sym, ap, ◌∙◌, subst, arith}
 use Rattle.bplist_objects.specs.declared.fault.Fault.{Fault}
 use Rattle.bplist_objects.specs.declared.frame.Frame.{Frame}
 use Rattle.bplist_objects.specs.declared.head.Head.{Head}
@@ -19,8 +19,20 @@ use Rattle.bplist_objects.specs.Announced.{HasHead}
 use Rattle.bplist_objects.specs.Frame.{IsFrame, off}
 use Rattle.bplist_objects.proofs.KeptOrBroken.{object_kept_or_fault}
 use Rattle.bplist_objects.proofs.HeadTies.{announced_shape, kept_announces}
-use Rattle.bplint_map.specs.Rows.{AreFindings, IsFinding, rows}
+use Rattle.std.specs.List.{sum_by}
+use Rattle.std.proofs.lemmas.List.Sums.{sum_by-cons}
+use Rattle.bplint_map.specs.Rows.{AreFindings, IsFinding, looked_at, rows, size, unlooked}
 use Rattle.bplint_map.specs.Layout.{row_end}
+
+-- enough bytes are left for all bodies
+pub all_looked : (left : ℕ) (rows : List Row) → sum_by size rows ≤ left → looked_at left rows ≡ rows
+all_looked left [] h = refl
+all_looked left (row ∷ rows) h =
+    let all = sum_by-cons size row rows in
+    let low : size row ≤ left = omega (arith, all, h) in
+    let t : nat_le (size row) left ≡ true = grind (arith, nat_tests, low) in
+    ap (λ b. cond b (row ∷ looked_at (left - size row) rows) (unlooked row ∷ looked_at left rows)) t
+    ∙ ap (λ l. row ∷ l) (all_looked (left - size row) rows (omega (arith, all, h)))
 
 module _ (f : List ℕ) (F : Frame) (n : ℕ) where
   pub one_finding : (a b : Finding) → IsFinding f F n a → IsFinding f F n b → a ≡ b
@@ -41,13 +53,13 @@ module _ (f : List ℕ) (F : Frame) (n : ℕ) where
   abbrev found_at : ℕ → Finding → Row
   found_at place found = record { number = n; place = place; finding = found }
 
-  -- the finding of an object that has a head has that head
+  -- a finding has the head of the object
   same_end : (head : Head) (found : Finding) → HasShape f F n head → IsFinding f F n found → (place : ℕ) → row_end (found_at place found) ≡ head.end
   same_end head (Whole x) has is place = ap (λ (h : Head). h.end) (one_shape f F n x head is.0 has)
   same_end head (Wrong x fault) has is place = ap (λ (h : Head). h.end) (one_shape f F n x head is.0 has)
   same_end head (Lost fault) has is place = absurd (no_shape f F n fault head is has)
 
-  -- what is shown of an object whose body is not looked at
+  -- the finding of an object whose body is not read
   abbrev without : Finding → Finding
   without found = elim found [ Wrong head _ ↦ Whole head | other ↦ other ]
 
@@ -57,7 +69,7 @@ module _ (f : List ℕ) (F : Frame) (n : ℕ) where
   without_is head (Lost fault) has is = absurd (no_shape f F n fault head is has)
 
   module _ (findings : ℕ → Finding) (left place : ℕ) (at : place ≡ off f F n) (is : IsFinding f F n (findings n)) (behind : List ℕ) where
-    -- the row of an object that takes so many bytes
+    -- the row of an object of this length
     first_row : (taken : ℕ) → row_end (found_at place (findings n)) - place ≡ taken
         → rows f F findings left (n ∷ behind) ≡ cond (nat_le taken left) (found_at place (findings n) ∷ rows f F findings (left - taken) behind)
         (found_at place (without (findings n)) ∷ rows f F findings left behind)
@@ -68,7 +80,7 @@ module _ (f : List ℕ) (F : Frame) (n : ℕ) where
         (found_at p (findings n) ∷ rows f F findings (left - (row_end (found_at p (findings n)) - p)) behind)
         (found_at p (without (findings n)) ∷ rows f F findings left behind)) (sym at) refl)
 
-    -- an object whose body is looked at
+    -- an object whose body is read
     pub looked : (head : Head) (got : Finding) → HasShape f F n head → IsFinding f F n got → head.end - place ≤ left
         → rows f F findings left (n ∷ behind) ≡ found_at place got ∷ rows f F findings (left - (head.end - place)) behind
     looked head got has given fits =
@@ -77,7 +89,7 @@ module _ (f : List ℕ) (F : Frame) (n : ℕ) where
         ∙ ap (λ b. cond b (found_at place (findings n) ∷ rows f F findings (left - (head.end - place)) behind) (found_at place (without (findings n)) ∷ rows f F findings left behind)) t
         ∙ ap (λ x. found_at place x ∷ rows f F findings (left - (head.end - place)) behind) (one_finding (findings n) got is given)
 
-    -- an object whose body is not looked at
+    -- an object whose body is not read
     pub passed : (head : Head) → HasShape f F n head → left < head.end - place
         → rows f F findings left (n ∷ behind) ≡ found_at place (Whole head) ∷ rows f F findings left behind
     passed head has over =
@@ -98,7 +110,7 @@ module _ (f : List ℕ) (F : Frame) (n : ℕ) where
         ∙ ap (λ b. cond b (found_at place (findings n) ∷ rows f F findings (left - 0) behind) (found_at place (without (findings n)) ∷ rows f F findings left behind)) t
         ∙ (λ i. found_at place (same i) ∷ rows f F findings (kept i) behind)
 
-  -- the row of an object with its place, and how many bytes are left behind it
+  -- the row of an object with its place, and how many bytes are left after it
   pub a_row : (findings : ℕ → Finding) (left : ℕ) (behind : List ℕ) → (found : Finding) × (left' : ℕ)
       × (rows f F findings left (n ∷ behind) ≡ found_at (off f F n) found ∷ rows f F findings left' behind)
       × (IsFinding f F n (findings n) → off f F n < row_end (found_at (off f F n) found) → 8 ≤ off f F n)

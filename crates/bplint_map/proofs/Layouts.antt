@@ -13,11 +13,11 @@ abbrev pub IsAmong : {X : Type 0} → (X → Type 0) → List X → Type 0
 IsAmong P [] = ⊥
 IsAmong P (x ∷ xs) = P x ⊎ IsAmong P xs
 
--- place x lies in the object of this row
+-- place x is in the object of this row
 abbrev pub Covers : ℕ → Row → Type 0
 Covers x row = (row.place ≤ x) × (x < row_end row)
 
--- place x lies in the objects of two of these rows
+-- place x is in the objects of two of these rows
 abbrev pub IsCoveredTwice : ℕ → List Row → Type 0
 IsCoveredTwice x [] = ⊥
 IsCoveredTwice x (row ∷ rows) = (Covers x row × IsAmong (Covers x) rows) ⊎ IsCoveredTwice x rows
@@ -33,17 +33,17 @@ module _ {X : Type 0} (P : X → Type 0) where
   among_of (y ∷ xs) (zero, x, low, at, h) = inl (subst P (sym at) h)
   among_of (y ∷ xs) (suc k, x, low, at, h) = inr (among_of xs (k, x, omega (arith, low), at, h))
 
--- a word is not another
+-- the two words differ
 gap_alone : codes "gap" ≡ codes "overlap" → ⊥
 gap_alone e = let l : 3 ≡ 7 = ap length e in omega (arith, l)
 
--- ---- rows that stand from a place on
+-- ---- rows that begin at or after a place
 stand_covered : (p x : ℕ) (rows : List Row) → All (λ (later : Row). p ≤ later.place) rows → IsAmong (Covers x) rows → p ≤ x
 stand_covered p x [] s h = absurd h
 stand_covered p x (row ∷ rows) s (inl h) = omega (arith, s 0 row (omega arith), h.0)
 stand_covered p x (row ∷ rows) s (inr h) = stand_covered p x rows (λ k d l. s (suc k) d (omega (arith, l))) h
 
--- the rows behind the first of rows in order
+-- the rows after the first of rows in order
 module _ (row : Row) (rows : List Row) (order : AreInOrder (row ∷ rows)) where
   all_later : All (λ (later : Row). row.place ≤ later.place) rows
   all_later = λ k d l. order.1 0 (suc k) d (omega arith) (omega (arith, l))
@@ -76,7 +76,7 @@ module _ (table x : ℕ) where
     ]
   ]
 
-  -- a gap lies behind all that was reached, and in no object
+  -- a gap comes after all objects so far, and is in no object
   pub gaps_alone : (reached : ℕ) (rows : List Row) → AreInOrder rows → IsAmong (IsRegion (codes "gap") x) (parts table reached rows) → (reached ≤ x) × (IsAmong (Covers x) rows → ⊥)
   gaps_alone reached [] order h = elim h [ inl g ↦ (g.1, λ c. c) | inr none ↦ absurd none ]
   gaps_alone reached (row ∷ rows) order h = elim h [
@@ -136,9 +136,9 @@ module _ (table x : ℕ) where
       ]
       later (inr twice) = inr (inr twice)
 
--- ---- how many objects have a place
+-- ---- how many objects a place is in
 module _ (x : ℕ) where
-  -- the first row has it, and there is one more, or not
+  -- it is in the object of the first row, and in one of the others, or not
   abbrev IsCounted : Row → List Row → Type 0
   IsCounted row rows = (Covers x row × (objects_at x (row ∷ rows) ≡ 1 + objects_at x rows))
       ⊎ ((Covers x row → ⊥) × (objects_at x (row ∷ rows) ≡ objects_at x rows))

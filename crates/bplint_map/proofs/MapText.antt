@@ -1,4 +1,4 @@
--- The text of a map, and its way to the writer.
+-- The text of a map, and how it is sent.
 use Rattle.std.proofs.Common.{◌≡◌, inl, inr, ℕ, ◌+◌, ◌*◌, ◌<◌, ◌≤◌, List, [], ◌∷◌, ◌++◌, max, min, length, map, drop, refl, sym, ap, ◌∙◌, subst, add-one, append_assoc, append-nil, Option, None, Some, Result, Ok, Err, get_or, arith, codes}
 use Rattle.std.proofs.lemmas.Grind.{flat_map-append}
 use Rattle.std.proofs.lemmas.List.{drop_all, get_or-map, length-map}
@@ -20,7 +20,7 @@ use Rattle.bplint_map.specs.declared.rows.Row.{Row}
 use Rattle.bplint_map.specs.declared.verdict.Verdict.{Verdict}
 use Rattle.bplint_lines.specs.declared.said.Said.TheVariants.{All}
 use Rattle.bplint_lines.specs.declared.said.Said.{Said}
-use Rattle.bplint_lines.specs.Answers.{BeginsAnswer, LeavesBy, gives}
+use Rattle.bplint_lines.specs.Answers.{BeginsAnswer, LeavesSomeBy, gives}
 use Rattle.bplint_map.proofs.Findings.{findings_of}
 use Rattle.bplint_map.specs.Layout.{object, region, parts, row_end}
 use Rattle.bplint_map.specs.Lines.{region_line, row_lines, part_line, part_lines}
@@ -28,14 +28,15 @@ use Rattle.bplint_map.specs.Map.{IsVerdict, MapSays, PutsSome, map_text}
 use Rattle.bplint_map.specs.Rows.{AreFindings, IsByPlace, placed, rows}
 
 -- ---- the text
--- a line behind two texts that were added
+-- a line after two texts that were added
 pub behind_two : {E : Type 0} (result : Result (Unit {0}) E) (old one two new a b line text : List ℕ) → one ≡ old ++ a → two ≡ one ++ b
     → OnOk result (new ≡ two ++ line) → text ≡ (a ++ b) ++ line → OnOk result (new ≡ old ++ text)
 behind_two (Err e) old one two new a b line text first second third is = tt
 behind_two (Ok x) old one two new a b line text first second third is =
     rw (is, third, second, first) (ap (λ l. l ++ line) (append_assoc old a b) ∙ append_assoc old (a ++ b) line)
 
--- the row of an object stands before the rows of those behind it, with so many bytes left before and after it
+-- the row of an object comes before the rows of the later objects, with these numbers of bytes left to read before and
+-- after it
 abbrev pub IsRowOf : List ℕ → Frame → ObjectOffset → ℕ → ℕ → Row → Type 0
 IsRowOf f F o left left' found = o ≡ placed f F o.number → (findings : ℕ → Finding) → AreFindings f F findings
     → (behind : List ℕ) → rows f F findings left (o.number ∷ behind) ≡ found ∷ rows f F findings left' behind
@@ -88,12 +89,12 @@ module _ (verdict : Verdict) (table : ℕ) where
 abbrev pub front_text : List ℕ
 front_text = codes "place\tend\tobject\tkind\tcount\theight\n" ++ region_line 0 8 (codes "header")
 
--- the lines behind those of the objects, in a file of so many bytes
+-- the lines after those of the objects, in a file of this length
 abbrev pub back_text : Frame → ℕ → List ℕ
 back_text F length =
     let end = F.table + F.objects * F.offset_size in region_line F.table end (codes "table") ++ region_line end length (codes "trailer")
 
--- the text of a map: the lines before those of the objects, these, and the lines behind them
+-- the text of a map: the lines before those of the objects, those of the objects, and the lines after them
 pub in_pieces : (f : List ℕ) (F : Frame) (verdict : Verdict) (findings : ℕ → Finding) (order : List ℕ) → map_text f F verdict findings order
     ≡ front_text ++ (part_lines verdict (parts F.table 8 (rows f F findings (16 * F.table) order)) ++ back_text F (length f))
 unfolding map_text
@@ -117,7 +118,7 @@ module _ (old mid new : Option (List ℕ)) (s t : Sending) where
   then_some text xs ys _ takes some e = absurd some
 
 module _ (old new : Option (List ℕ)) (s : Sending) where
-  -- what is not put in of a text is not put in of a longer one
+  -- bytes that were not put in of a text were not put in of a longer text
   pub some_of_more : (text xs ys : List ℕ) (fault : RunFault) → PutsSome old new s xs fault → text ≡ xs ++ ys → PutsSome old new s text fault
   some_of_more text xs ys (faults.Write k) part e = rw e (part_of_more old new s xs ys k part)
   some_of_more text xs ys (faults.Read _) some e = rw e (longer some)
@@ -128,26 +129,22 @@ module _ (old new : Option (List ℕ)) (s : Sending) where
   some_of_more text xs ys _ some e = absurd some
 
 -- ---- what is left with the writer
--- what a run leaves with the writer, where after a failed read or refused memory any first part of the map may be out
+-- what a run leaves with the writer, if after a failed read or refused memory any first part of the map may be written
 abbrev LeavesMap : List ℕ → Option (List ℕ) → Option (List ℕ) → Result Said RunFault → Type 0
-LeavesMap f old new result = (most : ℕ) × LeavesBy (MapSays f) most old new result
+LeavesMap f old new result = LeavesSomeBy (MapSays f) old new result
 
 kept_self : (old : Option (List ℕ)) → Keeps old old
 kept_self None = tt
 kept_self (Some xs) = refl
 
-nothing_added : (old : Option (List ℕ)) → Appends old old []
-nothing_added None = tt
-nothing_added (Some xs) = sym (append-nil xs)
-
 -- the file breaks one of rules 1 to 13
 pub fault_out : (f : List ℕ) (old : Option (List ℕ)) (fault : Fault) → IsFrameFault f fault → LeavesMap f old old (Err (faults.Fault fault))
-fault_out f old fault h = (0, (h, kept_self old))
+fault_out f old fault h = (h, kept_self old)
 
 -- a read failed or memory was refused before anything was put in
 pub excused_out : (f : List ℕ) (old : Option (List ℕ)) (fault : RunFault) → IsExcused fault → LeavesMap f old old (Err fault)
-excused_out f old (faults.Read _) h = (0, (([], omega arith, nothing_added old), inl (kept_self old)))
-excused_out f old faults.Memory h = (0, (([], omega arith, nothing_added old), inl (kept_self old)))
+excused_out f old (faults.Read _) h = (tt, inl (kept_self old))
+excused_out f old faults.Memory h = (tt, inl (kept_self old))
 excused_out f old _ h = absurd h
 
 module _ (f : List ℕ) (F : Frame) (frame : IsFrame f F) (verdict : Verdict) (linted : IsVerdict f verdict) (order : List ℕ) (by_place : IsByPlace f F order) where
@@ -159,13 +156,13 @@ module _ (f : List ℕ) (F : Frame) (frame : IsFrame f F) (verdict : Verdict) (l
   says = (F, verdict, (findings_of f F frame).0, order, frame, linted, (findings_of f F frame).1, by_place, refl, refl)
 
   -- a first part of it went out
-  begun : (old new : Option (List ℕ)) → SendsSome old new the_map → (most : ℕ) × BeginsAnswer (MapSays f) most old new
-  begun old new some = (length some.0, ((some.0, omega arith, some.2), inr (All, the_map, says, some)))
+  begun : (old new : Option (List ℕ)) → SendsSome old new the_map → BeginsAnswer (MapSays f) None old new
+  begun old new some = (tt, inr (All, the_map, says, some))
 
   -- it was not put in
   pub map_cut : (old new : Option (List ℕ)) (s : Sending) (fault : RunFault) → s ≡ record { sent = 0; held = [] } → PutsSome old new s the_map fault → LeavesMap f old new (Err fault)
   map_cut old new s (faults.Write k) start part =
-      (0, (All, the_map, says, out_part old old new s [] the_map k (out_start old s (ap (λ x. x.sent) start) (ap (λ x. x.held) start)) part))
+      (All, the_map, says, out_part old old new s [] the_map k (out_start old s (ap (λ x. x.sent) start) (ap (λ x. x.held) start)) part)
   map_cut old new s (faults.Read _) start some = begun old new (subst (λ l. SendsSome old new (l ++ the_map)) (ap (λ x. x.held) start) some)
   map_cut old new s faults.Memory start some = begun old new (subst (λ l. SendsSome old new (l ++ the_map)) (ap (λ x. x.held) start) some)
   map_cut old new s _ start some = absurd some
@@ -176,8 +173,8 @@ module _ (f : List ℕ) (F : Frame) (frame : IsFrame f F) (verdict : Verdict) (l
 
     -- its end was not sent
     pub end_cut : (k : ℕ) → TakesPart mid new t [] k → LeavesMap f old new (Err (faults.Write k))
-    end_cut k part = (0, (All, the_map, says, subst (λ l. SendsPart old new 0 l k) (append-nil the_map) (out_part old mid new t ([] ++ the_map) [] k held part)))
+    end_cut k part = (All, the_map, says, subst (λ l. SendsPart old new 0 l k) (append-nil the_map) (out_part old mid new t ([] ++ the_map) [] k held part))
 
     -- all of it was sent
     pub all_out : Takes mid new t u [] → u.held ≡ [] → LeavesMap f old new (Ok All)
-    all_out flushed empty = (0, (the_map, says, subst (Appends old new) (append-nil the_map) (out_end (out_takes held flushed) empty)))
+    all_out flushed empty = (the_map, says, subst (Appends old new) (append-nil the_map) (out_end (out_takes held flushed) empty))

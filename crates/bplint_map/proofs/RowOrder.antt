@@ -1,4 +1,4 @@
--- The rows of a map stand in order.
+-- The rows of a map are in order.
 use Rattle.std.proofs.Common.{◌≡◌, ℕ, zero, suc, ◌<◌, ◌≤◌, List, [], ◌∷◌, All, false, length, refl, sym, ap, ◌∙◌, subst, slice_index_or, arith, Ordering, Less, Equal, Greater}
 use Rattle.std.specs.List.{AllPairs, range_with_len}
 use Rattle.std.specs.List.Sorted.{IsNonDecreasingBy}
@@ -14,7 +14,7 @@ use Rattle.bplint_map.specs.Layout.{AreInOrder, row_end}
 use Rattle.bplint_map.specs.Rows.{AreFindings, IsByPlace, rows}
 use Rattle.bplint_map.proofs.Findings.{a_row}
 
--- what is not less by a first order and then a second is not less by the first
+-- what is not less by two orders in turn is not less by the first
 first_not_less : (a b : Ordering) → is_lt (ordering_then a b) ≡ false → is_lt a ≡ false
 first_not_less Less b h = h
 first_not_less Equal b h = refl
@@ -41,7 +41,7 @@ module _ (f : List ℕ) (F : Frame) (findings : ℕ → Finding) where
       let first = a_row f F n findings left ns in
       ap (λ (all : List Row). (slice_index_or all (suc k) d).place) first.2 ∙ row_place ns first.1 k d (omega (arith, l))
 
-  -- an object that takes bytes does so from place 8 on
+  -- an object takes bytes only from place 8 on
   abbrev IsLow : Row → Type 0
   IsLow r = r.place < row_end r → 8 ≤ r.place
 

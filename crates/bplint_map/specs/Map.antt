@@ -19,14 +19,14 @@ use Rattle.bplint_map.specs.Lines.{part_line}
 use Rattle.bplint_map.specs.Rows.{AreFindings, IsByPlace, rows}
 
 -- ---- the text
--- this is what `lint` says of a file
+-- this is what the linter says of a file
 abbrev pub IsVerdict : List ℕ → Verdict → Type 0
 IsVerdict f (verdicts.Heights heights) = (lint : Lint) × IsLinted f lint × (heights.items ≡ lint.certificate.heights)
 IsVerdict f (verdicts.Fault fault) = IsFileFault f fault
 IsVerdict f verdicts.Circle = (circle : List ℕ) × IsFileCircle f circle
 
 -- all lines of a map: the names of the columns, and the parts of the file: header, objects and what lies between them, offset
--- table and trailer; of bodies 16 times the bytes before the offset table are looked at
+-- table and trailer; all bodies are looked at, if they have at most 16 times the bytes before the offset table together
 unfoldable pub map_text : List ℕ → Frame → Verdict → (ℕ → Finding) → List ℕ → List ℕ
 map_text f F verdict findings order =
     let front = region (codes "header") 0 8 ∷ parts F.table 8 (rows f F findings (16 * F.table) order) in
@@ -34,23 +34,22 @@ map_text f F verdict findings order =
     let back = region (codes "table") F.table end ∷ region (codes "trailer") end (length f) ∷ [] in
     codes "place\tend\tobject\tkind\tcount\theight\n" ++ flat_map (part_line verdict) (front ++ back)
 
--- `map` answers, of a file that keeps rules 1 to 13, what `lint` says and what is found of each object, in byte order; else the
--- first of these rules that is broken
+-- `map` writes the verdict and what each object breaks, in byte order, or returns the first fault of rules 1 to 13
 abbrev pub MapSays : List ℕ → Answer → Type 0
 MapSays f (gives said bytes) =
     (F : Frame) × (verdict : Verdict) × (findings : ℕ → Finding) × (order : List ℕ) × IsFrame f F × IsVerdict f verdict
     × AreFindings f F findings × IsByPlace f F order × (said ≡ All) × (bytes ≡ map_text f F verdict findings order)
 MapSays f (refuses fault) = elim fault [ faults.Fault x ↦ IsFrameFault f x | _ ↦ ⊥ ]
 
--- ---- the way to the writer
--- a text was not put into a sink, and what went out
+-- ---- how the text is sent
+-- a text was not put into a sink, and what was written
 abbrev pub PutsSome : Option (List ℕ) → Option (List ℕ) → Sending → List ℕ → RunFault → Type 0
 PutsSome old new before text (faults.Write sent) = TakesPart old new before text sent
 PutsSome old new before text (faults.Read _) = SendsSome old new (before.held ++ text)
 PutsSome old new before text faults.Memory = SendsSome old new (before.held ++ text)
 PutsSome old new before text _ = ⊥
 
--- a text was put into a sink, or why not
+-- a text was put into a sink, or why it was not
 abbrev pub Puts : Option (List ℕ) → Option (List ℕ) → Sending → Sending → List ℕ → Result (Unit {0}) RunFault → Type 0
 Puts old new before after text (Ok _) = Takes old new before after text
 Puts old new before after text (Err fault) = PutsSome old new before text fault

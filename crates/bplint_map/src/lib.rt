@@ -1,15 +1,25 @@
-//! The map of a file: what lies where in it, be it sound or not.
+//! The command `map`: says what each byte range of a file contains, for sound and unsound files. Not here: the rules
+//! themselves, and the linter whose verdict the map shows (crate `bplist_lint`).
 //!
 //! ```
 //! map_on(alloc, &mut source, &mut out)?;     // a line each for header, objects, gaps, overlaps, table and trailer
 //! ```
 //!
-//! | what | calls |
+//! | to do this | call |
 //! |---|---|
-//! | the map of a file that keeps rules 1 to 13 | [`map_on`] |
-//! | gaps and overlaps are those of the file's bytes | laws [`gaps_are_all`], [`overlaps_are_all`], [`rows_are_in_order`] |
+//! | write the map of a file that keeps rules 1 to 13 | [`map_on`] |
+//! | rely on gaps and overlaps | laws [`gaps_are_all`], [`overlaps_are_all`], [`rows_are_in_order`] |
 //!
-//! Clause `exact` of `map_on` says which bytes went out. The definition of the map is in specs/Map.antt.
+//! The clause `exact` of `map_on` says which bytes were written. specs/Map.antt defines the map.
+//!
+//! The modules, in reading order:
+//!
+//! - `map`: the command.
+//! - `verdict`: what the linter says of the objects.
+//! - `object_order`: the objects in byte order.
+//! - `rows`: what each object breaks by itself.
+//! - `lines`: the lines of objects, gaps and overlaps.
+//! - `laws`: facts about the definitions.
 #![tactic(auto)]
 
 mod laws;

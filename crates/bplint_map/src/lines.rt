@@ -1,6 +1,6 @@
 //! The lines of a map.
 //!
-//! Each call adds its lines to the text. The one refusal is that of a growth.
+//! Each call adds lines to the text. The only error is refused memory.
 ghost use Rattle.std.specs.Prelude.{◌≡◌, ◌++◌, List, ℕ, OnOk, codes, string_bytes};
 ghost use Rattle.bplist_objects.specs.Words.{word_of as word_of_rule};
 ghost use Rattle.bplint_map.specs.Layout.{object, row_end};
@@ -12,7 +12,7 @@ use bplint_lines::kind_name;
 use bplist_objects::{Head, rule_name};
 use std::alloc::AllocError;
 
-/// Adds the line of bytes that are no object, where there are any.
+/// Adds the line of a gap or an overlap, unless it is empty.
 pub(crate) fn add_region(
     line: &mut String,
     from: u64,
@@ -27,7 +27,8 @@ pub(crate) fn add_region(
     Ok(())
 }
 
-/// Adds the lines of what lies before an object, up to which the objects before it reach, and its own.
+/// Adds the line of the gap or the overlap before an object, and the line of the object. The objects before it end at
+/// `reached`.
 pub(crate) fn add_row(
     line: &mut String,
     reached: u64,
@@ -41,7 +42,7 @@ pub(crate) fn add_row(
     add_object(line, row, verdict)
 }
 
-/// Where the object of a row ends.
+/// Returns the place at which the object of a row ends.
 pub(crate) fn end_of(row: &Row) -> u64
     ensures { result ≡ row_end row.now }
 {
@@ -74,7 +75,7 @@ fn add_object(line: &mut String, row: &Row, verdict: &Verdict) -> Result<(), All
     }
 }
 
-/// Adds the columns of an object with this head but the last.
+/// Adds the columns of an object with this head, except the last one.
 fn add_head(line: &mut String, row: &Row, head: &Head) -> Result<(), AllocError>
     ensures { OnOk result ((last : List ℕ)
         → string_bytes line.new ++ last ++ codes "\n" ≡ string_bytes line.old ++ head_line row.now head.now last) }

@@ -1,9 +1,9 @@
-//! The answer of `map`.
+//! The command `map`.
 ghost use Rattle.std.specs.Prelude.{◌≡◌, ℕ, List, ◌+◌, ◌++◌, ◌*◌, ◌^◌, ◌<◌, All, IfOk, IsTrue, codes, length, string_bytes, map as map_of};
 ghost use Rattle.bplist_octets.specs.Meaning.{OnlyReads};
 ghost use Rattle.bplist_objects.specs.Framed.{HonestlyIn, frame_in};
 ghost use Rattle.bplist_objects.specs.Safe.{IsSafe};
-ghost use Rattle.bplint_lines.specs.Answers.{LeavesBy, read_failed};
+ghost use Rattle.bplint_lines.specs.Answers.{LeavesSomeBy, read_failed};
 ghost use Rattle.bplint_map.specs.Layout.{parts};
 ghost use Rattle.bplint_map.specs.Lines.{region_line, part_lines};
 ghost use Rattle.bplint_map.specs.Map.{MapSays, Puts, map_text};
@@ -21,36 +21,39 @@ use bplist_octets::Source;
 use std::alloc::{AllocError, Global};
 use std::io::Write;
 
-/// The line that names the columns.
+/// The line with the names of the columns.
 const TITLE: &str = "place\tend\tobject\tkind\tcount\theight\n";
 
-/// What a map is made from.
+/// What a map is made of.
 #[derive(Drop)]
 pub(crate) struct Map {
-    /// What `lint` says of the objects.
+    /// What the linter says of the objects.
     pub verdict: Verdict,
     /// The objects in byte order.
     pub objects: Vec<ObjectOffset>,
 }
 
-/// Writes what lies where in a file that keeps rules 1 to 13, be it sound or not: by places a line each for the header,
-/// the objects, gaps and overlaps between them, the offset table and the trailer. The first line names the columns.
+/// Writes the map of a file that keeps rules 1 to 13: the names of the columns, and then one line each for the header,
+/// the objects, the gaps and overlaps between them, the offset table and the trailer, in the order of their places.
 ///
-/// A gap has the bytes that lie in no object, an overlap those of the object behind it that lie in one before it too. An
-/// object has in its last column the rule of 14 to 20 that it breaks, else its least height or `unreached` where `lint`
-/// says yes, else the rule of the fault of `lint` where this names the object.
+/// A gap consists of bytes that are in no object. An overlap consists of the bytes of the next object that an earlier
+/// object has too. The last column of an object is
 ///
-/// `Fault` is the first broken rule of 1 to 13, and nothing went out then. After `Write` the first `sent` bytes of the map
-/// are out, after `Read` and `Memory` a first part of it may be. By object 20 bytes of memory are taken beside those of
-/// `lint`.
+/// - the rule of 14 to 20 that the object breaks by itself, or else
+/// - its least height, or `unreached`, if the linter accepts the file, or else
+/// - the rule that the linter's fault names, if the fault is about this object.
+///
+/// `Fault` is the first broken rule of 1 to 13; nothing was written then. After `Write`, the first `sent` bytes of the
+/// map were written. After `Read` or `Memory`, a first part of it may have been. Takes 20 bytes of memory for each
+/// object, and the memory of the linter.
 pub fn map_on<S: Source, W: Write>(
     alloc: Global,
     src: &mut S,
     out: &mut W,
 ) -> Result<Said, RunFault>
     ensures source { OnlyReads (read_failed result) (S.means src.old) (S.means src.new) }
-    ensures exact { IsTrue (S.means src.old).honest → (most : ℕ) × LeavesBy (MapSays (S.means src.old).octets) most
-        (W.contents out.old) (W.contents out.new) result }
+    ensures exact { IsTrue (S.means src.old).honest
+        → LeavesSomeBy (MapSays (S.means src.old).octets) (W.contents out.old) (W.contents out.new) result }
 {
     let frame = match frame_of(src) {
         Ok(frame) => frame,
@@ -67,7 +70,7 @@ pub fn map_on<S: Source, W: Write>(
     Ok(Said::All)
 }
 
-/// Puts all lines of a map in.
+/// Puts all lines of a map into the sink.
 fn put_map<P: Framed, W: Write>(
     alloc: Global,
     src: &mut P,
@@ -89,7 +92,7 @@ fn put_map<P: Framed, W: Write>(
     Ok(())
 }
 
-/// The line that names the columns, and that of the header.
+/// Returns the line with the names of the columns, and the line of the header.
 fn front_lines(alloc: Global) -> Result<String, AllocError>
     ensures { IfOk result (λ lines. string_bytes lines
         ≡ codes "place\tend\tobject\tkind\tcount\theight\n" ++ region_line 0 8 (codes "header")) }
@@ -99,7 +102,7 @@ fn front_lines(alloc: Global) -> Result<String, AllocError>
     Ok(lines)
 }
 
-/// The lines of offset table and trailer, in a file of so many bytes.
+/// Returns the lines of the offset table and the trailer.
 fn back_lines(alloc: Global, frame: &Frame, length: u64) -> Result<String, AllocError>
     requires { IsSafe length frame.now }
     ensures { let end = frame.now.table + frame.now.objects * frame.now.offset_size in IfOk result (λ lines. string_bytes lines
@@ -112,7 +115,7 @@ fn back_lines(alloc: Global, frame: &Frame, length: u64) -> Result<String, Alloc
     Ok(lines)
 }
 
-/// Puts the lines of the objects in, and of what lies between them.
+/// Puts the lines of the objects, and of what is between them, into the sink.
 fn put_rows<P: Framed, W: Write>(
     alloc: Global,
     src: &mut P,
@@ -144,7 +147,8 @@ fn put_rows<P: Framed, W: Write>(
     Ok(())
 }
 
-/// How many bytes of bodies are looked at in all, so that overlapping ones take no more time than others.
+/// The total length of the objects whose bodies are read. The limit keeps files with overlapping objects from taking
+/// longer than others.
 fn looked_at_most(frame: &Frame) -> u64
     ensures { frame.now.table < 2 ^ 32 → result ≡ 16 * frame.now.table }
 {

@@ -11,7 +11,7 @@ use bplint_lines::RunFault;
 use bplist_objects::{Framed, read_offsets_in};
 use std::alloc::Global;
 
-/// How many entries of the offset table are read at once.
+/// The number of entries of the offset table that one read takes.
 const BLOCK: usize = 256;
 
 /// An object and its place.
@@ -23,7 +23,7 @@ pub(crate) struct ObjectOffset {
     pub number: u32,
 }
 
-/// The objects of a file by their places, those of one place by their numbers.
+/// Returns the objects of a file, sorted by place and then by number.
 pub(crate) fn objects_in_order<P: Framed>(
     alloc: Global,
     src: &mut P,
@@ -39,7 +39,7 @@ pub(crate) fn objects_in_order<P: Framed>(
     Ok(objects)
 }
 
-/// Adds the objects of a block of entries of the offset table, from number `from` on. The number of the object after them.
+/// Adds the objects of a block of entries, from number `from` on. Returns the number of the object after them.
 fn add_block<P: Framed>(
     src: &mut P,
     from: u32,
@@ -66,7 +66,7 @@ fn add_block<P: Framed>(
     Ok(from + count)
 }
 
-/// The objects of a file by their numbers.
+/// Returns the objects of a file, sorted by number.
 fn objects_by_number<P: Framed>(alloc: Global, src: &mut P) -> Result<Vec<ObjectOffset>, RunFault>
     ensures reads { OnlyReads (read_failed result) (P.means src.old) (P.means src.new) }
     ensures within { IfOk result (λ objects.

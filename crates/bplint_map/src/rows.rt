@@ -1,4 +1,4 @@
-//! What is found of each object by itself.
+//! What each object breaks by itself.
 ghost use Rattle.std.specs.Prelude.{◌≡◌, ℕ, List, ◌∷◌, ◌<◌, IfOk, is_err};
 ghost use Rattle.bplist_octets.specs.Meaning.{OnlyReads};
 ghost use Rattle.bplist_objects.specs.Frame.{off};
@@ -13,29 +13,30 @@ use crate::object_order::ObjectOffset;
 use bplist_objects::{Fault, Framed, Head, ObjectFault, ObjectNo, check_body, shape_in};
 use bplist_octets::ReadFault;
 
-/// What rules 14 to 20 say of an object by itself.
+/// What rules 14 to 20 say of one object.
 #[derive(Clone, Copy, Debug, Drop)]
 pub(crate) enum Finding {
-    /// It has this head, and no rule is known to be broken.
+    /// The object has this head, and breaks no rule that was checked.
     Whole(Head),
-    /// It has this head, and this is the fault of its body.
+    /// The object has this head, and its body has this fault.
     Wrong(Head, Fault),
-    /// This is the fault of its marker or its count.
+    /// The marker or count of the object has this fault.
     Lost(Fault),
 }
 
-/// An object, and what is found of it.
+/// An object, and what it breaks.
 #[derive(Clone, Copy, Debug, Drop)]
 pub(crate) struct Row {
     /// Its number.
     pub number: u32,
     /// Where it begins.
     pub place: u64,
-    /// What is found of it.
+    /// What it breaks.
     pub finding: Finding,
 }
 
-/// The row of an object. Its body is looked at where it has no more than the bytes that are left, and takes from them.
+/// Returns the row of an object. Reads its body only if the object has at most `left` bytes, and subtracts them from
+/// `left`.
 pub(crate) fn row_of<P: Framed>(
     src: &mut P,
     object: ObjectOffset,
@@ -68,7 +69,7 @@ pub(crate) fn row_of<P: Framed>(
     })
 }
 
-/// What is found of an object with this head, which keeps rules 14 to 17.
+/// Returns what an object with this head breaks. The head keeps rules 14 to 17.
 fn finding_of<P: Framed>(
     src: &mut P,
     object: ObjectOffset,

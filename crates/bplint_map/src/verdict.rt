@@ -1,4 +1,4 @@
-//! What `lint` says of the objects of a file.
+//! What the linter says of the objects of a file.
 ghost use Rattle.std.specs.Prelude.{IsTrue};
 ghost use Rattle.bplist_octets.specs.Meaning.{OnlyReads};
 ghost use Rattle.bplint_lines.specs.Answers.{read_failed};
@@ -11,18 +11,18 @@ use bplist_objects::Fault;
 use bplist_octets::Source;
 use std::alloc::Global;
 
-/// What `lint` says of the objects of a file.
+/// What the linter says of the objects of a file.
 #[derive(Debug, Drop)]
 pub(crate) enum Verdict {
-    /// The least height of each object that is reached, and 0 for each other.
+    /// The file holds a value. These are the least heights of its objects, 0 for one that is not reachable.
     Heights(Vec<u32>),
-    /// The first fault, of which one object may be the cause.
+    /// The first fault, which may be about one object.
     Fault(Fault),
     /// A circle of references.
     Circle,
 }
 
-/// What `lint` says of a file.
+/// Lints a file. Returns what the linter says of its objects.
 pub(crate) fn verdict_of<S: Source>(alloc: Global, src: &mut S) -> Result<Verdict, RunFault>
     ensures reads { OnlyReads (read_failed result) (S.means src.old) (S.means src.new) }
     ensures exact { IsTrue (S.means src.old).honest → Gives (IsVerdict (S.means src.old).octets) result }

@@ -14,7 +14,8 @@ fn is_accepted(alloc: Global, file: &[u8], cert: &[u8]) -> bool {
     run_over(alloc, &plain(alloc, Verb::Check), file, cert, &mut out).is_ok()
 }
 
-/// Where `certify` says yes to the file `check` takes its certificate, and else refuses that of the unchanged file.
+/// If `certify` accepts the file, `check` accepts its certificate. Otherwise `check` refuses the certificate of the
+/// unchanged file.
 fn agrees(alloc: Global, file: &[u8], unchanged: &[u8]) -> bool {
     match certificate_of(alloc, file) {
         Some(cert) => is_accepted(alloc, file, &cert),
@@ -61,7 +62,7 @@ fn every_change_of_one_byte(rt: HostRuntime) -> Result<(), Fail> {
     Ok(())
 }
 
-/// How the lines that `lint` says of changes of the smallest file begin, and how many of them do. There are 10,710.
+/// How the lines of `lint` begin for changes of the smallest file, and how many begin so. There are 10,710 changes.
 const LINES: [(&str, u32); 13] = [
     ("0 ok ", 1545),
     ("1 fault Magic ", 2040),
@@ -78,7 +79,7 @@ const LINES: [(&str, u32); 13] = [
     ("1 fault Extent ", 114),
 ];
 
-/// Which of these lines begins as the one that `lint` gives of a file; their number where none does.
+/// Returns which of these beginnings the line of `lint` has for a file, or their number if it has none of them.
 fn line_of(alloc: Global, file: &[u8]) -> Result<usize, Fail> {
     let mut out = Vec::new(alloc);
     let answer = run_over(alloc, &plain(alloc, Verb::Lint), file, b"", &mut out);
@@ -115,7 +116,7 @@ fn changes_of_one_byte_by_counts(rt: HostRuntime) -> Result<(), Fail> {
     Ok(())
 }
 
-/// Runs a command over the row's file, which after so many reads is another one of its length.
+/// Runs a command over the row's file. After some reads the source becomes another file of the same length.
 fn outcome_of_shifting(
     alloc: Global,
     command: &Command,
@@ -146,7 +147,7 @@ fn file_that_changes(rt: HostRuntime) -> Result<(), Fail> {
     Ok(())
 }
 
-/// At how many of the first hundred reads the command sees the change of the file.
+/// Returns at how many of the first hundred reads the command notices the change of the file.
 fn changes_seen(alloc: Global, command: &Command, row: &Row, other: &[u8]) -> Result<u32, Fail>
     requires { PrintsOnePath command.now }
 {

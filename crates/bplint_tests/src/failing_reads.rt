@@ -1,5 +1,5 @@
-//! One failing read at each turn of a command: in the first run read number 0 fails, in the next one read number 1, and so
-//! on up to the first run in which none fails. The command tells the fault of that read.
+//! Commands with one failing read: in the first run read 0 fails, in the next run read 1, and so on up to the first run
+//! without a failure. The command reports the fault of that read.
 
 ghost use Rattle.bplint_engine.specs.Commands.{PrintsOnePath};
 
@@ -11,10 +11,10 @@ use std::alloc::Global;
 use std::process::Abort;
 use std::test::Fail;
 
-/// More reads than any of the commands makes.
+/// More reads than any command makes.
 const MOST_READS: u64 = 100_000;
 
-/// The line and the status by which bplint tells a failed read.
+/// The line and the status that bplint gives for a failed read.
 fn line_of(fault: ReadFault) -> &'static str {
     match fault {
         ReadFault::Device => "3 read Device\n",
@@ -23,7 +23,7 @@ fn line_of(fault: ReadFault) -> &'static str {
     }
 }
 
-/// What a command comes to over a row's file, with a read that fails.
+/// Returns the outcome of a command over a row's file with a failing read.
 fn outcome_of(
     alloc: Global,
     command: &Command,
@@ -38,7 +38,7 @@ fn outcome_of(
     outcome(alloc, answer, &out)
 }
 
-/// How many reads a command makes, each of which fails so in its turn.
+/// Lets each read of a command fail in its turn. Returns how many reads the command makes.
 fn run_at_each_turn(
     rt: &impl Abort,
     alloc: Global,

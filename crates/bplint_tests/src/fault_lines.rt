@@ -8,7 +8,7 @@ use std::alloc::Global;
 use std::process::Abort;
 use std::test::Fail;
 
-/// The fault has this status and this line.
+/// Tests that the fault has this status and this line.
 fn says(
     rt: &impl Abort,
     alloc: Global,
@@ -75,7 +75,7 @@ fn faults_of_rules(rt: HostRuntime) -> Result<(), Fail> {
     Ok(())
 }
 
-/// Faults that are no broken rules of a file or a certificate.
+/// Faults that are not broken rules.
 #[test]
 fn other_faults(rt: HostRuntime) -> Result<(), Fail> {
     let alloc = rt.alloc();

@@ -1,8 +1,8 @@
-//! The tests of the program's engine: lines of faults, reads that fail one by one, writers that fail, a file that changes
-//! while it is read, and files that are cut or changed.
+//! The tests of the engine: lines of faults, reads that fail one by one, writers that fail, a file that changes while
+//! it is read, and files that are cut or changed. Not here: what a run of the program can show, which is in the tables
+//! of tests/vectors.
 //!
-//! It has no code of its own, and is a crate of its own so that a check of the engine need not prove its tests. What the
-//! program itself can show is in the tables of tests/vectors.
+//! The tests are a crate of their own so that checking the engine does not prove them again.
 #![tactic(auto)]
 
 #[cfg(test)]

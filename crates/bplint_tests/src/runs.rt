@@ -8,7 +8,7 @@ use bplint_lines::{RunFault, Said};
 use std::alloc::{AllocError, Global};
 use std::test::Fail;
 
-/// The command of a verb that has no operands of its own.
+/// Makes the command of a verb that has no operands of its own.
 pub(crate) fn plain(alloc: Global, verb: Verb) -> Command
     requires { verb ≢ Verb.Print }
     ensures { PrintsOnePath result }
@@ -22,7 +22,7 @@ pub(crate) fn plain(alloc: Global, verb: Verb) -> Command
     }
 }
 
-/// The command of a verb with this path, and the limit 10.
+/// Makes the command of a verb with this path, and the limit 10.
 pub(crate) fn with_path(alloc: Global, verb: Verb, path: &str) -> Result<Command, AllocError>
     ensures { IfOk result PrintsOnePath }
 {
@@ -36,7 +36,7 @@ pub(crate) fn with_path(alloc: Global, verb: Verb, path: &str) -> Result<Command
     })
 }
 
-/// What was written, or the line of the fault, with its status before it.
+/// Returns what was written, or the status and the line of the fault.
 pub(crate) fn outcome(
     alloc: Global,
     answer: Result<Said, RunFault>,
@@ -56,7 +56,7 @@ pub(crate) fn outcome(
     }
 }
 
-/// The certificate of a file, made by `certify`. None of a file that it refuses.
+/// Returns the certificate of a file, made by `certify`, or `None` if it refuses the file.
 pub(crate) fn certificate_of(alloc: Global, file: &[u8]) -> Option<Vec<u8>> {
     let mut out = Vec::new(alloc);
     let answer = run_over(alloc, &plain(alloc, Verb::Certify), file, b"", &mut out);

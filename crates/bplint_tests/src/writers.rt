@@ -41,7 +41,7 @@ const WRITERS: &[(Parts, Verb, &str, (u64, usize), &str, &[u8])] = &[
     ),
 ];
 
-/// What `lint` says of the smallest file.
+/// The line of `lint` for the smallest file.
 const LINE: &[u8] = b"ok reached 1 height 1 top true\n";
 
 #[test]

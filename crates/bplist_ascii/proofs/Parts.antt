@@ -7,7 +7,7 @@ use Rattle.std.proofs.KnownBytes.{Appends-trans}
 use Rattle.std.proofs.lemmas.List.{take-take, length-take-le, length-drop}
 use lib.Seq.{take-add}
 
--- after a write of n more
+-- after a write of n more bytes
 sends_more : (text : List ℕ) (a n m : ℕ) (old mid new : Option (List ℕ)) → m ≡ a + n → n ≤ length text - a → Appends old mid (take a text)
     → Appends mid new (take n (slice_range text a (length text))) → Appends old new (take m text)
 sends_more text a n m old mid new is fits before write =
@@ -22,7 +22,7 @@ sends_none (Some x) None new xs p q = absurd p
 sends_none (Some x) (Some y) None xs p q = absurd q
 sends_none (Some x) (Some y) (Some z) xs p q = q ∙ p
 
--- after a write, which took so many bytes or failed
+-- after a write that took this many bytes, or failed
 pub sends_on : {E : Type 0} (text : List ℕ) (a took : ℕ) (old mid new : Option (List ℕ)) (r : Result ℕ E) → Appends old mid (take a text)
     → WritesAtMost r (slice_range text a (length text)) → WriteAppends mid new r (slice_range text a (length text))
     → MatchResult r (λ n. took ≡ n) (λ _. took ≡ 0) → (took ≤ length text - a) × Appends old new (take (a + took) text)

@@ -1,4 +1,4 @@
--- What printing answers, by what the walk and the sink answer.
+-- What printing returns, derived from the contracts of the walk and the sink.
 use Rattle.std.proofs.Common.{◌≡◌, ◌≢◌, inl, inr, ◌≤◌, ◌<◌, ℕ, List, [], ◌++◌, arith, length, refl, ap, subst, Option, Some, None, Err, append-nil}
 use Rattle.std.proofs.KnownBytes.{Keeps-refl}
 use Rattle.bplist_objects.specs.declared.frame.Frame.{Frame}
@@ -14,13 +14,13 @@ use Rattle.bplist_ascii.specs.Printed.{IsPut, IsPrinted, HasText}
 use Rattle.bplist_ascii.proofs.SinkSteps.{out_start, out_takes, out_part, out_long}
 use Rattle.bplist_ascii.proofs.WriteSteps.{print_fault_of}
 
--- a failed read before anything is put in, of a value without a text
+-- a read failed before anything was put in, for a value without a text
 pub read_prints : (now : Option (List ℕ)) (s : Sending) (f : List ℕ) (F : Frame) (n : ℕ) (v : Value) (limit : ℕ) (e : Unread) → value_text v ≡ None → e ≢ unread.Changed
     → IsPut now now s s f F n v limit (Err (print_fault_of e))
 read_prints now s f F n v limit (unread.Read fault) none h = inl (none, (Keeps-refl now, refl))
 read_prints now s f F n v limit unread.Changed none h = absurd (h refl)
 
--- what was not put into a new sink was not written
+-- what was not put into a fresh sink was not written
 pub put_failed : (old new : Option (List ℕ)) (s t : Sending) (f : List ℕ) (F : Frame) (n : ℕ) (v : Value) (limit : ℕ) (e : PrintFault) → s.sent ≡ 0 → s.held ≡ [] → IsPut old new s t f F n v limit (Err e) → IsPrinted old new f F n v limit (Err e)
 put_failed old new s t f F n v limit (NoAsciiForm m) sent held (none, formless, (kept, _)) = (none, formless, kept)
 put_failed old new s t f F n v limit TooLong sent held (some, long, (kept, _)) = (some, long, kept)
@@ -46,12 +46,12 @@ walk_fails old new before after f F n v limit e t some is low few h = go e (h (l
     go TooLong p = absurd p
     go (NoAsciiForm m) p = absurd p
 
--- a text that a fresh sink took, and that is cut where the rest is sent
+-- a fresh sink took a text, and the flush failed
 pub cut_of_flush : (old mid new : Option (List ℕ)) (s t : Sending) (text : List ℕ) (k : ℕ) → s.sent ≡ 0 → s.held ≡ [] → Takes old mid s t text → TakesPart mid new t [] k → SendsPart old new 0 text k
 cut_of_flush old mid new s t text k none empty p q =
     subst (λ l. SendsPart old new 0 l k) (append-nil text) (out_part old mid new t ([] ++ text) [] k (out_takes (out_start old s none empty) p) q)
 
--- what a fresh sink took and sent
+-- a fresh sink took a text, and sent it
 pub sent_of_flush : (old mid new : Option (List ℕ)) (s t u : Sending) (text : List ℕ) → s.sent ≡ 0 → s.held ≡ [] → Takes old mid s t text → Takes mid new t u [] → IsOut old new u text
 sent_of_flush old mid new s t u text none empty p q =
     subst (IsOut old new u) (append-nil text) (out_takes {written = [] ++ text} (out_takes (out_start old s none empty) p) q)

@@ -37,7 +37,7 @@ pub text_of_length : (o : Option (List ℕ)) (k : ℕ) → form_of_text o ≡ Le
 text_of_length None k e = cc e
 text_of_length (Some t) k e = (t, refl, cc e)
 
--- where all members have texts, so has the container
+-- if all members have texts, so does the container
 
 no_map : (k : List ℕ → List ℕ) (o : Option (List ℕ)) → option_map k o ≡ None → o ≡ None
 no_map k None e = refl
@@ -78,7 +78,7 @@ key_has zero (pair u v ps) w even is e =
 key_has (suc zero) (pair u v ps) w even is e = absurd (omega (arith, even))
 key_has (suc (suc j)) (pair u v ps) w even is e = key_has j ps w (omega (arith, even)) is e
 
--- the search passes over keys: the next member is one on, and in a dictionary two
+-- the search skips keys: the next member has the next number, and in a dictionary the next but one
 abbrev pub Passes : Kind → ℕ → ℕ → Type 0
 Passes kinds.Dict i distance = (i % 2 ≡ 1) × (distance ≡ 2)
 Passes _ i distance = distance ≡ 1
@@ -119,7 +119,7 @@ texts_more kinds.Dict (dict ps) i distance o (odd, p) texts here j l w is e = el
 texts_more _ _ i distance o p texts here j l w is e = absurd o
 
 module _ (f : List ℕ) (F : Frame) where
-  -- what an object of a container's kind holds
+  -- what an object holds whose kind is a container's
   pub of_kind : (kind : Kind) (count body n : ℕ) (v : Value) → IsContainer kind → ((c : Content) → Spells f F n c → c ≡ content_of f F kind count body) → Holds f F n v → IsOfKind kind v
   of_kind kinds.Array count body n (array vs) o m h = tt
   of_kind kinds.Array count body n (leaf l) o m h = let e = m (Content.leaf l) h in cc e
@@ -131,7 +131,7 @@ module _ (f : List ℕ) (F : Frame) where
   of_kind kinds.Dict count body n (set vs) o m h = let e = m (Content.set h.0) h.1 in cc e
   of_kind _ count body n v o m h = absurd o
 
-  -- the object of another kind is itself the first without a form
+  -- an object of any other kind is itself the first without a form
   pub own_kind : (kind : Kind) (count body n : ℕ) (v : Value) → (kind ≡ kinds.Array → ⊥) → (kind ≡ kinds.Dict → ⊥) → ((c : Content) → Spells f F n c → c ≡ content_of f F kind count body)
       → Holds f F n v → value_text v ≡ None → IsFormless f F n v n
   own_kind kind count body n (leaf l) a d m h e = (e, refl)
@@ -190,7 +190,7 @@ module _ (f : List ℕ) (F : Frame) where
   first_of_value kinds.Dict n (dict ps) i node w o h e is texts none x p = (h.0, h.1, h.2, first_of_pairs i h.0 h.1 ps node w (e (Content.dict h.0 h.1) h.2) is texts none x p)
   first_of_value _ n _ i node w o h e is texts none x p = absurd o
 
--- what holds of all references holds of each member
+-- what holds for all references holds for each member
 
 all_of : (P : ℕ → Type 0) (ms : List ℕ) (i : ℕ) (node : Node) → AllByRecursion P ms → Some node ≡ named (slice_get ms i) → P node.object.0
 all_of P [] i node a e = cc e
@@ -232,7 +232,7 @@ module _ (checked : CheckedFile) (head : Head) (n : ℕ) (v : Value) (held : IsH
       let same : h.0 ≡ w = let both = sym h.1 ∙ e in cc both in
       has h.0 h.2 (ap value_text same ∙ none)
 
-  -- behind the last member all have texts
+  -- if there is no further member, all have texts
   pub not_all : (i : ℕ) → IsMember checked head i None → HaveForms v i → value_text v ≡ None → ⊥
   not_all i is texts none = all_have head.kind v i kind_is (held_none checked.source.octets checked.frame (member_of v i) (member_is i None is)) texts none
 
@@ -259,7 +259,7 @@ module _ (checked : CheckedFile) (head : Head) (n : ℕ) (v : Value) (held : IsH
         lower,
       )
 
--- where the search goes on
+-- the search can go on from here
 pub leads_further : (checked : CheckedFile) (n : ℕ) (v : Value) (m k : ℕ) → (a : HasSameFormless checked n v m) → HasSameFormless checked m a.value k → HasSameFormless checked n v k
 leads_further checked n v m k a b = record { value = b.value; held = b.held; none = b.none; on = λ x i. a.on x (b.on x i) }
 

@@ -1,4 +1,4 @@
--- What goes out, from call to call.
+-- What is sent, from call to call.
 use Rattle.std.proofs.Common.{◌≡◌, ℕ, ◌+◌, ◌≤◌, List, [], ◌++◌, arith, length, take, sym, ap, ◌∙◌, subst, append_assoc, append-nil}
 use Rattle.std.specs.Prelude.{Option}
 use Rattle.std.specs.Io.KnownBytes.{Appends}
@@ -11,7 +11,7 @@ use Rattle.bplist_ascii.specs.Sending.{Sending, SendsPart, SendsSome, Takes, Tak
 pub takes_nothing : (now : Option (List ℕ)) (s : Sending) → Takes now now s s []
 takes_nothing now s = record { gone = []; appended = Appends-nil now; counted = omega arith; all = append-nil s.held }
 
--- what was put in first, and then more
+-- first bytes were put in, and then more
 pub takes_more : {old mid new : Option (List ℕ)} {s t u : Sending} {xs ys : List ℕ} → Takes old mid s t xs → Takes mid new t u ys → Takes old new s u (xs ++ ys)
 takes_more {old} {mid} {new} {s} {t} {u} {xs} {ys} p q = record {
   gone = p.gone ++ q.gone;
@@ -20,7 +20,7 @@ takes_more {old} {mid} {new} {s} {t} {u} {xs} {ys} p q = record {
   all = sym (append_assoc s.held xs ys) ∙ ap (λ l. l ++ ys) p.all ∙ append_assoc p.gone t.held ys ∙ ap (λ l. p.gone ++ l) q.all ∙ sym (append_assoc p.gone q.gone u.held);
 }
 
--- what was put in first went out with a part of more
+-- first bytes were put in, and were sent with a part of more
 pub takes_then_part : (old mid new : Option (List ℕ)) (s t : Sending) (xs ys : List ℕ) (k : ℕ) → Takes old mid s t xs → TakesPart mid new t ys k → TakesPart old new s (xs ++ ys) k
 takes_then_part old mid new s t xs ys k p q =
     let all : s.held ++ (xs ++ ys) ≡ p.gone ++ (t.held ++ ys) = sym (append_assoc s.held xs ys) ∙ ap (λ l. l ++ ys) p.all ∙ append_assoc p.gone t.held ys in
@@ -34,7 +34,7 @@ takes_then_part old mid new s t xs ys k p q =
       subst (Appends old new) (sym (ap (take (length p.gone + q.0)) all ∙ take-append-add p.gone (t.held ++ ys) q.0)) (Appends-trans old mid new p.gone (take q.0 (t.held ++ ys)) p.appended q.3),
     )
 
--- of what was put in a first part went out
+-- first bytes were put in, and a part of them was sent
 pub some_of_takes : {old new : Option (List ℕ)} {s t : Sending} {xs : List ℕ} (ys : List ℕ) → Takes old new s t xs → SendsSome old new (s.held ++ (xs ++ ys))
 some_of_takes {s = s} {t = t} {xs = xs} ys p = (
   p.gone,
@@ -43,7 +43,7 @@ some_of_takes {s = s} {t = t} {xs = xs} ys p = (
   sym (append_assoc s.held xs ys) ∙ ap (λ l. l ++ ys) p.all ∙ append_assoc p.gone t.held ys,
 )
 
--- what was put in first went out with a first part of more, and others would have followed
+-- first bytes were put in, a first part of more was sent with them, and others would have followed
 pub takes_then_some : (old mid new : Option (List ℕ)) {s t : Sending} {xs : List ℕ} (ys zs : List ℕ) → Takes old mid s t xs → SendsSome mid new (t.held ++ ys)
     → SendsSome old new (s.held ++ (xs ++ (ys ++ zs)))
 takes_then_some old mid new {s} {t} {xs} ys zs p q = (
@@ -54,7 +54,7 @@ takes_then_some old mid new {s} {t} {xs} ys zs p q = (
       ∙ sym (append_assoc p.gone q.0 (q.1 ++ zs)),
 )
 
--- what is cut is cut in a longer text
+-- a text that is cut is a cut of any longer text
 pub part_of_more : (old new : Option (List ℕ)) (s : Sending) (xs ys : List ℕ) (k : ℕ) → TakesPart old new s xs k → TakesPart old new s (xs ++ ys) k
 part_of_more old new s xs ys k p =
     let all : s.held ++ (xs ++ ys) ≡ (s.held ++ xs) ++ ys = sym (append_assoc s.held xs ys) in
@@ -70,7 +70,7 @@ part_of_more old new s xs ys k p =
 pub out_start : (start : Option (List ℕ)) (s : Sending) → s.sent ≡ 0 → s.held ≡ [] → IsOut start start s []
 out_start start s none empty = record { gone = []; counted = sym none; appended = Appends-nil start; all = empty }
 
--- a text goes on
+-- the text goes on
 pub out_takes : {start old new : Option (List ℕ)} {s t : Sending} {written bytes : List ℕ} → IsOut start old s written → Takes old new s t bytes → IsOut start new t (written ++ bytes)
 out_takes {start} {old} {new} {s} {t} {written} {bytes} o p = record {
   gone = o.gone ++ p.gone;
@@ -79,7 +79,7 @@ out_takes {start} {old} {new} {s} {t} {written} {bytes} o p = record {
   all = append_assoc o.gone p.gone t.held ∙ ap (λ l. o.gone ++ l) (sym p.all) ∙ sym (append_assoc o.gone s.held bytes) ∙ ap (λ l. l ++ bytes) o.all;
 }
 
--- a text is cut where a write fails
+-- a text is cut if a write fails
 pub out_part : (start old new : Option (List ℕ)) (s : Sending) (written bytes : List ℕ) (k : ℕ) → IsOut start old s written → TakesPart old new s bytes k → SendsPart start new 0 (written ++ bytes) k
 out_part start old new s written bytes k o p =
     let all : written ++ bytes ≡ o.gone ++ (s.held ++ bytes) = ap (λ l. l ++ bytes) (sym o.all) ∙ append_assoc o.gone s.held bytes in
@@ -94,7 +94,7 @@ out_part start old new s written bytes k o p =
       subst (Appends start new) (sym (ap (take k) all ∙ ap (λ i. take i (o.gone ++ (s.held ++ bytes))) is ∙ take-append-add o.gone (s.held ++ bytes) p.0)) (Appends-trans start old new o.gone (take p.0 (s.held ++ bytes)) o.appended p.3),
     )
 
--- with nothing held back, all of the text went out
+-- if nothing is held, the whole text was sent
 pub out_end : {start now : Option (List ℕ)} {s : Sending} {written : List ℕ} → IsOut start now s written → s.held ≡ [] → Appends start now written
 out_end {start} {now} {s} {written} o empty =
     subst (Appends start now) (sym (append-nil o.gone) ∙ ap (λ l. o.gone ++ l) (sym empty) ∙ o.all) o.appended

@@ -1,4 +1,4 @@
--- What is left to write, step by step.
+-- What a walk still has to write, step by step.
 use Rattle.std.proofs.Common.{◌≡◌, ◌⊎◌, inl, inr, ℕ, suc, zero, List, [], ◌∷◌, ◌++◌, ◌%◌, arith, refl, sym, ap, ◌∙◌, append_assoc, append-nil, subst, Some, None}
 use Rattle.std.specs.Prelude.{Option, slice_get}
 use Rattle.bplist_octets.specs.Octets.{part}
@@ -78,7 +78,7 @@ text_opens kinds.Array (array vs) o = refl
 text_opens kinds.Dict (dict ps) o = refl
 text_opens _ _ o = absurd o
 
--- what stands before a value of a dictionary, and before a further key
+-- the separators before a value of a dictionary, and before a further key
 pub mark_odd : (i : ℕ) → i % 2 ≡ 1 → separator_of kinds.Dict i ≡ 61 ∷ []
 mark_odd zero e = absurd (omega (arith, e))
 mark_odd (suc zero) e = refl
@@ -115,7 +115,7 @@ formed_member (set vs) i w e h = absurd h
 formed_member (dict ps) i w e h = formed_of_pairs i ps w e h
 
 module _ (f : List ℕ) (F : Frame) where
-  -- what an object of this kind shows of a value with a text
+  -- the face of a value with a text, by the head of its object
   abbrev pub Shows : Kind → ℕ → ℕ → Value → Type 0
   Shows kinds.Ascii count body v = plain v ≡ text_of_units (units_at f kinds.Ascii count body)
   Shows kinds.Wide count body v = plain v ≡ text_of_units (units_at f kinds.Wide count body)
@@ -160,7 +160,7 @@ module _ (f : List ℕ) (F : Frame) where
   shows_container kind count body v (inl k) h = rw k (rw k at h)
   shows_container kind count body v (inr k) h = rw k (rw k at h)
 
-  -- an object of another kind holds no value with a text
+  -- an object of any other kind holds no value with a text
   pub shows_none : (kind : Kind) (count body : ℕ) (v : Value) → (kind ≡ kinds.Ascii → ⊥) → (kind ≡ kinds.Wide → ⊥) → (kind ≡ kinds.Bytes → ⊥) → (kind ≡ kinds.Array → ⊥)
       → (kind ≡ kinds.Dict → ⊥) → Shows kind count body v → ⊥
   shows_none kinds.Ascii count body v a w b r d h = a refl
@@ -179,7 +179,7 @@ module _ (f : List ℕ) (F : Frame) where
   held_none (Some w) h = absurd h
 
 module _ (checked : CheckedFile) where
-  -- what a member of an object with this head is by its reference
+  -- a member of an object with this head, by its reference
   abbrev pub IsMember : Head → ℕ → Option Node → Type 0
   IsMember head i member = (n : ℕ) → IsVouchedBy checked.certificate.heights n → (c : Content) → Spells checked.source.octets checked.frame n c
       → c ≡ content_at checked.source.octets checked.frame head → member ≡ named (member_reference c i)
@@ -203,7 +203,7 @@ module _ (checked : CheckedFile) where
       let r = stack_pop qs o s.0 s.2 in
       (r.0, r.1 ++ s.1, r.2, (r.1, s.1, r.3, s.3, refl), s.4 ∙ ap (λ x. x ++ s.1) r.4 ∙ append_assoc r.0 r.1 s.1)
 
-  -- the container on top of the stack goes on with a member
+  -- the container on top of the stack has a next member
   pub record Next (os : List Opened) (o : Opened) (node : Node) (left : List ℕ) : Type 0 where
     pub value : Value
     pub holds : Holds checked.source.octets checked.frame node.object.0 value
@@ -229,7 +229,7 @@ module _ (checked : CheckedFile) where
         is = p.4 ∙ ap (λ l. l ++ p.1) (p.2.2 ∙ text_next o.head.kind v o.next w.0 r.kind w.1) ∙ append_assoc c (plain w.0 ++ rest) p.1 ∙ ap (λ l. c ++ l) (append_assoc (plain w.0) rest p.1);
       }
 
-  -- the container on top of the stack ends
+  -- the container on top of the stack has no further member
   pub ends : (os : List Opened) (o : Opened) (left : List ℕ) → StackLeft checked (os ++ o ∷ []) left → IsMember o.head o.next None
       → (rest : List ℕ) × StackLeft checked os rest × (left ≡ closing_of o.head.kind o.next ++ rest)
   ends os o left s is =
@@ -238,7 +238,7 @@ module _ (checked : CheckedFile) where
       let none = held_none checked.source.octets checked.frame (member_of v o.next) (member_held o v None p.2.1 is) in
       (p.1, p.3, p.4 ∙ ap (λ l. l ++ p.1) (p.2.2 ∙ text_end o.head.kind v o.next p.2.1.kind none))
 
-  -- bytes, and then the walk goes on
+  -- bytes are put in, and then the walk goes on
   pub adds_goes_on : {old mid new : Option (List ℕ)} {s t u : Sending} {r r' r'' : ℕ} {stack : List Opened} {xs left whole : List ℕ} → Adds old mid s t r r' xs
       → GoesOn checked mid new t u r' r'' stack left → whole ≡ xs ++ left → GoesOn checked old new s u r r'' stack whole
   adds_goes_on {xs = xs} p q is = record {
@@ -249,7 +249,7 @@ module _ (checked : CheckedFile) where
     is = is ∙ ap (λ l. xs ++ l) q.is ∙ sym (append_assoc xs q.written q.rest);
   }
 
-  -- with nothing on the stack all of the text was put in
+  -- if the stack is empty, the whole text was put in
   pub walk_ends : {old new : Option (List ℕ)} {s t : Sending} {r r' : ℕ} {stack : List Opened} {whole : List ℕ} → stack ≡ [] → GoesOn checked old new s t r r' stack whole → Takes old new s t whole
   walk_ends {old} {new} {s} {t} {stack = stack} empty p =
       let none : p.rest ≡ [] = subst (λ os. StackLeft checked os p.rest) empty p.stands in

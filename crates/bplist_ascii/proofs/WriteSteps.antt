@@ -26,7 +26,7 @@ use Rattle.bplist_ascii.proofs.SinkSteps.{takes_nothing, takes_more, takes_then_
 pub adds_nothing : (now : Option (List ℕ)) (s : Sending) (room : ℕ) → Adds now now s s room room []
 adds_nothing now s room = record { taken = takes_nothing now s; counted = omega arith }
 
--- bytes, and then more
+-- bytes, and then more bytes
 pub adds_more : {old mid new : Option (List ℕ)} {s t u : Sending} {r r' r'' : ℕ} {xs ys : List ℕ} → Adds old mid s t r r' xs → Adds mid new t u r' r'' ys
     → Adds old new s u r r'' (xs ++ ys)
 adds_more {old} {mid} {new} {s} {t} {u} {r} {r'} {r''} {xs} {ys} p q = record {
@@ -34,7 +34,7 @@ adds_more {old} {mid} {new} {s} {t} {u} {r} {r'} {r''} {xs} {ys} p q = record {
   counted = let a = p.counted in let b = q.counted in omega (arith, a, b, length-append xs ys);
 }
 
--- what was put in has room
+-- what was put in fit the room
 pub adds_fit : {old new : Option (List ℕ)} {s t : Sending} {r r' : ℕ} {xs : List ℕ} → Adds old new s t r r' xs → StaysWithin old new s r
 adds_fit {old} {new} {s} {t} {r} {r'} {xs} p =
     let gone = p.taken.gone in
@@ -42,7 +42,7 @@ adds_fit {old} {new} {s} {t} {r} {r'} {xs} p =
     let counted = p.counted in
     (gone, omega (arith, all, counted, length-append s.held xs, length-append gone t.held), p.taken.appended)
 
--- what stays within the room that was left stays within all of it
+-- what fits the room that was left fits the whole room
 pub adds_within : (old mid new : Option (List ℕ)) {s t : Sending} {r r' : ℕ} {xs : List ℕ} → Adds old mid s t r r' xs → StaysWithin mid new t r' → StaysWithin old new s r
 adds_within old mid new {s} {t} {r} {r'} {xs} p q =
     let gone = p.taken.gone in
@@ -54,7 +54,7 @@ adds_within old mid new {s} {t} {r} {r'} {xs} p q =
       Appends-trans old mid new gone q.0 p.taken.appended q.2,
     )
 
--- a fault where first bytes were put in, some more failed and others would have followed
+-- a fault after first bytes were put in: some more failed, and others would have followed
 pub adds_fail : (old mid new : Option (List ℕ)) {s t : Sending} {r r' : ℕ} {xs : List ℕ} (ys zs whole : List ℕ) (e : PrintFault) → Adds old mid s t r r' xs
     → (length ys ≤ r' → AddFails mid new t ys e) → whole ≡ xs ++ (ys ++ zs) → length whole ≤ r → AddFails old new s whole e
 adds_fail old mid new {s} {t} {r} {r'} {xs} ys zs whole e p q is low =
@@ -74,7 +74,7 @@ adds_fail old mid new {s} {t} {r} {r'} {xs} ys zs whole e p q is low =
     go TooLong part = part
     go (NoAsciiForm n) part = part
 
--- a text, and then more
+-- a text, and then more bytes
 pub text_more : {old mid new : Option (List ℕ)} {s t u : Sending} {r r' r'' : ℕ} {P : Type 0} {xs : List ℕ} (ys zs : List ℕ) → AddsText old mid s t r r' P xs → Adds mid new t u r' r'' ys
     → (P → xs ++ ys ≡ zs) → AddsText old new s u r r'' P zs
 text_more ys zs p q is = record { bytes = p.bytes ++ ys; adds = adds_more p.adds q; is = λ h. ap (λ l. l ++ ys) (p.is h) ∙ is h }
@@ -82,7 +82,7 @@ text_more ys zs p q is = record { bytes = p.bytes ++ ys; adds = adds_more p.adds
 pub text_adds : {old new : Option (List ℕ)} {s t : Sending} {r r' : ℕ} {P : Type 0} {xs : List ℕ} → AddsText old new s t r r' P xs → P → Adds old new s t r r' xs
 text_adds {old} {new} {s} {t} {r} {r'} {P} {xs} p h = subst (Adds old new s t r r') (p.is h) p.adds
 
--- a list by what stands before a part of it, the part and what stands behind
+-- a list as what is before a part, the part, and what is after it
 pub parts_of : (xs : List ℕ) (a n : ℕ) → xs ≡ take a xs ++ (part xs a n ++ drop n (drop a xs))
 parts_of xs a n = sym (take-append-drop a xs) ∙ ap (λ l. take a xs ++ l) (sym (take-append-drop n (drop a xs)))
 
@@ -99,7 +99,7 @@ both_true : (a b : Bool) → (a && b) ≡ true → (a ≡ true) × (b ≡ true)
 both_true true b h = (refl, h)
 both_true false b h = cc h
 
--- what all pass those of a part pass
+-- if all items pass, those of a part pass
 pub all_in_part : (p : ℕ → Bool) (xs : List ℕ) (a n : ℕ) → list_all p xs ≡ true → list_all p (part xs a n) ≡ true
 all_in_part p xs a n h =
     let all = sym (ap (list_all p) (parts_of xs a n) ∙ list_all-append p (take a xs) (part xs a n ++ drop n (drop a xs))) ∙ h in
@@ -112,18 +112,18 @@ part_one xs i l = ap (take 1) (drop_more xs i 0 l)
 flat_one : (f : ℕ → List ℕ) (xs : List ℕ) (i : ℕ) → i < length xs → flat_map f (part xs i 1) ≡ f (slice_index xs i)
 flat_one f xs i l = ap (flat_map f) (part_one xs i l) ∙ append-nil (f (slice_index xs i))
 
--- one item more
+-- one more item
 pub flat_next : (f : ℕ → List ℕ) (xs : List ℕ) (i : ℕ) → i < length xs → flat_map f (take i xs) ++ f (slice_index xs i) ≡ flat_map f (take (i + 1) xs)
 flat_next f xs i l = ap (λ ys. flat_map f (take i xs) ++ ys) (sym (flat_one f xs i l)) ∙ flat_part f xs i 1
 
--- all by the items before one, the item and those behind
+-- all items as those before one, the item, and those after it
 pub flat_at : (f : ℕ → List ℕ) (xs : List ℕ) (i : ℕ) → i < length xs → flat_map f xs ≡ flat_map f (take i xs) ++ (f (slice_index xs i) ++ flat_map f (drop 1 (drop i xs)))
 flat_at f xs i l = flat_parts f xs i 1 ∙ ap (λ ys. flat_map f (take i xs) ++ (ys ++ flat_map f (drop 1 (drop i xs)))) (flat_one f xs i l)
 
 pub passes_at : (p : ℕ → Bool) (xs : List ℕ) (i : ℕ) → i < length xs → list_all p xs ≡ true → p (slice_index xs i) ≡ true
 passes_at p xs i l h = (both_true (p (slice_index xs i)) true (sym (ap (list_all p) (part_one xs i l)) ∙ all_in_part p xs i 1 h)).0
 
--- what holds whatever is answered holds of an error
+-- what holds of every result holds of an error
 pub on_err : {X E : Type 0} {P : Type 0} (r : Result X E) → P → OnErr r P
 on_err (Ok x) p = tt
 on_err (Err e) p = p
@@ -136,7 +136,7 @@ length-unquoted (u ∷ us) = ap suc (length-unquoted us)
 pub text_after : {old mid new : Option (List ℕ)} {s t u : Sending} {r r' r'' : ℕ} {P : Type 0} {xs ys : List ℕ} → Adds old mid s t r r' xs → AddsText mid new t u r' r'' P ys → AddsText old new s u r r'' P (xs ++ ys)
 text_after {xs = xs} p q = record { bytes = xs ++ q.bytes; adds = adds_more p q.adds; is = λ h. ap (λ l. xs ++ l) (q.is h) }
 
--- any units can stand between quotes
+-- any units can be written in quotes
 pub all_fit : (us : List ℕ) → list_all (fits Quoted) us ≡ true
 all_fit [] = refl
 all_fit (u ∷ us) = all_fit us
@@ -144,7 +144,7 @@ all_fit (u ∷ us) = all_fit us
 pub all_more : (p : ℕ → Bool) (us : List ℕ) (a n : ℕ) → list_all p (take a us) ≡ true → list_all p (part us a n) ≡ true → list_all p (take (a + n) us) ≡ true
 all_more p us a n h k = ap (list_all p) (take-add a n us) ∙ list_all-append p (take a us) (part us a n) ∙ ap (λ b. b && list_all p (part us a n)) h ∙ k
 
--- the digits of bytes, one by one
+-- the digits of bytes, byte by byte
 pub all_digits : (bytes : List ℕ) → flat_map hex_digits bytes ≡ encode_lower bytes
 unfolding encode_with
 all_digits [] = refl
@@ -158,7 +158,7 @@ unquoted_all : (us : List ℕ) → is_unquoted_text us ≡ true → list_all is_
 unquoted_all [] h = refl
 unquoted_all (u ∷ us) h = h
 
--- a part that is not plain
+-- a part that has another character than letters and digits
 pub part_not_unquoted : (us : List ℕ) (a n : ℕ) → list_all is_ascii_alphanumeric (part us a n) ≡ false → false ≡ is_unquoted_text us
 part_not_unquoted us a n h = sym (not_true (is_unquoted_text us) (λ unquoted. let k = all_in_part is_ascii_alphanumeric us a n (unquoted_all us unquoted) in cc (h, k)))
 
@@ -174,30 +174,30 @@ pub flat_unquoted : (us : List ℕ) → flat_map (styled Unquoted) us ≡ us
 flat_unquoted [] = refl
 flat_unquoted (u ∷ us) = ap (λ l. u ∷ l) (flat_unquoted us)
 
--- a text that is another under its premise
+-- a text that equals another if its premise holds
 pub text_under : {old new : Option (List ℕ)} {s t : Sending} {r r' : ℕ} {P : Type 0} {xs ys : List ℕ} → (P → xs ≡ ys) → AddsText old new s t r r' P xs → AddsText old new s t r r' P ys
 text_under e p = record { bytes = p.bytes; adds = p.adds; is = λ h. p.is h ∙ e h }
 
--- a fault of a text is one of the same text
+-- a fault for a text is one for an equal text
 pub fails_under : (old new : Option (List ℕ)) (s : Sending) (room : ℕ) (e : PrintFault) {xs ys : List ℕ} → xs ≡ ys → (length xs ≤ room → AddFails old new s xs e) → length ys ≤ room → AddFails old new s ys e
 fails_under old new s room e is h = subst (λ l. length l ≤ room → AddFails old new s l e) is h
 
--- the same cause as an answer of the printer
+-- the error of printing for a cause of an unread object
 abbrev pub print_fault_of : Unread → PrintFault
 print_fault_of (unread.Read fault) = Read fault
 print_fault_of unread.Changed = Changed
 
--- of bytes of which the first were put in a first part went out
+-- a first part of the bytes was put in, and a first part of these was sent
 pub adds_some : {old new : Option (List ℕ)} {s t : Sending} {r r' : ℕ} {xs whole : List ℕ} (ys : List ℕ) → Adds old new s t r r' xs → whole ≡ xs ++ ys → SendsSome old new (s.held ++ whole)
 adds_some {old} {new} {s} ys p is = subst (λ l. SendsSome old new (s.held ++ l)) (sym is) (some_of_takes ys p.taken)
 
--- a failed read where the first of the bytes were put in
+-- a read failed after the first of the bytes were put in
 pub read_fails : {old new : Option (List ℕ)} {s t : Sending} {r r' : ℕ} {xs whole : List ℕ} (ys : List ℕ) (e : Unread) → Adds old new s t r r' xs → whole ≡ xs ++ ys → e ≢ unread.Changed
     → AddFails old new s whole (print_fault_of e)
 read_fails ys (unread.Read fault) p is h = adds_some ys p is
 read_fails ys unread.Changed p is h = absurd (h refl)
 
--- a fault of a text that is read from a file is one of the text that the same file has
+-- a fault for a text that is read from a file is one for the text of the same file
 pub fails_same : (old new : Option (List ℕ)) (s : Sending) (room : ℕ) (e : PrintFault) (words : CheckedFile → List ℕ) {x y : CheckedFile} → x ≡ y
     → (IsTrue x.source.honest → length (words x) ≤ room → AddFails old new s (words x) e) → IsTrue y.source.honest → length (words y) ≤ room → AddFails old new s (words y) e
 fails_same old new s room e words same h = subst (λ x. IsTrue x.source.honest → length (words x) ≤ room → AddFails old new s (words x) e) same h

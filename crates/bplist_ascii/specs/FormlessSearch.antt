@@ -9,7 +9,7 @@ use Rattle.bplist_cursor.specs.Members.{member_of}
 use Rattle.bplist_cursor.specs.OldStyle.{value_text}
 use Rattle.bplist_cursor.specs.Formless.{IsFormless}
 
--- the number of the first member that is no key, and how far the next such member is from it
+-- the number of the first member that is not a key, and the distance to the next such member
 abbrev pub first_value_of : Kind → ℕ × ℕ
 first_value_of kinds.Dict = (1, 2)
 first_value_of _ = (0, 1)
@@ -18,7 +18,7 @@ first_value_of _ = (0, 1)
 abbrev pub HaveForms : Value → ℕ → Type 0
 HaveForms v i = (j : ℕ) → j < i → (w : Value) → member_of v j ≡ Some w → value_text w ≡ None → ⊥
 
--- m holds a value without text, and what is the first object without a form there is it for the value v of n
+-- m holds a value without a text, and its first object without a form is also that of the value v of n
 pub record HasSameFormless (checked : CheckedFile) (n : ℕ) (v : Value) (m : ℕ) : Type 0 where
   pub value : Value
   pub held : IsHeld checked m value

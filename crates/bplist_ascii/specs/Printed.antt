@@ -1,4 +1,4 @@
--- What printing the value of an object answers, and what it leaves. Source: profile.
+-- What printing the value of an object returns, and what it leaves with the writer. Source: profile.
 use Rattle.std.specs.Prelude.{◌≡◌, ◌≢◌, ◌⊎◌, ℕ, ◌<◌, ◌≤◌, List, ◌++◌, length, Option, Some, None, Result, Ok, Err, ⊤}
 use Rattle.std.specs.Io.KnownBytes.{Keeps, Appends}
 use Rattle.bplist_objects.specs.declared.frame.Frame.{Frame}
@@ -9,14 +9,14 @@ use Rattle.bplist_ascii.specs.Sending.{Sending, SendsPart, SendsSome, Takes}
 use Rattle.bplist_ascii.specs.declared.print_fault.PrintFault.{PrintFault}
 use Rattle.bplist_ascii.specs.declared.print_fault.PrintFault.TheVariants.{NoAsciiForm, TooLong, Write, Read, Changed, Memory}
 
--- the value has a text that is not too long, at most `limit` bytes and fewer than 18446744073709551615, and that became of it
+-- the value has a text of at most `limit` and fewer than 18446744073709551615 bytes, and P holds of the text
 abbrev pub HasText : Value → ℕ → (List ℕ → Type 0) → Type 0
 HasText v limit P = (t : List ℕ) × (value_text v ≡ Some t) × (length t ≤ limit) × (length t < 18446744073709551615) × P t
 
--- where nothing of a text goes out, or all, or a first part, or so many bytes before a write failed
+-- given what it means that nothing, all, a first part or a cut of a text was sent:
 module _ (nothing : Type 0) (all some : List ℕ → Type 0) (cut : List ℕ → ℕ → Type 0) where
   module _ (f : List ℕ) (F : Frame) (n : ℕ) (v : Value) (limit : ℕ) where
-    -- the text of the value v that object n holds was printed, or why not, and what became of it
+    -- the result of printing the value v of object n, and what was sent
     abbrev pub Prints : Result (Unit {0}) PrintFault → Type 0
     Prints (Ok _) = HasText v limit all
     Prints (Err (NoAsciiForm m)) = (value_text v ≡ None) × IsFormless f F n v m.0 × nothing

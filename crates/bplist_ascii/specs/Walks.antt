@@ -1,4 +1,4 @@
--- What is left to write, where containers that are half written wait on a stack. Source: profile.
+-- The state of the walk: a stack of containers, and what they still have to write. Source: profile.
 use Rattle.std.specs.Prelude.{◌≡◌, ℕ, suc, zero, List, [], ◌∷◌, ◌++◌, Option, IsTrue, ⊤}
 use Rattle.bplist_objects.specs.declared.frame.Frame.{Frame}
 use Rattle.bplist_objects.specs.declared.head.Head.{Head}
@@ -14,12 +14,12 @@ use Rattle.bplist_ascii.specs.Sending.{Sending}
 use Rattle.bplist_ascii.specs.BoundedWrites.{Adds}
 use Rattle.bplist_ascii.specs.declared.walk.Opened.{Opened}
 
--- what stands before the members of a container
+-- what is written before the members of a container
 abbrev pub opening_of : Kind → List ℕ
 opening_of kinds.Dict = 0x7B ∷ []
 opening_of _ = 0x28 ∷ []
 
--- what stands before member i: of an array `,`, of a dictionary `=` before a value and `;` before a further key
+-- what is written before member i: `,` in an array; in a dictionary `=` before a value and `;` before a further key
 abbrev pub separator_of : Kind → ℕ → List ℕ
 separator_of kinds.Dict zero = []
 separator_of kinds.Dict (suc zero) = 0x3D ∷ []
@@ -28,20 +28,20 @@ separator_of kinds.Dict (suc (suc (suc i))) = separator_of kinds.Dict (suc i)
 separator_of _ zero = []
 separator_of _ (suc i) = 0x2C ∷ []
 
--- what stands behind the members of a container, which are so many
+-- what is written after the members of a container, of which there are `members`
 abbrev pub closing_of : Kind → ℕ → List ℕ
 closing_of kinds.Dict zero = 0x7D ∷ []
 closing_of kinds.Dict (suc i) = 0x3B ∷ 0x7D ∷ []
 closing_of _ i = 0x29 ∷ []
 
--- the text of an array from what stands before member i on
+-- the text of an array from the separator before member i on
 abbrev pub members_from : ℕ → Values → List ℕ
 members_from zero vs = plain_members vs ++ 0x29 ∷ []
 members_from (suc i) no_values = 0x29 ∷ []
 members_from (suc zero) (value v vs) = comma vs ++ members_from zero vs
 members_from (suc (suc i)) (value v vs) = members_from (suc i) vs
 
--- the same of a dictionary, each key of which is a member before its value
+-- the same for a dictionary, in which a key is the member before its value
 abbrev pub pairs_from : ℕ → Pairs → List ℕ
 pairs_from zero ps = plain_pairs ps ++ 0x7D ∷ []
 pairs_from (suc i) no_pairs = 0x3B ∷ 0x7D ∷ []
@@ -49,18 +49,18 @@ pairs_from (suc zero) (pair u v ps) = 0x3D ∷ (plain v ++ (0x3B ∷ pairs_from 
 pairs_from (suc (suc zero)) (pair u v ps) = 0x3B ∷ pairs_from zero ps
 pairs_from (suc (suc (suc i))) (pair u v ps) = pairs_from (suc i) ps
 
--- the text of a container from what stands before member i on
+-- the text of a container from the separator before member i on
 abbrev pub text_from : Value → ℕ → List ℕ
 text_from (array vs) i = members_from i vs
 text_from (dict ps) i = pairs_from i ps
 text_from _ i = []
 
--- the heads of containers on the stack can be read under the frame
+-- the heads of the containers on the stack can be read under the frame
 abbrev pub AreSafe : Frame → List Opened → Type 0
 AreSafe F [] = ⊤
 AreSafe F (o ∷ os) = IsSafeHead F o.head × AreSafe F os
 
--- the kinds of containers with a text
+-- the kinds of containers that can have a text
 abbrev pub IsContainer : Kind → Type 0
 IsContainer kinds.Array = ⊤
 IsContainer kinds.Dict = ⊤
@@ -81,24 +81,24 @@ module _ (checked : CheckedFile) where
     pub kind : IsOfKind head.kind v
     pub formed : IsFormed v
 
-  -- `left` is what is left to write of a container
+  -- `left` is what a container still has to write
   abbrev pub OpenedLeft : Opened → List ℕ → Type 0
   OpenedLeft o left = (v : Value) × IsRead o.head v × (left ≡ text_from v o.next)
 
-  -- `left` is what is left to write of all containers of the stack: the first is the outermost, and is written last
+  -- `left` is what all containers of the stack still have to write: the first is the outermost, and is written last
   abbrev pub StackLeft : List Opened → List ℕ → Type 0
   StackLeft [] left = left ≡ []
   StackLeft (o ∷ os) left = (inner outer : List ℕ) × StackLeft os inner × OpenedLeft o outer × (left ≡ inner ++ outer)
 
-  -- P holds of the text of the value that object n holds, if the source is honest and the value has a text
+  -- if the source is honest and the value of object n has a text, P holds of the text
   abbrev pub HonestlyPlain : ℕ → (List ℕ → Type 0) → Type 0
   HonestlyPlain n P = IsTrue checked.source.honest → (v : Value) → IsHeld checked n v → IsFormed v → P (plain v)
 
-  -- P holds of what is left to write by the stack, if the source is honest
+  -- if the source is honest, P holds of what the stack still has to write
   abbrev pub HonestlyLeft : List Opened → (List ℕ → Type 0) → Type 0
   HonestlyLeft stack P = IsTrue checked.source.honest → (left : List ℕ) → StackLeft stack left → P left
 
-  -- of what was left to write a first part was put in, and the rest is what is left by the stack
+  -- a first part of what was left was put in, and the stack still has to write the rest
   pub record GoesOn (old new : Option (List ℕ)) (before after : Sending) (room room' : ℕ) (stack : List Opened) (left : List ℕ) : Type 0 where
     pub written : List ℕ
     pub rest : List ℕ

@@ -1,4 +1,4 @@
-//! The first object that keeps a value from having a text.
+//! Finds the first object that keeps a value from having a text.
 
 ghost use Rattle.std.specs.Prelude.{◌≡◌, ◌↔◌, ◌<◌, ℕ, Some, None, slice_index, IfOk, IfSome, IsTrue, MatchOption};
 ghost use Rattle.bplist_ascii.specs.Prelude.{HonestlyChecked, Value, Content, Spells, content_at, Holds, IsSafeHead, IsVouchedBy, GivesRead, read_failed, OnlyReadsFile, AreMeasures, form_in, NoForm, value_text, IsFormless, IsHeld, IsContainer, HasSameFormless, first_value_of};
@@ -8,14 +8,14 @@ use bplist_cursor::{Form, Measures, Node, Unread, member_by_head, node_head};
 use bplist_objects::{Head, Kind, ObjectNo};
 use bplist_octets::Source;
 
-/// Whether the value of object `n` has no text.
+/// Returns true if the value of object `n` has no text.
 fn has_no_form(measures: &Measures, n: ObjectNo) -> bool
     ensures { IsTrue result ↔ (form_in measures.now n.0 ≡ Some NoForm) }
 {
     matches!(measures.form(n), Some(Form::NoForm))
 }
 
-/// The number of the first member that is no key, and how far the next such member is from it.
+/// Returns the number of the first member that is not a key, and the distance to the next such member.
 fn first_value(kind: Kind) -> (u64, u64)
     ensures { result ≡ first_value_of kind }
 {
@@ -25,7 +25,7 @@ fn first_value(kind: Kind) -> (u64, u64)
     }
 }
 
-/// The first member of a container whose value has no text. Keys are passed over, since each has one.
+/// Returns the first member of a container whose value has no text. Skips keys, since every key has a text.
 fn first_without_text<S: Source>(
     checked: &mut Checked<S>,
     measures: &Measures,
@@ -52,7 +52,8 @@ fn first_without_text<S: Source>(
     Err(Unread::Changed)
 }
 
-/// The first member of a node's object whose value has no text, or none where the kind of the object has no form.
+/// Returns the first member of a node's object whose value has no text, or `None` if the kind of the object itself has
+/// no form.
 fn next_formless<S: Source>(
     checked: &mut Checked<S>,
     measures: &Measures,
@@ -81,7 +82,7 @@ fn next_formless<S: Source>(
     }
 }
 
-/// The first object, in the order of writing, whose kind has no form, where the value of a node has no text.
+/// Returns the first object, in the order of writing, whose kind has no form. The value of the node must have no text.
 pub(crate) fn first_formless<S: Source>(
     checked: &mut Checked<S>,
     measures: &Measures,

@@ -1,4 +1,4 @@
-//! The old-style form of texts and data, written from parts of their bodies.
+//! Writes texts and data as old-style text, reading their bodies in parts.
 
 ghost use Rattle.std.specs.Prelude.{◌≡◌, ◌+◌, ◌<◌, ◌≤◌, true, length, flat_map, IfOk, OnOk, IfErr, OnErr, IsTrue};
 ghost use Rattle.std.specs.List.{list_all};
@@ -14,10 +14,10 @@ use bplist_objects::Head;
 use bplist_octets::Source;
 use std::io::Write;
 
-/// How many units or bytes of a body are read at once at most.
+/// The largest number of units or bytes that one read takes.
 const PART: usize = 128;
 
-/// Whether a text has a unit and all are letters and digits of ASCII.
+/// Returns true if a text is not empty and consists of ASCII letters and digits.
 fn is_unquoted<S: Source>(checked: &mut Checked<S>, head: &Head) -> Result<bool, Unread>
     requires kind { IsTextKind head.now.kind }
     requires head { IsSafeBody (length checked.old.source.octets) head.now }
@@ -43,7 +43,7 @@ fn is_unquoted<S: Source>(checked: &mut Checked<S>, head: &Head) -> Result<bool,
     Ok(true)
 }
 
-/// Puts in the units of a text in its style.
+/// Writes the units of a text in its style.
 fn write_text_body<S: Source, W: Write>(
     checked: &mut Checked<S>,
     text: &Styled,
@@ -77,7 +77,7 @@ fn write_text_body<S: Source, W: Write>(
     Ok(())
 }
 
-/// Puts in two hexadecimal digits for each byte of data.
+/// Writes two hexadecimal digits for each byte of data.
 fn write_data_body<S: Source, W: Write>(
     checked: &mut Checked<S>,
     head: &Head,
@@ -107,7 +107,7 @@ fn write_data_body<S: Source, W: Write>(
     Ok(())
 }
 
-/// Puts in the text of data.
+/// Writes the text of data.
 pub(crate) fn write_data<S: Source, W: Write>(
     checked: &mut Checked<S>,
     head: &Head,
@@ -131,7 +131,7 @@ pub(crate) fn write_data<S: Source, W: Write>(
     write(sink, out, room, b">")
 }
 
-/// Puts in a text between quotes.
+/// Writes a text in quotes.
 fn write_quoted<S: Source, W: Write>(
     checked: &mut Checked<S>,
     head: &Head,
@@ -158,7 +158,7 @@ fn write_quoted<S: Source, W: Write>(
     write(sink, out, room, b"\"")
 }
 
-/// Puts in the text of a text.
+/// Writes a text, in quotes if it needs them.
 pub(crate) fn write_text<S: Source, W: Write>(
     checked: &mut Checked<S>,
     head: &Head,

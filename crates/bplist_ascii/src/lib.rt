@@ -1,23 +1,36 @@
-//! Old-style text of values, and its way to a writer.
+//! Writes values as old-style text, Apple's ASCII form of property lists. Not here: how long a text is and whether a
+//! value has one (crate `bplist_cursor`, `measure`). The sink in this crate also carries every other answer of bplint
+//! to its writer.
 //!
 //! ```
 //! let measures = measure(alloc, &mut checked)?;
 //! match print(alloc, &mut checked, &measures, node, 1_000_000, &mut out) {
 //!     Ok(()) => {}                                                 // exactly the text
 //!     Err(PrintFault::TooLong) => too_long(),                      // nothing was written
-//!     Err(PrintFault::Write { sent }) => cut(sent),                // so many bytes went out
+//!     Err(PrintFault::Write { sent }) => cut(sent),                // this many bytes were written
 //!     Err(fault) => report(fault),
 //! }
 //! ```
 //!
-//! | what | calls |
+//! | to do this | call |
 //! |---|---|
-//! | the text of a node's value, up to a limit | [`print`], [`PrintFault`] |
-//! | the same behind other bytes | [`print_into`] |
-//! | the text of units, and of data | [`text_of_units`], [`text_of_bytes`]; added to bytes [`add_text_of_units`], [`add_text_of_bytes`] |
-//! | a buffer before a writer, which knows what went out | [`Sink`], [`WriteFault`] |
+//! | write the text of a node's value, up to a limit | [`print`], [`PrintFault`] |
+//! | the same after other bytes | [`print_into`] |
+//! | make the text of units, or of data | [`text_of_units`], [`text_of_bytes`] |
+//! | add it to bytes | [`add_text_of_units`], [`add_text_of_bytes`] |
+//! | buffer a writer, and count what was written | [`Sink`], [`WriteFault`] |
 //!
-//! `NoAsciiForm` and `TooLong` are decided before the first byte is written. Memory is taken by the depth of the value.
+//! `NoAsciiForm` and `TooLong` are decided before the first byte is written. Memory grows with the depth of the value.
+//!
+//! The modules, in reading order:
+//!
+//! - `texts`: texts and data as old-style text, in memory.
+//! - `printer`, `print_fault`: the call that writes a value, and its errors.
+//! - `formless`: the first object that keeps a value from having a text.
+//! - `walk`: the walk through a value.
+//! - `leaves`, `style`: texts and data, part by part.
+//! - `output`: writes that are limited by the room left.
+//! - `sink`: the buffer in front of a writer.
 #![tactic(auto)]
 
 mod formless;

@@ -1,4 +1,4 @@
-//! Bytes that are put into a sink where there is room for so many.
+//! Puts bytes into a sink that has a limited room.
 
 ghost use Rattle.std.specs.Prelude.{◌≡◌, ◌<◌, ◌≤◌, false, true, length, flat_map, OnOk, IfErr, OnErr};
 ghost use Rattle.std.specs.List.{list_all};
@@ -11,7 +11,8 @@ use crate::texts::{QuotedUnit, digits_of};
 use bplist_cursor::is_plain;
 use std::io::Write;
 
-/// Puts bytes in. What goes past the room is answered `Changed`, since the text was measured.
+/// Puts bytes into the sink. Returns `Changed` if they do not fit the room: the text was measured, so the source must
+/// have changed.
 pub(crate) fn write<W: Write>(
     sink: &mut Sink,
     out: &mut W,
@@ -31,8 +32,8 @@ pub(crate) fn write<W: Write>(
     Ok(())
 }
 
-/// Puts a unit in as a text of this style has it. Over the units that such a text can have, `Changed` comes only
-/// where there is no room.
+/// Puts a unit into the sink in this style. If a text of this style can have the unit, the only cause of `Changed` is
+/// that there is no room.
 fn write_unit<W: Write>(
     sink: &mut Sink,
     out: &mut W,
@@ -57,7 +58,7 @@ fn write_unit<W: Write>(
     }
 }
 
-/// Puts units in as a text of this style has them.
+/// Puts units into the sink in this style.
 pub(crate) fn write_units<W: Write>(
     sink: &mut Sink,
     out: &mut W,
@@ -78,7 +79,7 @@ pub(crate) fn write_units<W: Write>(
     Ok(())
 }
 
-/// Puts in two hexadecimal digits for each byte.
+/// Puts two hexadecimal digits for each byte into the sink.
 pub(crate) fn write_digits<W: Write>(
     sink: &mut Sink,
     out: &mut W,

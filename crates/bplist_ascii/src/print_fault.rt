@@ -1,4 +1,4 @@
-//! Why a value was not printed.
+//! The errors of printing.
 
 ghost use Rattle.std.specs.Prelude.{◌≡◌};
 ghost use Rattle.bplist_cursor.specs.declared.faults.Unread.TheVariants.{Changed as unread_changed};
@@ -11,24 +11,23 @@ use bplist_objects::ObjectNo;
 use bplist_octets::ReadFault;
 use std::alloc::AllocFailed;
 
-/// Why a value was not printed.
+/// Why a value was not printed as a whole.
 #[derive(Clone, Copy, Debug, PartialEq, Eq, Drop)]
 pub enum PrintFault {
-    /// The value has no text. This is the first object, in the order of writing, whose kind has no form.
+    /// The value has no text. This is the first object, in the order of writing, whose kind has none.
     NoAsciiForm(ObjectNo),
     /// The text is longer than the limit, or has 18446744073709551615 bytes or more.
     TooLong,
-    /// A write failed. The first bytes of the text went out, fewer than all.
+    /// A write failed. A first part of the text was written, but not all of it.
     Write {
-        /// How many bytes went out. For `print_into`: of all that was put into the sink.
+        /// The number of bytes that were written. For `print_into`, this counts all bytes of the sink.
         sent: u64,
     },
     /// A read of the source failed.
     Read(ReadFault),
-    /// The node is none of this file that the certificate vouches for, or the source gives other bytes than
-    /// those that were checked.
+    /// The node is not a vouched object of this file, or the source now gives other bytes than those that were checked.
     Changed,
-    /// A growth was refused.
+    /// Memory was refused.
     Memory,
 }
 

@@ -1,4 +1,4 @@
-//! The old-style text of a value, written to a writer.
+//! Writes the old-style text of a value to a writer.
 
 ghost use Rattle.std.specs.Prelude.{◌≡◌, ℕ, ◌+◌, ◌≤◌, List, length, Err, OnOk, OnErr};
 ghost use Rattle.bplist_ascii.specs.Prelude.{HonestlyChecked, Value, Holds, IsVouchedBy, OnlyReadsFile, AreMeasures, AtMost, Takes, print_read, IsPut, IsPrinted};
@@ -16,10 +16,10 @@ use std::io::Write;
 
 /// Puts the old-style text of a node's value into a sink.
 ///
-/// This is [`print`] for a caller who has more to write after the text: `Ok` means that the sink took the text, and some
-/// of it may still be held back. Conditions and faults are those of `print`; `sent` of `Write` counts all bytes of the
-/// sink, and `NoAsciiForm` and `TooLong` leave sink and writer as they were. After `Read` and `Memory` a first part of what
-/// the sink held and of the text may be out.
+/// This is [`print`] for a caller who has more to write after the text. `Ok` means that the sink took the text; it may
+/// still hold some of it. Conditions and errors are those of `print`, except that `sent` of `Write` counts all bytes of
+/// the sink. `NoAsciiForm` and `TooLong` leave sink and writer unchanged. Before `Read` or `Memory`, a first part of
+/// what the sink held and of the text may have been written.
 pub fn print_into<S: Source, W: Write>(
     alloc: Global,
     checked: &mut Checked<S>,
@@ -60,17 +60,20 @@ pub fn print_into<S: Source, W: Write>(
     }
 }
 
-/// Writes the old-style text of a node's value, where it has at most `limit` bytes.
+/// Writes the old-style text of a node's value if it has at most `limit` bytes.
 ///
-/// The measures must be those that `measure` answers for this `Checked`, where its source is honest. The containers on the
-/// way to the part that is being written wait on a stack, so memory is taken by the depth of the value alone; texts and
-/// data are read and written in parts. An interrupted write is tried again, up to 64 times in all.
+/// The measures must be those that `measure` returns for this `Checked`, if its source is honest. A stack holds the
+/// containers around the part that is being written, and texts and data are read and written in parts, so memory grows
+/// only with the depth of the value. An interrupted write is repeated, up to 64 times in all.
 ///
-/// `NoAsciiForm` is decided first, then `TooLong`, and both write nothing. After `Write` the first `sent` bytes of the text
-/// are out, fewer than all; after `Read` and `Memory` a first part of the text may be, and nothing else: of a value without
-/// a text nothing is. `Changed` is answered for a node whose object the certificate does not vouch for, and where the source
-/// gives other bytes than those that were checked; some bytes may be out then. Over any source at most `limit` bytes go out,
-/// and the `Checked` stays as it was, save the count of failures of its source.
+/// - `NoAsciiForm` is decided first, and then `TooLong`. Nothing was written.
+/// - `Write`: the first `sent` bytes of the text were written, but not all.
+/// - `Read`, `Memory`: a first part of the text may have been written. If the value has no text, nothing was written.
+/// - `Changed`: the object of the node is not vouched, or the source gives other bytes than those that were checked.
+///   Some bytes may have been written.
+///
+/// Over any source, honest or not, at most `limit` bytes are written, and the `Checked` is unchanged except for the
+/// failure count of its source.
 pub fn print<S: Source, W: Write>(
     alloc: Global,
     checked: &mut Checked<S>,

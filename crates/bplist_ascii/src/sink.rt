@@ -1,4 +1,4 @@
-//! What stands between a text and its writer.
+//! A buffer in front of a writer, which counts what was written.
 
 ghost use Rattle.std.specs.Prelude.{◌≡◌, ◌+◌, ◌-◌, ◌^◌, ◌<◌, ◌≤◌, ◌↔◌, [], ◌++◌, length, take, MatchResult, OnOk, IfOk, IfErr, IsOk, IsTrue};
 ghost use Rattle.std.specs.Io.KnownBytes.{Appends};
@@ -8,30 +8,30 @@ ghost use Rattle.bplist_ascii.specs.Sending.{Sending, SendsPart, Takes};
 use std::io::{self, ErrorKind, Write};
 use std::marker::Model;
 
-/// How many bytes wait for one write.
+/// The size of the buffer in bytes.
 const BUFFERED: usize = 4096;
 
-/// How many interrupted writes a sink tries again, in all.
+/// The number of interrupted writes that a sink repeats in all.
 const RETRIES: u32 = 64;
 
-/// A write failed. The first `sent` bytes of all that was put into the sink went out, and nothing else.
+/// A write failed. The first `sent` bytes of all that was put into the sink were written, and nothing else.
 #[derive(Clone, Copy, Debug, PartialEq, Eq)]
 pub struct WriteFault {
-    /// How many bytes went out, counted from the first that was put into the sink.
+    /// The number of bytes that were written, counted from the first that was put into the sink.
     pub sent: u64,
 }
 
-/// How many bytes went out, and how many interrupted writes were tried again.
+/// Counts the bytes that were written, and the interrupted writes that were repeated.
 #[derive(Drop)]
 struct Sender {
-    /// The bytes that the writer took.
+    /// The number of bytes that the writer took.
     sent: u64,
-    /// The interrupted writes that were tried again, `RETRIES` at most.
+    /// The number of interrupted writes that were repeated, at most `RETRIES`.
     interrupts: u32,
 }
 
 impl Sender {
-    /// Sends all of the bytes.
+    /// Writes all of the bytes.
     fn send<W: Write>(&mut self, out: &mut W, bytes: &[u8]) -> Result<(), WriteFault>
         requires { self.old.sent + length bytes.now < 2 ^ 64 }
         ensures appended { OnOk result (Appends (W.contents out.old) (W.contents out.new) bytes.now) }
@@ -47,8 +47,8 @@ impl Sender {
         Ok(())
     }
 
-    /// Counts what a write did: how many bytes the writer took, none if an interrupted write is to be tried again. A write
-    /// that took nothing is a fault, and so is one that failed otherwise, or was interrupted once too often.
+    /// Counts the result of a write. Returns how many bytes the writer took, or 0 if an interrupted write is to be
+    /// repeated. It is a fault if the writer took nothing, failed in another way, or was interrupted once too often.
     fn taken(&mut self, written: io::Result<usize>) -> Result<usize, WriteFault>
         requires { IfOk written (λ n. self.old.sent + n < 2 ^ 64) }
         ensures goes_on { IsOk result ↔ MatchResult written (λ n. 0 < n)
@@ -75,7 +75,7 @@ impl Sender {
         }
     }
 
-    /// An interrupted write is tried again, so many times in all.
+    /// Returns true if this error is an interrupted write that may still be repeated.
     fn tries_again(&self, kind: ErrorKind) -> bool
         ensures { IsTrue result ↔ (kind ≡ ErrorKind.Interrupted) × (self.now.interrupts < 64) }
     {
@@ -83,20 +83,20 @@ impl Sender {
     }
 }
 
-/// Bytes on their way to a writer, through a buffer on the stack.
+/// A buffer on the stack in front of a writer.
 ///
-/// A sink serves one call: it counts what goes out and the interrupted writes over all that is put into it. An
-/// interrupted write is tried again, up to 64 times in all. A write of nothing is a fault, and so is a text of more
-/// than 18446744073709551615 bytes.
+/// A sink serves one call. It counts the written bytes and the interrupted writes of everything that is put into it. An
+/// interrupted write is repeated, up to 64 times in all. A write of nothing is a fault, and so are more than
+/// 18446744073709551615 bytes in all.
 ///
-/// Contracts see the number of bytes that went out and the bytes that are held back.
+/// In contracts, a `Sink` is the number of bytes that were written and the bytes that it holds.
 #[derive(Drop)]
 pub struct Sink {
-    /// Its first `used` bytes are held back.
+    /// The first `used` bytes are held.
     buffer: [u8; BUFFERED],
-    /// How many bytes are held back.
+    /// The number of bytes that are held.
     used: usize,
-    /// What went out.
+    /// Counts what was written.
     sender: Sender,
 }
 
@@ -109,7 +109,7 @@ impl Model for Sink {
 }
 
 impl Sink {
-    /// A sink that has sent nothing and holds nothing back.
+    /// A sink that has sent nothing and holds nothing.
     pub fn new() -> Sink
         ensures { result ≡ record { sent = 0; held = [] } }
     {
@@ -123,10 +123,10 @@ impl Sink {
         }
     }
 
-    /// Adds bytes. They go out now or with a later call.
+    /// Adds bytes. They are written now or by a later call.
     ///
-    /// A fault tells how many of all the bytes that were put into the sink went out. What the sink held back is
-    /// dropped then.
+    /// The error gives the number of bytes that were written, of all bytes that were put into the sink. The sink then
+    /// drops what it held.
     pub fn put<W: Write>(&mut self, out: &mut W, bytes: &[u8]) -> Result<(), WriteFault>
         ensures taken { OnOk result (Takes (W.contents out.old) (W.contents out.new) self.old self.new bytes.now) }
         ensures part { IfErr result (λ e. SendsPart (W.contents out.old) (W.contents out.new) self.old.sent
@@ -146,9 +146,7 @@ impl Sink {
         self.pass_on(out, bytes)
     }
 
-    /// Sends what is held back.
-    ///
-    /// A fault is that of [`Sink::put`].
+    /// Writes what is held. The error is that of [`Sink::put`].
     pub fn flush<W: Write>(&mut self, out: &mut W) -> Result<(), WriteFault>
         ensures taken { OnOk result (Takes (W.contents out.old) (W.contents out.new) self.old self.new []) }
         ensures empty { OnOk result (self.new.held ≡ []) }
@@ -161,7 +159,7 @@ impl Sink {
         self.sender.send(out, &self.buffer[..used])
     }
 
-    /// Whether the bytes can be counted with all that came before them.
+    /// Returns true if the count of all bytes does not overflow.
     fn can_count(&self, bytes: &[u8]) -> bool
         ensures { IsTrue result ↔ (self.now.sent + length self.now.held + length bytes.now < 2 ^ 64) }
     {
@@ -174,7 +172,7 @@ impl Sink {
         bytes.len() <= BUFFERED - self.used
     }
 
-    /// Holds bytes back.
+    /// Copies bytes to the buffer.
     fn hold(&mut self, bytes: &[u8])
         requires room { length self.old.held + length bytes.now ≤ 4096 }
         requires counted { self.old.sent + length self.old.held + length bytes.now < 2 ^ 64 }
@@ -185,7 +183,7 @@ impl Sink {
         self.used = end;
     }
 
-    /// Sends bytes past the empty buffer.
+    /// Writes bytes without the buffer, which is empty.
     fn pass_on<W: Write>(&mut self, out: &mut W, bytes: &[u8]) -> Result<(), WriteFault>
         requires empty { self.old.held ≡ [] }
         requires counted { self.old.sent + length bytes.now < 2 ^ 64 }
@@ -197,7 +195,7 @@ impl Sink {
         self.sender.send(out, bytes)
     }
 
-    /// Drops what is held back, and says how many bytes went out.
+    /// Drops what is held. Returns the fault with the number of bytes that were written.
     fn refuse(&mut self) -> WriteFault
         ensures stands { result.sent ≡ self.old.sent }
         ensures dropped { self.new ≡ record { sent = self.old.sent; held = [] } }

@@ -1,4 +1,4 @@
-//! How the units of a text are written.
+//! The two ways to write the units of a text.
 
 use bplist_objects::Head;
 
@@ -7,11 +7,11 @@ use bplist_objects::Head;
 pub(crate) enum Style {
     /// As they are.
     Unquoted,
-    /// Between quotes.
+    /// In quotes.
     Quoted,
 }
 
-/// A text by its head, and how its units are written.
+/// The head of a text, and how its units are written.
 #[derive(Clone, Copy, Debug, Drop)]
 pub(crate) struct Styled {
     pub(crate) head: Head,

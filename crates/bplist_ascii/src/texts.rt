@@ -1,4 +1,4 @@
-//! The old-style form of texts and data.
+//! Texts and data as old-style text, in memory.
 
 ghost use Rattle.std.specs.Prelude.{◌≡◌, ◌≤◌, ◌++◌, ℕ, List, true, length, take, IfOk, OnOk};
 ghost use Rattle.std.specs.Char.{is_ascii_alphanumeric};
@@ -12,10 +12,8 @@ use std::marker::Model;
 
 const DIGITS: &[u8; 16] = b"0123456789abcdef";
 
-/// The old-style text of a text with these 16-bit units: the units themselves where there is one and each is a
-/// letter or a digit of ASCII, else a quoted text, whatever the units are.
-///
-/// The error is a growth that was refused.
+/// Returns the old-style text of a text with these UTF-16 units. If there are units and all are ASCII letters and
+/// digits, these are the text; otherwise it is in quotes. Any units have a text. The only error is refused memory.
 pub fn text_of_units(alloc: Global, units: &[u16]) -> Result<Vec<u8>, AllocError>
     ensures { IfOk result (λ text. text.items ≡ spec.text_of_units units.now) }
 {
@@ -47,9 +45,8 @@ fn add_plain(units: &[u16], text: &mut Vec<u8>) -> Result<(), AllocError>
     Ok(())
 }
 
-/// The old-style text of data: two lower-case hexadecimal digits a byte, between `<` and `>`.
-///
-/// The error is a growth that was refused.
+/// Returns the old-style text of data: two lower-case hexadecimal digits for each byte, between `<` and `>`. The only
+/// error is refused memory.
 pub fn text_of_bytes(alloc: Global, bytes: &[u8]) -> Result<Vec<u8>, AllocError>
     ensures { IfOk result (λ text. text.items ≡ spec.text_of_bytes bytes.now) }
 {
@@ -87,7 +84,7 @@ fn add_digits(bytes: &[u8], text: &mut Vec<u8>) -> Result<(), AllocError>
     Ok(())
 }
 
-/// The two hexadecimal digits of a byte.
+/// Returns the two hexadecimal digits of a byte.
 pub(crate) fn digits_of(byte: u8) -> [u8; 2]
     ensures { result ≡ hex_digits byte }
 {
@@ -95,9 +92,7 @@ pub(crate) fn digits_of(byte: u8) -> [u8; 2]
     [DIGITS[high as usize], DIGITS[low as usize]]
 }
 
-/// A unit as it stands between quotes, in one to six bytes.
-///
-/// Contracts see these bytes.
+/// A unit as it is written in quotes, in one to six bytes. In contracts, it is these bytes.
 #[derive(Drop)]
 pub(crate) struct QuotedUnit {
     bytes: [u8; 6],
@@ -113,7 +108,7 @@ impl Model for QuotedUnit {
 }
 
 impl QuotedUnit {
-    /// The unit between quotes.
+    /// Makes the quoted form of a unit.
     #[tactic(auto, unfolding(hex::specs::Hex::encode_with))]
     pub(crate) fn new(unit: u16) -> QuotedUnit
         ensures { result ≡ spec.quoted_unit unit }
@@ -131,7 +126,7 @@ impl QuotedUnit {
         }
     }
 
-    /// The bytes.
+    /// Returns the bytes.
     pub(crate) fn as_slice(&self) -> &[u8]
         ensures { result.now ≡ self.now }
     {

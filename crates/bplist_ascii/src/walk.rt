@@ -1,4 +1,4 @@
-//! The walk that writes a value's text: containers that are half written wait on a stack.
+//! The walk that writes the text of a value. A stack holds the containers that are not written to their end.
 
 ghost use Rattle.std.specs.Prelude.{◌≡◌, ◌<◌, ◌++◌, [], ◌∷◌, List, ℕ, OnOk, IfErr, OnErr};
 ghost use Rattle.bplist_ascii.specs.Prelude.{IsSafeHead, OnlyReadsFile, print_read, AddsSome, TakesWithin, FailsWithin, StaysWithin, Takes, opening_of, separator_of, closing_of, AreSafe, HonestlyLeft, HonestlyPlain, StackLeft, GoesOn};
@@ -14,15 +14,15 @@ use bplist_octets::Source;
 use std::alloc::Global;
 use std::io::Write;
 
-/// An array or a dictionary whose members before number `next` are written or begun.
+/// An array or a dictionary on the stack. Its members before number `next` are written or begun.
 #[derive(Clone, Copy, Debug, Drop)]
 struct Opened {
     head: Head,
     next: u64,
 }
 
-/// The walk through a value: the containers that are half written, the outermost first, and how many bytes may still be
-/// put in.
+/// The state of the walk: the containers that are not written to their end, the outermost first, and how many more
+/// bytes may be written.
 #[derive(Drop)]
 pub(crate) struct Walk {
     stack: Vec<Opened>,
@@ -30,7 +30,7 @@ pub(crate) struct Walk {
 }
 
 impl Walk {
-    /// A walk that begins, with room for so many bytes.
+    /// A walk that has not begun, with this room in bytes.
     pub(crate) fn new(alloc: Global, room: u64) -> Walk
         ensures begins { result.stack.items ≡ [] }
         ensures room { result.room ≡ room }
@@ -42,7 +42,7 @@ impl Walk {
     }
 }
 
-/// What stands before the members of a container.
+/// Returns what is written before the members of a container.
 fn opening(kind: Kind) -> &'static [u8]
     ensures { result.now ≡ opening_of kind }
 {
@@ -52,7 +52,7 @@ fn opening(kind: Kind) -> &'static [u8]
     }
 }
 
-/// What stands before member `i` of a container.
+/// Returns what is written before member `i` of a container.
 fn separator(kind: Kind, i: u64) -> &'static [u8]
     ensures { result.now ≡ separator_of kind i }
 {
@@ -64,7 +64,7 @@ fn separator(kind: Kind, i: u64) -> &'static [u8]
     }
 }
 
-/// What stands behind the members of a container, which are so many.
+/// Returns what is written after the members of a container. `members` is their number.
 fn closing(kind: Kind, members: u64) -> &'static [u8]
     ensures { result.now ≡ closing_of kind members }
 {
@@ -108,7 +108,7 @@ fn begin<S: Source, W: Write>(
     }
 }
 
-/// Goes on in a container, which was on top of the stack.
+/// Writes the next member of a container that was just popped from the stack.
 fn step<S: Source, W: Write>(
     checked: &mut Checked<S>,
     opened: Opened,
@@ -142,7 +142,7 @@ fn step<S: Source, W: Write>(
     begin(checked, node, walk, sink, out)
 }
 
-/// Puts in the text of a node's value, as far as the walk that begins has room.
+/// Puts the text of a node's value into the sink, if the walk has room for it.
 pub(crate) fn write_value<S: Source, W: Write>(
     checked: &mut Checked<S>,
     node: Node,

@@ -1,4 +1,4 @@
--- The units that a head of a text spells, and of every other.
+-- The units that the head of a text spells, and that any other head spells.
 use Rattle.std.proofs.Common.{◌≡◌, ℕ, List, Ok, Err, refl}
 use Rattle.bplist_octets.specs.Octets.{part}
 use Rattle.bplist_objects.specs.declared.frame.Frame.{Frame}

@@ -1,4 +1,4 @@
--- What the checked file of a handle says, the handle says.
+-- An answer about the checked file of a handle is an answer about the handle.
 use Rattle.std.proofs.Common.{arith, ◌≡◌, ◌<◌, ◌∙◌, ℕ, List, length, Some, Result, Err, ap, inl, inr, subst, sym}
 use denote.Ref.{Bor}
 use Rattle.bplist_cert.specs.CheckedFile.{CheckedFile}
@@ -20,7 +20,7 @@ module _ {X : Type 0} (file : Bor (List ℕ)) (handle : BplistHandle) (Says : Ch
         subst (λ (x : Session). Says (checked_of file x) answer) e (subst (λ (x : CheckedFile). Says x answer) is said);
   }
 
-  -- the handle lent nothing
+  -- the handle did not lend its checked file
   pub on_refused : (why : Status) → IsRefused file.now handle why → OnHandle file handle Says (Err why)
   on_refused why refused = elim refused [
     | inl r ↦ record { closed = λ e. ap Err r.1; other = λ a b. absurd (a r.0); opened = λ a b t has. absurd (a r.0) }

@@ -1,4 +1,4 @@
--- The head of an object that a checked file vouches for, from call to call.
+-- The head of a vouched object, from call to call.
 use Rattle.std.proofs.Common.{arith, ◌≡◌, ◌≤◌, ◌∙◌, ℕ, IsTrue, false, Result, Ok, Err, ap, inl, inr, subst}
 use Rattle.std.proofs.lemmas.Bool.{cases_lt}
 use Rattle.std.proofs.lemmas.Grind.{not_there}
@@ -19,7 +19,7 @@ use Rattle.bplist_c.specs.declared.verdict.Top.{Top}
 abbrev pub IsHead : CheckedFile → ℕ → Result Head Status → Type 0
 IsHead checked n answer = OnObject checked n IsHeadOf (λ head found. found ≡ Ok head) answer
 
--- where no read fails and no rule is broken there is an answer
+-- if no read fails and no rule is broken, there is an answer
 pub never_refused : {X : Type 0} (P : X → Type 0) (r : Result X ObjectFault) (e : ObjectFault) → read_failed r ≡ false → Gives P Never r → r ≡ Err e → ⊥
 never_refused P (Ok x) e read given is = cc is
 never_refused P (Err (errors.Fault x)) e read given is = given
@@ -34,7 +34,7 @@ module _ (checked : CheckedFile) (n : ℕ) where
     said = λ v head is. ap Ok (one head is.0);
   }
 
-  -- a vouched object has no head that can't be found
+  -- the head of a vouched object can always be found
   pub head_lost : (why : Status) → IsVouchedBy checked.certificate.heights n
       → ((x : Head) → HasShape checked.source.octets checked.frame n x → ⊥) → IsHead checked n (Err why)
   head_lost why vouched no_head = record {
@@ -43,7 +43,7 @@ module _ (checked : CheckedFile) (n : ℕ) where
   }
 
   module _ {X : Type 0} (Says : Content → Result X Status → Type 0) where
-    -- what is said of what the head that was found spells is said of the object
+    -- what holds of the content at the head that was found holds of the object
     pub by_content : (h : Head) (answer : Result X Status) → IsHead checked n (Ok h)
         → (IsVouchedBy checked.certificate.heights n → (content : Content) → Spells checked.source.octets checked.frame n content
         → content ≡ content_at checked.source.octets checked.frame h → Says content answer)
@@ -67,7 +67,7 @@ module _ (checked : CheckedFile) (n : ℕ) where
     }
 
   module _ {X : Type 0} (Says : Head → Result X Status → Type 0) where
-    -- what is said of the head that was found is said of the object
+    -- what holds of the head that was found holds of the object
     pub by_head : (h : Head) (answer : Result X Status) → IsHead checked n (Ok h) → Says h answer → OnObject checked n IsHeadOf Says answer
     by_head h answer known says = record {
       none = λ no. let e = known.none no in absurd (cc);
@@ -84,14 +84,14 @@ module _ (checked : CheckedFile) (n : ℕ) where
       said = λ vouched head is. let f = known.said vouched head is in absurd (cc);
     }
 
--- numbers that can't but be in order are
+-- numbers that are not out of order are in order
 stable_le : (a b : ℕ) → ((a ≤ b → ⊥) → ⊥) → a ≤ b
 stable_le a b h = elim (cases_lt b a) [
   | inl bad ↦ absurd (h (λ l. omega (arith, l, bad)))
   | inr ok ↦ omega (arith, ok)
 ]
 
--- the certificate vouches for the top
+-- the top is vouched
 pub top_vouched : (checked : CheckedFile) → IsChecked checked → IsTrue checked.source.honest → IsVouchedBy checked.certificate.heights checked.frame.top.0
 top_vouched checked is honest = stable_le _ _ (λ bad. not_there (is.accepted honest) (λ a. bad a.valid.top))
 

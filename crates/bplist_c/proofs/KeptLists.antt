@@ -1,4 +1,4 @@
--- A checked file with the key lists that its certificate was upgraded to.
+-- A checked file with the key lists that were added to its certificate.
 use Rattle.std.proofs.Common.{◌≡◌, ◌∙◌, List, ℕ, length, Option, Some, None, IsSome, IsTrue, ap, refl, sym, subst}
 use Rattle.std.proofs.lemmas.Grind.{not_there}
 use Rattle.std.proofs.Math.Logic.{∥∥₁_map}
@@ -9,12 +9,12 @@ use Rattle.bplist_cert.specs.CheckedFile.{CheckedFile, IsChecked}
 use Rattle.bplist_cert.specs.Lists.{Keyed, Lists}
 use Rattle.bplist_lint.specs.Upgraded.{IsUpgraded}
 
--- key lists that can't but be there are
+-- key lists that are not absent are present
 stable_some : (keys : Option Keyed) → ((IsSome keys → ⊥) → ⊥) → IsSome keys
 stable_some None h = absurd (h (λ e. cc e))
 stable_some (Some keyed) h = refl
 
--- what is checked is so wherever its bytes stand
+-- a checked file is checked wherever its bytes are in memory
 pub anywhere : (checked : CheckedFile) → IsChecked checked → IsTrue checked.source.honest → (file : Bor (List ℕ)) → file.now ≡ checked.source.octets
     → IsChecked (record { source = source_over file; frame = checked.frame; certificate = checked.certificate })
 anywhere checked is honest file e = record {

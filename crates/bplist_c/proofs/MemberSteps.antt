@@ -1,4 +1,4 @@
--- The members that are read into a buffer.
+-- Members that are read into a buffer.
 use Rattle.std.proofs.Common.{arith, ◌≡◌, ◌<◌, ◌≤◌, ◌+◌, ◌*◌, ◌-◌, ◌/◌, ◌%◌, ◌^◌, ◌∙◌, ◌++◌, min, ℕ, take, List, Option, Some, None, Ok, inl, inr, length, drop, slice_index, slice_get, refl, sym, ap, subst}
 use Rattle.std.specs.List.{AllByRecursion}
 use Rattle.std.proofs.lemmas.Bool.{cases_lt}
@@ -21,7 +21,7 @@ use Rattle.bplist_cursor.specs.Members.{IsNumberOf, member_reference, named, nod
 use Rattle.bplist_cursor.proofs.Membership.{no_node, node_of_number}
 use Rattle.bplist_c.specs.Members.{AreSpelled, MembersSay}
 
--- the object of a node that is named, and none
+-- the object of a node that is named, or none
 named_object : (o : Option ℕ) (m : ℕ) → Some (node_of m) ≡ named o → o ≡ Some m
 named_object None m e = cc e
 named_object (Some x) m e = ap (λ (node : Node). Some node.object.0) (sym (same_Some (node_of m) (node_of x) e))
@@ -30,7 +30,7 @@ none_named : (o : Option ℕ) → None ≡ named o → o ≡ None
 none_named None e = refl
 none_named (Some x) e = cc e
 
--- each member has a number among the references
+-- each member is one of the references
 pub number_of_member : (kind : Kind) (count i : ℕ) → i < ref_count kind count → (r : ℕ) × IsNumberOf kind count i r × (r < ref_count kind count)
 number_of_member kinds.Array count i l = (i, refl, l)
 number_of_member kinds.Set count i l = (i, refl, l)
@@ -40,7 +40,7 @@ number_of_member kinds.Dict count i l = elim (cases_lt (i % 2) 1) [
 ]
 number_of_member _ count i l = absurd (omega (arith, l))
 
--- members whose references stand one behind the other
+-- members whose references follow one another
 in_order : (kind : Kind) (count i number : ℕ) → (kind ≡ kinds.Dict → ⊥) → IsNumberOf kind count i number → number ≡ i
 in_order kinds.Dict count i number other is = absurd (other refl)
 in_order _ count i number other is = is
@@ -56,7 +56,7 @@ module _ (f : List ℕ) (F : Frame) (head : Head) (from : ℕ) where
       each k l ∙ ap (λ x. x % 2 ^ 32) (read k (omega (arith, l, len))
       ∙ ap (nth_number f head.body F.ref_size) (sym (in_order head.kind head.count (from + k) number other is)))
 
-  -- the member is a key where its number is even, and a value where it is odd
+  -- an even member is a key, and an odd one a value
   abbrev pub AreInTurn : List ℕ → List ℕ → List ℕ → ℕ → Type 0
   AreInTurn keys values objects count = (k : ℕ) → k < count
       → ((from % 2 + k) % 2 ≡ 0 → slice_index objects k ≡ slice_index keys ((from % 2 + k) / 2) % 2 ^ 32)
@@ -80,12 +80,12 @@ module _ (f : List ℕ) (F : Frame) (head : Head) (from : ℕ) where
             (turns k l).1 odd ∙ ap (λ x. x % 2 ^ 32) (read_values j (omega (arith, l, many, room)) ∙ ap (nth_number f head.body F.ref_size) at)
       ]
 
-  -- the first of these are members from one on
+  -- the first of these are the members from one on
   abbrev pub AreSpelledTo : ℕ → List ℕ → Type 0
   AreSpelledTo count objects = (k number : ℕ) → k < count → IsNumberOf head.kind head.count (from + k) number
       → slice_index objects k ≡ ref f F head number % 2 ^ 32
 
-  -- a block behind them makes them more
+  -- with the next block there are more of them
   pub spelled_more : (objects block rest : List ℕ) (done now : ℕ) → done ≤ length objects → length block ≡ now → AreSpelledTo done objects
       → AreSpelled f F head (from + done) block → AreSpelledTo (done + now) (take done objects ++ (block ++ rest))
   spelled_more objects block rest done now within len before here = λ k number l is.
@@ -110,7 +110,7 @@ module _ (f : List ℕ) (F : Frame) (n : ℕ) (content : Content) (head : Head) 
       let entries : F.objects * 1 ≤ F.objects * F.offset_size = mul-le-mul_left F.objects ties.offset_size.0 in
       omega (arith, low, ties.large, ties.whole, entries)
 
-  -- an object that is read is the one of its member
+  -- an object that is read is that of its member
   member_read : (objects : List ℕ) (from k : ℕ) → k < length objects → from + k < ref_count head.kind head.count → AreSpelled f F head from objects
       → slice_get objects k ≡ member_reference content (from + k)
   member_read objects from k l within read =
@@ -121,13 +121,13 @@ module _ (f : List ℕ) (F : Frame) (n : ℕ) (content : Content) (head : Head) 
       (is ∙ sym there ∙ ap (λ c. slice_index (refs c) number.0) (sym means)) in
       slice_get-get_or objects k 0 l ∙ sym (named_object (member_reference content (from + k)) (slice_index objects k) same)
 
-  -- behind the last there is none
+  -- there is no member after the last
   member_missing : (objects : List ℕ) (from k : ℕ) → length objects ≤ k → ref_count head.kind head.count ≤ from + k
       → slice_get objects k ≡ member_reference content (from + k)
   member_missing objects from k l past =
       slice_get_past objects k l ∙ sym (none_named (member_reference content (from + k)) (no_node f F head.kind head.count head.body content means (from + k) past))
 
-  -- members that were read, as many as there are and as fit, are those that are told
+  -- the members that were read, as many as there are and as fit, are the answer
   pub members_say : (from room start now : ℕ) (objects : List ℕ) → start ≡ min from (ref_count head.kind head.count)
       → now ≡ min (ref_count head.kind head.count - start) room → length objects ≡ now → AreSpelled f F head start objects
       → MembersSay from room content (Ok objects)

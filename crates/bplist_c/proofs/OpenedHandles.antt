@@ -1,4 +1,4 @@
--- What opening a file answers, once its session is kept or memory was refused.
+-- The result of opening a file, after its session is kept or memory was refused.
 use Rattle.std.proofs.Common.{◌≡◌, ◌⊎◌, inl, inr, ℕ, List, Bool, IsTrue, Result, Ok, Err, refl, subst, sym}
 use Rattle.std.specs.Prelude.{MatchResult}
 use denote.Ref.{Bor}
@@ -20,14 +20,14 @@ use Rattle.bplist_c.specs.Lifecycle.{IsOpened, IsPair, certified}
 use Rattle.bplist_c.specs.declared.verdict.TheConstants.{NO_VERDICT}
 use Rattle.bplist_c.specs.Verdicts.{ShowsLint}
 
--- the session is kept and the verdict as it was shown, or memory was refused
+-- the session is kept and the verdict is unchanged, or memory was refused
 abbrev pub IsKeptOrNot : List ℕ → Lists → Bool → BplistHandle → BplistVerdict → BplistVerdict → ℕ → Type 0
 IsKeptOrNot f certificate sorted handle shown verdict status =
     ((status ≡ 0) × (verdict ≡ shown) × IsOpened f certificate sorted handle)
     ⊎ ((status ≡ 2) × (verdict ≡ NO_VERDICT) × (handle.length ≡ 0))
 
 module _ (f : List ℕ) (sorted : Bool) (P : Lint → Type 0) (Q : Fault → Type 0) (R : List ℕ → Type 0) where
-  -- refused memory is an answer too
+  -- refused memory is a result too
   pub opened : (lint : Lint) (handle : BplistHandle) (shown verdict : BplistVerdict) (status : ℕ) → P lint
       → ShowsLint f (Ok lint) shown 0 → IsKeptOrNot f lint.certificate sorted handle shown verdict status
       → (answer : Result Lint LintRefusal) × Lints P Q R answer × ShowsLint f answer verdict status
@@ -44,7 +44,7 @@ module _ (file : Bor (List ℕ)) (checked : CheckedFile) (is : IsChecked checked
   framed : IsFrame file.now checked.frame
   framed = subst (λ (m : Meaning). IsFrame m.octets checked.frame) same (is.framed honest)
 
-  -- what the check has accepted is a certificate of the file
+  -- what the check has accepted is a valid certificate of the file
   pub is_pair : (octets : List ℕ) → IsCertificate checked.certificate → octets ≡ octets_of checked.certificate
       → IsPair file.now octets (certified checked.frame checked.certificate)
   is_pair octets spelled e =

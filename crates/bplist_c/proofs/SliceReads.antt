@@ -1,4 +1,4 @@
--- Over a slice no read fails, so that a vouched object has its answer.
+-- No read of a slice fails, so every call on a vouched object has an answer.
 use Rattle.std.proofs.Common.{◌≡◌, ◌≢◌, Bool, true, false, Result, Ok, Err, IfErr, IsOk, refl}
 use Rattle.bplist_octets.proofs.Sources.{never_fails}
 use Rattle.bplist_cert.specs.CheckedFile.{CheckedFile}
@@ -12,12 +12,12 @@ pub kept_unread : (b : Bool) (old new : CheckedFile) → old.source.failures ≡
 kept_unread false old new e d kept = refl
 kept_unread true old new e d kept = never_fails true old.source new.source e d kept.0
 
--- so the checked file is as it was
+-- so the checked file is unchanged
 pub kept_same : (b : Bool) (old new : CheckedFile) → b ≡ false → OnlyReadsFile b old new → new ≡ old
 kept_same false old new e kept = kept
 kept_same true old new e kept = cc e
 
--- what is promised of the answer holds of it
+-- the answer has the property that was promised
 pub answered : {X : Type 0} (P : X → Type 0) (found : Result X CursorFault) → cursor_read found ≡ false → found ≢ Err faults.Memory
     → GivesCursor P found → (x : X) × (found ≡ Ok x) × P x
 answered P (Ok x) read memory given = (x, refl, given)

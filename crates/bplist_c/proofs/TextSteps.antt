@@ -13,17 +13,17 @@ use Rattle.bplist_ascii.specs.declared.print_fault.PrintFault.{PrintFault}
 use Rattle.bplist_ascii.specs.declared.print_fault.PrintFault.TheVariants as faults
 use Rattle.bplist_c.specs.Texts.{IsTextOf, length_in, printed_as, text_length}
 
--- what is told of the length of a text
+-- the length of a text that C is given
 pub told_length : (sizes : Table) (n : ℕ) (v : Value) (t : List ℕ) → form_in sizes n ≡ Some (form_of v) → value_text v ≡ Some t
     → text_length sizes n ≡ cap (length t)
 told_length sizes n v t e is = ap length_in e ∙ ap (λ x. length_in (Some (form_of_text x))) is
 
--- the length that is told of a text is that of its form
+-- the length that C is given is that of the form
 told_form : (text : Option (List ℕ)) (told : ℕ) → text ≢ None → ((t : List ℕ) → text ≡ Some t → told ≡ cap (length t)) → form_of_text text ≡ Length told
 told_form None told some length = absurd (some refl)
 told_form (Some t) told some length = ap Length (sym (length t refl))
 
--- what was printed into an empty list is the text, and else it is said why there is none
+-- what was printed into an empty list is the text, or there is a reason why there is none
 pub text_said : (f : List ℕ) (F : Frame) (n : ℕ) (v : Value) (room told : ℕ) (text : Vec ℕ Global) (r : Result (Unit {0}) PrintFault)
     → IsPrinted (Some []) (Some text.items) f F n v room r → ((t : List ℕ) → value_text v ≡ Some t → told ≡ cap (length t))
     → IsTextOf f F n v room (printed_as r text told)

@@ -1,4 +1,4 @@
--- The units of a text that are put into a buffer.
+-- Units of a text that are written to a buffer.
 use Rattle.std.proofs.Common.{arith, ◌≡◌, ◌≤◌, ◌⊎◌, ◌++◌, ◌∙◌, ◌-◌, min, ℕ, List, Ok, inl, inr, length, take, drop, refl, sym, ap}
 use Rattle.std.proofs.lemmas.Bool.{cases_lt, le-leb}
 use Rattle.std.proofs.lemmas.List.{length-take, length-drop, take_all}
@@ -14,19 +14,19 @@ same_part : (us : List ℕ) (a b n : ℕ) → (a ≡ b) ⊎ (n ≡ 0) → part u
 same_part us a b n (inl e) = ap (λ place. part us place n) e
 same_part us a b n (inr none) = rw none refl
 
--- as many as there are and as fit are as many as fit
+-- as many as there are and as fit are the first of them that fit
 as_fit : (xs : List ℕ) (n room : ℕ) → n ≡ min (length xs) room → take n xs ≡ take room xs
 as_fit xs n room e = elim (cases_lt room (length xs)) [
   | inl less ↦ ap (λ k. take k xs) (omega (arith, less, e))
   | inr all ↦ take_all n xs (omega (arith, all, e)) ∙ sym (take_all room xs all)
 ]
 
--- items that fit are put
+-- items that fit are written
 pub fitting : (items old new : List ℕ) (was count : ℕ) → length items ≤ length old → count ≡ length items → new ≡ items ++ drop (length items) old
     → Puts (Ok items) old new was count 0
 fitting items old new was count fits counted put = (counted, rw (le-leb (length items) (length old) fits) (refl, put))
 
--- a part that was read into the front of the buffer, as much as there is and as fits, is put
+-- a part that was read into the front of the buffer, as much as there is and as fits, is written
 pub part_put : (us : List ℕ) (from start now : ℕ) (read old : List ℕ) (was : ℕ) → start ≡ min from (length us)
     → now ≡ min (length us - start) (length old) → read ≡ part us start now → Puts (Ok (part us from (length old))) old (read ++ drop now old) was now 0
 part_put us from start now read old was e d is =
@@ -40,7 +40,7 @@ part_put us from start now read old was e d is =
     let size : length items ≡ now = length-take (length old) (drop from us) ∙ omega (arith, left, e, d) in
     fitting items old (read ++ drop now old) was now (omega (arith, size, d)) (sym size) (rw size (ap (λ us. us ++ drop now old) same))
 
--- units that were read into the front of the buffer, as many as there are and as fit, are put
+-- units that were read into the front of the buffer, as many as there are and as fit, are written
 pub units_put : (f : List ℕ) (head : Head) (from start now : ℕ) (read old : List ℕ) (was : ℕ) → IsTextKind head.kind → IsSafeBody (length f) head
     → start ≡ min from head.count → now ≡ min (head.count - start) (length old) → read ≡ part (units_of f head) start now
     → Puts (Ok (part (units_of f head) from (length old))) old (read ++ drop now old) was now 0

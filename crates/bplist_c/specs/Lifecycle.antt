@@ -1,4 +1,4 @@
--- What opening a file answers. Source: profile.
+-- What opening a file gives C. Source: profile.
 use Rattle.std.specs.Prelude.{◌≡◌, ◌≢◌, ◌⊎◌, ℕ, List, length, slice_index, Bool, false, IsTrue, IsSome, Some, Result, Ok, Err}
 use denote.Ref.{Bor}
 use Rattle.bplist_octets.specs.Slices.{source_over}
@@ -16,32 +16,32 @@ use Rattle.bplist_c.specs.declared.status.Status.{Status}
 use Rattle.bplist_c.specs.declared.status.Status.TheVariants as statuses
 use Rattle.bplist_c.specs.Sessions.{IsSessionOf}
 
--- the certificate is one of these bytes
+-- these bytes and this certificate are a valid pair
 abbrev pub IsAcceptedFor : List ℕ → Lists → Type 0
 IsAcceptedFor f certificate = (F : Frame) × IsFrame f F × IsAccepted f F certificate
 
--- the checked file is of these bytes and that certificate
+-- the checked file consists of these bytes and that certificate
 abbrev pub IsCheckedFor : Bor (List ℕ) → Lists → CheckedFile → Type 0
 IsCheckedFor file certificate checked = (checked.source ≡ source_over file) × (checked.certificate ≡ certificate)
 
--- the handle has a session of these bytes, their length and these heights; the certificate has key lists if they are asked for,
--- and is this one if it has them already or they are not asked for
+-- the handle holds a session of these bytes, their length and these heights; the certificate has key lists if they are
+-- asked for, and is this one if it has them already or they are not asked for
 abbrev pub IsOpened : List ℕ → Lists → Bool → BplistHandle → Type 0
 IsOpened f certificate sorted h = (h.length ≡ length f) × ((s : Session) × (h.held.value ≡ Some s) × IsSessionOf f s
     × (s.certificate.heights ≡ certificate.heights) × (IsSome certificate.keys → s.certificate ≡ certificate)
     × (sorted ≡ false → s.certificate ≡ certificate) × (IsTrue sorted → IsSome s.certificate.keys))
 
--- what is shown of a file by its certificate: the height of the top, and no counts
+-- the verdict from a certificate: the height of the top, and no counts
 abbrev pub certified : Frame → Lists → Lint
 certified F certificate =
     record { certificate = certificate; height = slice_index certificate.heights F.top.0; reached = 0; references = 0 }
 
--- these bytes spell a certificate of the file, and it is shown with the height of the top and no counts
+-- these bytes are a valid certificate of the file; its verdict has the height of the top and no counts
 abbrev pub IsPair : List ℕ → List ℕ → Lint → Type 0
 IsPair f octets lint = (F : Frame) × IsFrame f F × IsVouchedFor f octets F lint.certificate
     × (lint.height ≡ slice_index lint.certificate.heights F.top.0) × (lint.reached ≡ 0) × (lint.references ≡ 0)
 
--- the bytes of the handle's certificate, or refused memory, or that it is closed
+-- the bytes of the handle's certificate, or that memory was refused, or that the handle is closed
 abbrev pub CertificateSays : BplistHandle → Result (List ℕ) Status → Type 0
 CertificateSays h (Ok bytes) = (s : Session) × (h.length ≢ 0) × (h.held.value ≡ Some s) × (bytes ≡ octets_of s.certificate)
 CertificateSays h (Err why) = ((h.length ≡ 0) × (why ≡ statuses.Closed)) ⊎ ((h.length ≢ 0) × (why ≡ statuses.Memory))

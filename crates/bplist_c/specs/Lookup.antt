@@ -1,4 +1,4 @@
--- What C is told of the place that a path leads to. Source: profile.
+-- What C is given for a path. Source: profile.
 use Rattle.std.specs.Prelude.{◌≡◌, ◌⊎◌, ℕ, List, Result, Ok, Err}
 use Rattle.std.specs.Str.{IsUtf8}
 use Rattle.bplist_objects.specs.Holds.{Holds}
@@ -15,24 +15,25 @@ use Rattle.bplist_c.specs.declared.status.Status.{Status}
 use Rattle.bplist_c.specs.declared.status.Status.TheVariants as statuses
 use Rattle.bplist_c.specs.Statuses.{number_of}
 
--- the status for a reason
+-- the status for the reason why a step fails
 abbrev pub why_status : Why → Status
 why_status why = elim why [ NoKey ↦ statuses.NoKey | NoIndex ↦ statuses.NoIndex | NotSteppable ↦ statuses.NotSteppable ]
 
--- where these bytes lead as a path from the top, or are wrong as one; or that they are no UTF-8, or refused memory
+-- where the path with this text leads from the top, or where the text is wrong; or that it is no UTF-8; or refused
+-- memory
 abbrev pub FindSays : CheckedFile → List ℕ → Result (Result Found ℕ) Status → Type 0
 FindSays checked bytes (Ok (Ok found)) = IsUtf8 bytes × ((steps : List (List ℕ)) × IsPathOf bytes steps × ((v : Value)
     → Holds checked.source.octets checked.frame checked.frame.top.0 v → IsFound checked checked.frame.top.0 v steps found))
 FindSays checked bytes (Ok (Err wrong)) = IsUtf8 bytes × IsNoPath bytes wrong
 FindSays checked bytes (Err why) = ((¬ IsUtf8 bytes) × (why ≡ statuses.NotUtf8)) ⊎ (why ≡ statuses.Memory)
 
--- the status and the output for what was found; for the reason why nothing was, the output is as it was
+-- status and output for what was found; if nothing was found because of a status, the output is unchanged
 abbrev pub told_found : Result (Result Found ℕ) Status → BplistFound → ℕ × BplistFound
 told_found (Ok (Ok (At node))) old = (0, record { object = node.object.0; step = 0 })
 told_found (Ok (Ok (Missing step why))) old = (number_of (why_status why), record { object = 0; step = step })
 told_found (Ok (Err wrong)) old = (number_of statuses.PathText, record { object = 0; step = wrong })
 told_found (Err why) old = (number_of why, old)
 
--- the object that one step leads to, or why none
+-- the object that one step leads to, or why there is none
 abbrev pub step_answer : Found → Result ℕ Status
 step_answer place = elim place [ At node ↦ Ok node.object.0 | Missing step why ↦ Err (why_status why) ]

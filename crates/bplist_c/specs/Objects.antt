@@ -1,4 +1,4 @@
--- What C is told of an object. Source: profile.
+-- What C is given of an object. Source: profile.
 use Rattle.std.specs.Prelude.{◌≡◌, ℕ, suc, ◌-◌, ◌/◌, ◌%◌, ◌^◌, List, Result, Ok, Err}
 use Rattle.std.specs.Int.{w128, cast_unsigned}
 use denote.Enum.Declared.{tag_of}
@@ -16,25 +16,25 @@ use Rattle.bplist_c.specs.declared.object.BplistInteger.{BplistInteger}
 use Rattle.bplist_c.specs.declared.status.Status.{Status}
 use Rattle.bplist_c.specs.declared.status.Status.TheVariants as statuses
 
--- the number of a kind in the header: its place among the kinds, from 1
+-- the number of a kind in the header: its position among the kinds, from 1
 abbrev pub kind_number : Kind → ℕ
 kind_number kind = suc (tag_of the_type kind)
 
--- what a head tells of the body
+-- the body of an object with this head
 abbrev pub body_of : Head → BplistBody
 body_of head = record { kind = kind_number head.kind; count = head.count; place = head.body; length = head.«end» - head.body }
 
--- the bytes of the body with this head
+-- the bytes of the body of an object with this head
 abbrev pub bytes_of_body : List ℕ → Head → List ℕ
 bytes_of_body f head = part f head.body (head.«end» - head.body)
 
--- what is said of an object by what it has, its head or its value; NoObject if it is not vouched for
+-- what Says of the object's head, content or value, whichever Has names; NoObject if the object is not vouched
 pub record OnObject {X Y : Type 0} (checked : CheckedFile) (n : ℕ) (Has : List ℕ → Frame → ℕ → Y → Type 0)
     (Says : Y → Result X Status → Type 0) (answer : Result X Status) : Type 0 where
   pub none : (IsVouchedBy checked.certificate.heights n → ⊥) → answer ≡ Err statuses.NoObject
   pub said : IsVouchedBy checked.certificate.heights n → (y : Y) → Has checked.source.octets checked.frame n y → Says y answer
 
--- the integer that is spelled, as the two halves of the number in two's complement
+-- the integer that is spelled, as the two halves of a number in two's complement
 abbrev pub int_answer : Content → Result BplistInteger Status
 int_answer (leaf (int i)) = Ok (record { low = cast_unsigned w128 i % 2 ^ 64; high = cast_unsigned w128 i / 2 ^ 64 })
 int_answer _ = Err statuses.OtherKind
@@ -43,6 +43,6 @@ int_answer _ = Err statuses.OtherKind
 abbrev pub uid_answer : Content → Result ℕ Status
 uid_answer content = elim content [ leaf (uid x) ↦ Ok (x % 2 ^ 32) | _ ↦ Err statuses.OtherKind ]
 
--- the units of the text that is spelled, from one on, as many as there is room for
+-- the units of the text that is spelled, from one on, as many as fit
 abbrev pub units_answer : ℕ → ℕ → Content → Result (List ℕ) Status
 units_answer from room content = elim content [ leaf (text units) ↦ Ok (part units from room) | _ ↦ Err statuses.OtherKind ]

@@ -1,4 +1,4 @@
--- The names that the clauses of this crate cite, passed on from one place. Declares nothing.
+-- The names that the contracts of this crate use, gathered from other files. Declares nothing.
 pub use Rattle.bplist_octets.specs.Octets.{part}
 pub use Rattle.bplist_octets.specs.Slices.{source_over}
 pub use Rattle.bplist_objects.specs.Frame.{IsFrame}

@@ -12,15 +12,15 @@ use Rattle.bplist_c.specs.declared.status.Status.TheVariants as statuses
 abbrev pub checked_of : Bor (List ℕ) → Session → CheckedFile
 checked_of file s = record { source = source_over file; frame = s.frame; certificate = s.certificate }
 
--- the session is one of a file with these bytes, wherever they stand
+-- the session is one of a file with these bytes, wherever the bytes are in memory
 abbrev pub IsSessionOf : List ℕ → Session → Type 0
 IsSessionOf f s = IsChecked (checked_of (record { ref_ptr = (0, 0); now = f }) s)
 
--- the handle is closed, or of a file of another length, or of these bytes
+-- the handle is closed, or belongs to a file of another length, or to these bytes
 abbrev pub IsFileOf : List ℕ → BplistHandle → Type 0
 IsFileOf f handle = handle.length ≡ length f → IfSome handle.held.value (IsSessionOf f)
 
--- the handle is of the same session, and closed where the other is
+-- the handle holds the same session, and is closed if the other is
 abbrev pub IsSame : BplistHandle → BplistHandle → Type 0
 IsSame old new = (new.length ≡ old.length) × (new.held.value ≡ old.held.value)
 
@@ -29,7 +29,7 @@ abbrev pub IsRefused : List ℕ → BplistHandle → Status → Type 0
 IsRefused f handle why = ((handle.length ≡ 0) × (why ≡ statuses.Closed))
     ⊎ ((handle.length ≢ 0) × (handle.length ≢ length f) × (why ≡ statuses.OtherFile))
 
--- a call on a handle is refused, or answers of the file that was opened
+-- a call on a handle is refused, or gives an answer about the file that was opened
 pub record OnHandle {X : Type 0} (file : Bor (List ℕ)) (h : BplistHandle) (Says : CheckedFile → Result X Status → Type 0)
     (answer : Result X Status) : Type 0 where
   pub closed : h.length ≡ 0 → answer ≡ Err statuses.Closed

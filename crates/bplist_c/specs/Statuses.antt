@@ -1,4 +1,4 @@
--- What C is told of an answer. Source: profile.
+-- How C is given an answer. Source: profile.
 use Prim.Native.String.{String}
 use Rattle.std.specs.Prelude.{◌≡◌, ℕ, suc, nat_le, if◌then◌else◌, List, [], ◌∷◌, ◌++◌, codes, length, drop, get_or, Result, MatchResult, Ok, Err, Vec}
 use Rattle.std.specs.Global.{Global}
@@ -7,7 +7,7 @@ use Rattle.bplist_c.specs.declared.status.Status.{Status}
 use Rattle.bplist_c.specs.declared.status.Status.TheVariants as statuses
 use Rattle.bplist_c.specs.contracts.status.Status.{the_type}
 
--- the number of a status in the header: its place among the statuses, from 1
+-- the number of a status in the header: its position among the statuses, from 1
 abbrev pub number_of : Status → ℕ
 number_of status = suc (tag_of the_type status)
 
@@ -36,16 +36,16 @@ sentences =
 abbrev pub sentence_of : Status → List ℕ
 sentence_of status = codes (get_or sentences (tag_of the_type status) "")
 
--- status 0 and the answer, or why there is none and an unchanged output
+-- status 0 and the answer, or why there is none with an unchanged output
 abbrev pub Tells : {X : Type 0} → Result X Status → X → X → ℕ → Type 0
 Tells answer old new status = MatchResult answer (λ x. (status ≡ 0) × (new ≡ x)) (λ why. (status ≡ number_of why) × (new ≡ old))
 
--- the items are counted, and put at the front of the buffer if they fit; or why there are none, and all is unchanged
+-- the items are counted, and written to the front of the buffer if they fit; or why there are none, with all unchanged
 abbrev pub Puts : {X : Type 0} → Result (List X) Status → List X → List X → ℕ → ℕ → ℕ → Type 0
 Puts (Ok items) old new was count status = (count ≡ length items)
     × Tells (if nat_le (length items) (length old) then Ok (items ++ drop (length items) old) else Err statuses.Short) old new status
 Puts (Err why) old new was count status = (status ≡ number_of why) × (new ≡ old) × (count ≡ was)
 
--- the items that were found, as a list
+-- the result as a list of items
 abbrev pub items_of : {X : Type 0} → Result (Vec X Global) Status → Result (List X) Status
 items_of answer = elim answer [ Ok items ↦ Ok items.items | Err why ↦ Err why ]

@@ -1,4 +1,4 @@
--- What C is told of the text of a value. Source: profile.
+-- What C is given of the text of a value. Source: profile.
 use Rattle.std.specs.Prelude.{◌≡◌, ℕ, List, Option, Some, None, Result, Ok, Err, Vec, ⊤}
 use Rattle.std.specs.Global.{Global}
 use Rattle.bplist_objects.specs.Value.{Value}
@@ -19,24 +19,24 @@ use Rattle.bplist_c.specs.declared.text.Text.{Text}
 use Rattle.bplist_c.specs.declared.text.Text.TheVariants.{Fits, TooLong, Formless}
 use Rattle.bplist_c.specs.Statuses.{Puts, number_of}
 
--- the length that a form tells, 0 where there is none
+-- the length of the text of a form, 0 if there is none
 abbrev pub length_in : Option Form → ℕ
 length_in (Some (Length n)) = n
 length_in (Some NoForm) = 0
 length_in None = 0
 
--- the length of the text of object n by the table
+-- the length of the text of object n, from the table
 abbrev pub text_length : Table → ℕ → ℕ
 text_length sizes n = length_in (form_in sizes n)
 
--- what became of a text that was to be printed: these bytes, too long a text of this length, or the first part without one
+-- the result of printing: these bytes, or a text too long of this length, or the first part without a text
 abbrev pub printed_as : Result (Unit {0}) PrintFault → Vec ℕ Global → ℕ → Result Text Status
 printed_as (Ok _) text told = Ok (Fits text)
 printed_as (Err (faults.NoAsciiForm part)) text told = Ok (Formless part)
 printed_as (Err faults.TooLong) text told = Ok (TooLong told)
 printed_as (Err _) text told = Err Memory
 
--- the text of v if it fits `room`, else its length; or the first part without a text, or refused memory
+-- the text of v if it fits `room`, or else its length; or the first part without a text, or refused memory
 abbrev pub IsTextOf : List ℕ → Frame → ℕ → Value → ℕ → Result Text Status → Type 0
 IsTextOf f F n v room (Ok (Fits text)) = HasText v room (λ t. t ≡ text.items)
 IsTextOf f F n v room (Ok (TooLong told)) = (form_of v ≡ Length told) × (¬ HasText v room (λ _. ⊤))
@@ -44,7 +44,7 @@ IsTextOf f F n v room (Ok (Formless part)) = (value_text v ≡ None) × IsFormle
 IsTextOf f F n v room (Err why) = why ≡ Memory
 
 module _ (old new : List ℕ) (was out : BplistWritten) (status : ℕ) where
-  -- buffer, output and status tell the answer
+  -- buffer, output and status give the answer
   abbrev pub TellsText : Result Text Status → Type 0
   TellsText (Ok (Fits text)) = Puts (Ok text.items) old new was.length out.length status × (out.object ≡ 0)
   TellsText (Ok (TooLong n)) = (status ≡ number_of Short) × (new ≡ old) × (out ≡ record { length = n; object = 0 })

@@ -1,4 +1,4 @@
--- What a verdict shows. Source: profile.
+-- What a verdict contains. Source: profile.
 use Rattle.std.specs.Prelude.{◌≡◌, ℕ, List, length, map, slice_index, Result, Ok, Err}
 use Rattle.std.specs.Option.{option_len, option_map_or}
 use Rattle.bplist_objects.specs.declared.frame.Frame.{Frame}
@@ -17,7 +17,7 @@ use Rattle.bplist_objects.specs.Words.{number_of as number_of_rule}
 use Rattle.bplist_lint.specs.Trail.{number}
 use Rattle.bplist_c.specs.Statuses.{number_of}
 
--- what is told of a refused file: its first fault, its circle by the first object and the length, or refused memory
+-- status and verdict of a refused file: its first fault, or its circle by first object and length, or refused memory
 abbrev pub refused_told : LintRefusal → Status × BplistVerdict
 refused_told (refusals.Fault fault) =
     let broken = record NO_VERDICT { rule = number_of_rule fault.rule; place = fault.place } in
@@ -26,7 +26,7 @@ refused_told (refusals.Circle ns) =
     (statuses.Fault, record NO_VERDICT { rule = 23; has_object = 1; object = slice_index (map number ns) 0; circle = length ns })
 refused_told _ = (statuses.Memory, NO_VERDICT)
 
--- status and verdict show that answer: the number of objects, the top with kind and height, what it reaches; or the refusal
+-- status and verdict give that answer: number of objects, top, its kind and height, what it reaches; or the refusal
 abbrev pub ShowsLint : List ℕ → Result Lint LintRefusal → BplistVerdict → ℕ → Type 0
 ShowsLint f (Ok lint) verdict status = (status ≡ 0) × ((F : Frame) → IsFrame f F → (head : Head) → IsHeadOf f F F.top.0 head
     → let framed = record NO_VERDICT { objects = F.objects; top = F.top.0; top_kind = kind_number head.kind } in

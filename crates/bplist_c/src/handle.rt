@@ -1,4 +1,4 @@
-//! A session as a handle that C holds.
+//! Handles: sessions in the form in which C holds them.
 
 ghost use Rattle.std.specs.Prelude.{◌≡◌, ◌<◌, Option, Some, None, IsSome, is_some, true};
 ghost use Rattle.bplist_c.specs.declared.session.Session.{Session as session};
@@ -12,7 +12,7 @@ use std::marker::Model;
 #[repr(C)]
 #[derive(Drop)]
 pub struct BplistHeld {
-    // It points to a `Session`; C may be told of no type that has a Vec.
+    // Points to a `Session`. It is a byte pointer because a type with a `Vec` cannot cross the border to C.
     pub(crate) at: *mut u8,
     pub(crate) alloc: Global,
     pub(crate) ghost value: { Option session },
@@ -56,7 +56,7 @@ impl BplistHeld {
     }
 }
 
-/// A file that was opened: the session, and the length of the file, which is 0 where the handle is closed.
+/// An open or closed file: the session, and the length of the file, which is 0 if the handle is closed.
 #[repr(C)]
 #[derive(Drop)]
 pub struct BplistHandle {
@@ -66,7 +66,6 @@ pub struct BplistHandle {
 }
 
 impl BplistHandle {
-    /// A closed handle.
     pub(crate) fn closed(alloc: Global) -> BplistHandle
         ensures closed { result.length ≡ 0 }
         ensures empty { result.held.value ≡ None }
@@ -77,7 +76,7 @@ impl BplistHandle {
         }
     }
 
-    /// A handle of this session, of a file of this length.
+    /// A handle of this session, for a file of `length` bytes.
     pub(crate) fn open(session: Box<Session>, length: u64) -> BplistHandle
         ensures length { result.length ≡ length }
         ensures session { result.held.value ≡ Some session.value }
@@ -88,7 +87,7 @@ impl BplistHandle {
         }
     }
 
-    /// The session of an open handle.
+    /// Takes the session out of an open handle.
     pub(crate) fn into_session(self) -> Box<Session>
         requires { 0 < self.length }
         ensures { Some result.value ≡ self.held.value }

@@ -1,4 +1,6 @@
-//! The C library: `include/bplist.h` documents each call and what C has to uphold.
+//! The calls of the C library. `include/bplist.h` documents each call and what a caller must ensure. Not here: the
+//! rules of the format, certificates and values, which are in the crates below. This crate only turns their answers
+//! into the numbers and buffers of C.
 //!
 //! ```c
 //! bplist_handle handle = {0};
@@ -10,19 +12,25 @@
 //! }
 //! ```
 //!
-//! | module | exports |
+//! The modules, in reading order:
+//!
+//! | module | contents |
 //! |---|---|
+//! | `status` | what a call returns, and how outputs are written |
+//! | `verdict` | the verdict on a file |
 //! | `linter` | `bplist_lint`, `bplist_circle` |
-//! | `words` | `bplist_rule_name`, `bplist_rule_text`, `bplist_status_text`, `bplist_version` |
+//! | `session`, `handle`, `loose` | what an open handle holds, and how C holds it |
 //! | `lifecycle` | `bplist_open`, `bplist_open_certified`, `bplist_close`, `bplist_certificate` |
+//! | `loan` | lends the checked file of a handle to one call |
 //! | `lookup` | `bplist_find`, `bplist_find_key` |
 //! | `object` | `bplist_face`, `bplist_int`, `bplist_uid` |
 //! | `members` | `bplist_member`, `bplist_members` |
 //! | `parts` | `bplist_read`, `bplist_units` |
 //! | `sizes`, `text` | `bplist_size`, `bplist_text` |
+//! | `words` | `bplist_rule_name`, `bplist_rule_text`, `bplist_status_text`, `bplist_version` |
 //!
-//! A handle (`handle`) owns a `session`: frame and certificate of a file without its bytes. Each call takes the bytes again and
-//! makes the `Checked` of both by moves (`loan`). `status` and `verdict` turn answers into numbers.
+//! A handle owns a session: the frame and the certificate of a file, without its bytes. Each call is given the bytes
+//! again and makes a `Checked` of both by moving them, without a new check.
 #![tactic(auto)]
 
 mod handle;

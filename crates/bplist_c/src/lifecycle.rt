@@ -1,4 +1,4 @@
-//! Handles, opened and closed.
+//! Opens and closes handles.
 
 ghost use Rattle.std.specs.Prelude.{◌≡◌, ◌≢◌, ◌⊎◌, ⊤, ℕ, List, None, Ok, Result, IfSome, IsSome, MatchResult, false};
 ghost use Rattle.bplist_c.specs.Prelude.{Head as head, IsHeadOf, source_over, IsVouchingFault, IsChecked, octets_of as certificate_octets, IsCertificate, Lint as lint_answer, LintRefusal as lint_refusal, IsFileFault, IsFileCircle, IsLinted, Lints, no_circle, Status as status, Closed, Opened, CertificateSays, IsAcceptedFor, IsCheckedFor, IsOpened, IsPair, certified, kind_number, IsSame, Puts, items_of, number_of as number, NO_VERDICT, ShowsLint};
@@ -17,20 +17,20 @@ use bplist_octets::SliceSource;
 use std::alloc::Global;
 use std::mem;
 
-/// The checked file of a certificate that is one of these bytes.
+/// Makes the checked file of these bytes and a certificate that is valid for them.
 fn vouched(file: &[u8], certificate: Certificate) -> Checked<SliceSource<'_>>
     requires { IsAcceptedFor file.now certificate }
     ensures { IsCheckedFor file.entry certificate result }
 {
     let mut source = SliceSource::new(file);
-    // A file with an accepted certificate has a frame, so the trailer says all.
+    // A file with a valid certificate has a frame, and the trailer alone gives it.
     match trailer_of(&mut source) {
         Ok(frame) => Checked::new(source, frame, certificate),
         Err(_) => unreachable!(),
     }
 }
 
-/// A checked file, with key lists in its certificate. None where a growth was refused.
+/// Adds key lists to the certificate of a checked file. Returns `None` if memory is refused.
 fn with_keys(alloc: Global, checked: Checked<SliceSource<'_>>) -> Option<Checked<SliceSource<'_>>>
     ensures { IfSome result (λ keyed. (keyed.source ≡ checked.entry.source) × (keyed.frame ≡ checked.entry.frame)
         × (keyed.certificate.heights ≡ checked.entry.certificate.heights) × IsSome keyed.certificate.keys) }
@@ -46,7 +46,7 @@ fn with_keys(alloc: Global, checked: Checked<SliceSource<'_>>) -> Option<Checked
     }
 }
 
-/// The handle of a checked file. None where a growth was refused.
+/// Makes the handle of a checked file. Returns `None` if memory is refused.
 fn handle_of(alloc: Global, checked: Checked<SliceSource<'_>>) -> Option<BplistHandle>
     ensures { IfSome result (IsOpened checked.entry.source.octets checked.entry.certificate false) }
 {
@@ -59,7 +59,7 @@ fn handle_of(alloc: Global, checked: Checked<SliceSource<'_>>) -> Option<BplistH
     }
 }
 
-/// The handle of a checked file, with key lists where `sorted` asks for them. None where a growth was refused.
+/// Makes the handle of a checked file, with key lists if `sorted` asks for them. Returns `None` if memory is refused.
 fn sorted_handle(
     alloc: Global,
     checked: Checked<SliceSource<'_>>,
@@ -73,7 +73,8 @@ fn sorted_handle(
     handle_of(alloc, checked)
 }
 
-/// Puts the session of a checked file into a closed handle. `out` is what C is told of the file, and of a refused growth.
+/// Puts the session of a checked file into a closed handle. `out` already has the verdict on the file. If memory is
+/// refused, it becomes a verdict of zeros, and the handle stays closed.
 fn keep(
     alloc: Global,
     handle: &mut BplistHandle,
@@ -98,7 +99,7 @@ fn keep(
     }
 }
 
-/// Lints a file, and opens it where it holds a value.
+/// Lints a file, and opens it if it holds a value.
 #[unsafe(no_mangle)]
 pub extern "C" fn bplist_open(
     alloc: Global,
@@ -131,7 +132,7 @@ pub extern "C" fn bplist_open(
     }
 }
 
-/// The file with the certificate that these bytes spell, where it is one of the file.
+/// Decodes a certificate and checks it against the file. Returns the checked file, or the refusal.
 fn check_pair<'a>(
     alloc: Global,
     file: &'a [u8],
@@ -152,7 +153,7 @@ fn check_pair<'a>(
     }
 }
 
-/// The number of the top's kind.
+/// Returns the number of the top's kind.
 fn top_kind(checked: &Checked<SliceSource<'_>>) -> u32
     ensures { (head : head) → IsHeadOf checked.now.source.octets checked.now.frame checked.now.frame.top.0 head
         → result ≡ kind_number head.kind }
@@ -165,7 +166,7 @@ fn top_kind(checked: &Checked<SliceSource<'_>>) -> u32
     }
 }
 
-/// The verdict on a file by its certificate.
+/// Returns the verdict that a certificate gives of a file.
 fn verdict_of(checked: &Checked<SliceSource<'_>>) -> BplistVerdict
     ensures { ShowsLint checked.now.source.octets (Ok (certified checked.now.frame checked.now.certificate)) result 0 }
 {
@@ -180,7 +181,7 @@ fn verdict_of(checked: &Checked<SliceSource<'_>>) -> BplistVerdict
     BplistVerdict::of_top(top, 0, 0)
 }
 
-/// Opens a file by the bytes of a certificate of any origin.
+/// Opens a file with the bytes of a certificate, which may come from anywhere.
 #[unsafe(no_mangle)]
 pub extern "C" fn bplist_open_certified(
     alloc: Global,
@@ -230,7 +231,7 @@ pub extern "C" fn bplist_close(alloc: Global, handle: &mut BplistHandle) -> u32
     0
 }
 
-/// The bytes of the certificate of a handle.
+/// Returns the bytes of the certificate of a handle.
 fn octets_in(alloc: Global, handle: &mut BplistHandle) -> Result<Vec<u8>, Status>
     ensures kept { IsSame handle.old handle.new }
     ensures exact { CertificateSays handle.old (items_of result) }
@@ -248,7 +249,7 @@ fn octets_in(alloc: Global, handle: &mut BplistHandle) -> Result<Vec<u8>, Status
     }
 }
 
-/// The bytes of the certificate of an open handle.
+/// Writes the bytes of the certificate of an open handle.
 #[unsafe(no_mangle)]
 pub extern "C" fn bplist_certificate(
     alloc: Global,

@@ -1,4 +1,4 @@
-//! The linter, for C.
+//! The linter for C.
 
 ghost use Rattle.std.specs.Prelude.{◌≡◌, ◌⊎◌, Err, MatchResult, Result, map};
 ghost use Rattle.bplist_c.specs.Prelude.{Frame as frame, Head as head, IsFrame, IsHeadOf, Lint as lint_answer, LintRefusal as lint_refusal, IsFileFault, IsFileCircle, IsLinted, Lints, number, Memory, Puts, items_of, kind_number as number_of_kind, circle_answer, ShowsLint};
@@ -11,20 +11,20 @@ use bplist_objects::{ObjectNo, shape_of, trailer_of};
 use bplist_octets::SliceSource;
 use std::alloc::Global;
 
-/// What the linter says of these bytes.
+/// Lints these bytes.
 pub(crate) fn lint_file(alloc: Global, file: &[u8]) -> Result<Lint, LintRefusal>
     ensures { Lints (IsLinted file.now) (IsFileFault file.now) (IsFileCircle file.now) result }
 {
     lint(alloc, &mut SliceSource::new(file))
 }
 
-/// The top of a file that holds a value.
+/// Returns the top of a file that holds a value.
 fn top_of(file: &[u8], height: u32) -> Top
     ensures { (F : frame) → IsFrame file.now F → (head : head) → IsHeadOf file.now F F.top.0 head
         → result ≡ record { objects = F.objects; object = F.top.0; kind = number_of_kind head.kind; height = height } }
 {
     let mut source = SliceSource::new(file);
-    // The linter has read the offset table, so the trailer says all.
+    // The linter has read the offset table, so the trailer alone gives the frame.
     let Ok(frame) = trailer_of(&mut source) else {
         return no_top(height);
     };
@@ -39,7 +39,7 @@ fn top_of(file: &[u8], height: u32) -> Top
     }
 }
 
-/// What stands for the top of a file that has none.
+/// Returns a top of zeros, with this height.
 fn no_top(height: u32) -> Top {
     Top {
         objects: 0,
@@ -49,7 +49,7 @@ fn no_top(height: u32) -> Top {
     }
 }
 
-/// Tells C what the linter says of a file.
+/// Writes the answer of the linter as a verdict and a status.
 pub(crate) fn show(file: &[u8], answer: &Result<Lint, LintRefusal>, out: &mut BplistVerdict) -> u32
     ensures { ShowsLint file.now answer.now out.new result }
 {
@@ -67,7 +67,7 @@ pub(crate) fn show(file: &[u8], answer: &Result<Lint, LintRefusal>, out: &mut Bp
     }
 }
 
-/// Says whether a file holds a value.
+/// Decides whether a file holds a value.
 #[unsafe(no_mangle)]
 pub extern "C" fn bplist_lint(alloc: Global, file: &[u8], out: &mut BplistVerdict) -> u32
     ensures { (answer : Result lint_answer lint_refusal)
@@ -78,7 +78,7 @@ pub extern "C" fn bplist_lint(alloc: Global, file: &[u8], out: &mut BplistVerdic
     show(file, &answer, out)
 }
 
-/// The circle for which the linter refuses a file.
+/// Returns the circle for which the linter refuses a file, or why there is none.
 fn circle_of(alloc: Global, answer: Result<Lint, LintRefusal>) -> Result<Vec<u32>, Status>
     ensures { (items_of result ≡ circle_answer answer) ⊎ (result ≡ Err Memory) }
 {
@@ -89,7 +89,7 @@ fn circle_of(alloc: Global, answer: Result<Lint, LintRefusal>) -> Result<Vec<u32
     }
 }
 
-/// The numbers of objects.
+/// Returns the numbers of the objects.
 fn numbers_of(alloc: Global, objects: &[ObjectNo]) -> Result<Vec<u32>, Status>
     ensures { MatchResult result (λ numbers. numbers.items ≡ map number objects.now) (λ why. why ≡ Memory) }
 {
@@ -102,7 +102,7 @@ fn numbers_of(alloc: Global, objects: &[ObjectNo]) -> Result<Vec<u32>, Status>
     Ok(numbers)
 }
 
-/// The objects of the circle for which the linter refuses a file.
+/// Writes the objects of the circle for which the linter refuses a file.
 #[unsafe(no_mangle)]
 pub extern "C" fn bplist_circle(
     alloc: Global,

@@ -1,4 +1,4 @@
-//! The checked file of a handle, for one call.
+//! Lends the checked file of a handle to one call.
 
 ghost use Rattle.std.specs.Prelude.{◌≡◌, ◌<◌, length, Some, MatchResult};
 ghost use Rattle.bplist_c.specs.Prelude.{IsFileOf, IsRefused, checked_of, Session as session};
@@ -11,14 +11,15 @@ use bplist_octets::SliceSource;
 use std::alloc::Global;
 use std::mem;
 
-/// The checked file that a handle and the bytes of its file make, and the session, which has no certificate meanwhile.
+/// The checked file of a handle and the bytes of its file. While it is lent, the session has no certificate.
 #[derive(Drop)]
 pub(crate) struct Lent<'a> {
     pub(crate) session: Box<Session>,
     pub(crate) checked: Checked<SliceSource<'a>>,
 }
 
-/// Takes the session out of a handle.
+/// Takes the session out of a handle, and makes a checked file of it. Returns why not if the handle is closed or the
+/// length differs.
 pub(crate) fn lend<'a>(
     alloc: Global,
     handle: &mut BplistHandle,
@@ -42,7 +43,7 @@ pub(crate) fn lend<'a>(
     Ok(Lent { session, checked })
 }
 
-/// Puts the session into the handle again.
+/// Puts the session back into the handle.
 pub(crate) fn give_back(handle: &mut BplistHandle, lent: Lent<'_>)
     ensures length { handle.new.length ≡ length lent.entry.checked.source.octets }
     ensures session { handle.new.held.value ≡ Some (record {

@@ -1,4 +1,4 @@
-//! Where paths lead.
+//! Follows paths and single steps.
 
 ghost use Rattle.std.specs.Prelude.{◌≡◌, ◌∷◌, [], ℕ, Result};
 ghost use Rattle.bplist_c.specs.Prelude.{Status as status, Holds, IsFound, Found as place, FindSays, told_found, step_answer, why_status, OnObject, IsFileOf, IsSame, OnHandle, Tells};
@@ -12,17 +12,17 @@ use bplist_objects::ObjectNo;
 use bplist_octets::SliceSource;
 use std::alloc::Global;
 
-/// Where a path leads.
+/// The object that a path leads to, or where the path fails.
 #[repr(C)]
 #[derive(Clone, Copy, Debug, Drop)]
 pub struct BplistFound {
-    /// The object that it leads to.
+    /// The object that the path leads to.
     pub object: u32,
-    /// The step that can't be taken, or the place in a wrong path text.
+    /// The step that fails, or the place at which the path text is wrong.
     pub step: u64,
 }
 
-/// Why a step can't be taken.
+/// Returns the status for the reason why a step fails.
 fn status_of(why: Why) -> Status
     ensures { result ≡ why_status why }
 {
@@ -33,7 +33,7 @@ fn status_of(why: Why) -> Status
     }
 }
 
-/// Where a path text leads, or the place at which it is wrong.
+/// Finds the object that a path text leads to, or the place at which the text is wrong.
 fn find(
     alloc: Global,
     checked: &mut Checked<SliceSource<'_>>,
@@ -52,7 +52,7 @@ fn find(
     }
 }
 
-/// Tells C where a path leads.
+/// Writes where a path leads to `out`.
 fn tell_found(answer: Result<Result<Found, u64>, Status>, out: &mut BplistFound) -> u32
     ensures { (result, out.new) ≡ told_found answer out.old }
 {
@@ -66,7 +66,7 @@ fn tell_found(answer: Result<Result<Found, u64>, Status>, out: &mut BplistFound)
     status
 }
 
-/// Where a path leads from the top.
+/// Follows a path from the top.
 #[unsafe(no_mangle)]
 pub extern "C" fn bplist_find(
     alloc: Global,
@@ -92,7 +92,7 @@ pub extern "C" fn bplist_find(
     tell_found(answer, out)
 }
 
-/// Where one step leads from an object.
+/// Follows one step from an object.
 fn step_of(
     checked: &mut Checked<SliceSource<'_>>,
     object: u32,
@@ -115,7 +115,7 @@ fn step_of(
     }
 }
 
-/// Where one step leads from an object.
+/// Follows one step from an object.
 #[unsafe(no_mangle)]
 pub extern "C" fn bplist_find_key(
     alloc: Global,

@@ -1,4 +1,4 @@
-//! The members of containers: the objects that they refer to.
+//! Gives the members of containers, by their objects.
 
 ghost use Rattle.std.specs.Prelude.{◌≡◌, ◌≢◌, ◌+◌, ◌*◌, ◌%◌, ◌^◌, ◌≤◌, ◌<◌, ℕ, List, Result, length, ok_or, slice_index};
 ghost use Rattle.bplist_c.specs.Prelude.{Spells, IsSafeHead, member_reference, nth_number, ref_count, Dict, AreSpelled, MembersSay, Status as status, NoMember, OnObject, IsFileOf, IsSame, OnHandle, Puts, Tells};
@@ -13,13 +13,13 @@ use bplist_objects::{Head, Kind, read_refs, refs_of};
 use bplist_octets::SliceSource;
 use std::alloc::Global;
 
-/// How many members are read at once at most.
+/// The largest number of members that one read takes.
 const BLOCK: usize = 64;
 
-/// How many pairs they are of at most: the first may be a value, and the last a key.
+/// The largest number of pairs that these members can belong to: the first may be a value, and the last a key.
 const PAIRS: usize = 33;
 
-/// The object of a member of an object.
+/// Returns the object of member `i` of an object.
 fn member_of(checked: &mut Checked<SliceSource<'_>>, object: u32, i: u64) -> Result<u32, Status>
     ensures same { checked.new ≡ checked.old }
     ensures exact { OnObject checked.old object Spells
@@ -36,8 +36,8 @@ fn member_of(checked: &mut Checked<SliceSource<'_>>, object: u32, i: u64) -> Res
     }
 }
 
-/// Fills `into` with the numbers of the references from number `from` on, as they are written: in a dictionary the keys
-/// stand before the values.
+/// Fills `into` with the object numbers of the references from number `from` on, in the order of the file. In a
+/// dictionary all keys come before all values.
 fn read_row(checked: &Checked<SliceSource<'_>>, head: &Head, from: u64, into: &mut [u64])
     requires head { IsSafeHead checked.now.frame head.now }
     requires within { from + length into.old ≤ ref_count head.now.kind head.now.count }
@@ -52,7 +52,7 @@ fn read_row(checked: &Checked<SliceSource<'_>>, head: &Head, from: u64, into: &m
     }
 }
 
-/// The number of a reference, which 32 bits hold.
+/// Converts an object number to 32 bits. Every object number fits.
 fn in_32_bits(number: u64) -> u32
     ensures { result ≡ number % 2 ^ 32 }
 {
@@ -137,7 +137,8 @@ fn fill(checked: &Checked<SliceSource<'_>>, head: &Head, from: u64, into: &mut [
     }
 }
 
-/// Puts the members of an object from number `from` on into a buffer, as many as there are and as fit, and tells how many.
+/// Writes the members of an object from number `from` on to a buffer, as many as there are and as fit. Writes their
+/// number to `count`.
 fn put_members(
     checked: &Checked<SliceSource<'_>>,
     object: u32,
@@ -161,7 +162,7 @@ fn put_members(
     0
 }
 
-/// The object of member `i` of an object.
+/// Gives the object of member `i` of an object.
 #[unsafe(no_mangle)]
 pub extern "C" fn bplist_member(
     alloc: Global,
@@ -189,7 +190,7 @@ pub extern "C" fn bplist_member(
     tell(answer, out)
 }
 
-/// The objects of the members from number `from` on, as many as there are and as fit.
+/// Gives the objects of the members from number `from` on, as many as there are and as fit.
 #[unsafe(no_mangle)]
 pub extern "C" fn bplist_members(
     alloc: Global,

@@ -1,4 +1,4 @@
-//! What an object shows.
+//! Gives the kind, the body and the number of an object.
 
 ghost use Rattle.std.specs.Prelude.{◌≡◌, ℕ, IfOk, Ok, Result, length};
 ghost use Rattle.bplist_c.specs.Prelude.{int, IsHeadOf, Spells, leaf, IsSafeBody, IsSafeHead, BplistBody as body, Status as status, BplistInteger as number, OnObject, body_of, int_answer, kind_number, uid_answer, IsFileOf, IsSame, OnHandle, Tells};
@@ -11,21 +11,21 @@ use bplist_objects::{Head, Kind, ObjectNo, int_of, shape_of, uid_of};
 use bplist_octets::SliceSource;
 use std::alloc::Global;
 
-/// What an object shows of itself.
+/// The kind of an object, and its body.
 #[repr(C)]
 #[derive(Clone, Copy, Debug, Drop)]
 pub struct BplistBody {
     /// The number of the kind.
     pub kind: u32,
-    /// Bytes, units, members or pairs.
+    /// The number of bytes, units, members or pairs.
     pub count: u64,
     /// The place of the body in the file.
     pub place: u64,
-    /// How many bytes the body has.
+    /// The length of the body in bytes.
     pub length: u64,
 }
 
-/// An integer of 128 bits in two's complement.
+/// A 128-bit integer in two's complement.
 #[repr(C)]
 #[derive(Clone, Copy, Debug, Drop)]
 pub struct BplistInteger {
@@ -35,7 +35,7 @@ pub struct BplistInteger {
     pub high: u64,
 }
 
-/// The head of an object that the certificate vouches for.
+/// Returns the head of a vouched object.
 pub(crate) fn head_of_object(
     checked: &Checked<SliceSource<'_>>,
     object: u32,
@@ -56,14 +56,14 @@ pub(crate) fn head_of_object(
     }
 }
 
-/// The number of a kind.
+/// Returns the number of a kind in the header.
 pub(crate) fn number_of(kind: Kind) -> u32
     ensures { result ≡ kind_number kind }
 {
     kind as u32 + 1
 }
 
-/// What an object shows of itself.
+/// Returns the kind and the body of an object.
 fn face_of(checked: &Checked<SliceSource<'_>>, object: u32) -> Result<BplistBody, Status>
     ensures { OnObject checked.now object IsHeadOf (λ head answer. answer ≡ Ok (body_of head)) result }
 {
@@ -76,7 +76,7 @@ fn face_of(checked: &Checked<SliceSource<'_>>, object: u32) -> Result<BplistBody
     })
 }
 
-/// The two halves of a number in two's complement.
+/// Splits a number in two's complement into its halves.
 fn halves(number: i128) -> BplistInteger
     ensures { Ok result ≡ int_answer (leaf (int number)) }
 {
@@ -87,7 +87,7 @@ fn halves(number: i128) -> BplistInteger
     }
 }
 
-/// The integer of an object.
+/// Returns the value of an integer.
 fn integer_of(checked: &Checked<SliceSource<'_>>, object: u32) -> Result<BplistInteger, Status>
     ensures { OnObject checked.now object Spells (λ content answer. answer ≡ int_answer content) result }
 {
@@ -102,7 +102,7 @@ fn integer_of(checked: &Checked<SliceSource<'_>>, object: u32) -> Result<BplistI
     }
 }
 
-/// The number of a UID.
+/// Returns the value of a UID.
 fn uid_of_object(checked: &Checked<SliceSource<'_>>, object: u32) -> Result<u32, Status>
     ensures { OnObject checked.now object Spells (λ content answer. answer ≡ uid_answer content) result }
 {
@@ -117,7 +117,7 @@ fn uid_of_object(checked: &Checked<SliceSource<'_>>, object: u32) -> Result<u32,
     }
 }
 
-/// Kind, count, place and length of the body of an object.
+/// Gives the kind of an object, and the count, place and length of its body.
 #[unsafe(no_mangle)]
 pub extern "C" fn bplist_face(
     alloc: Global,
@@ -143,7 +143,7 @@ pub extern "C" fn bplist_face(
     tell(answer, out)
 }
 
-/// The integer of an object.
+/// Gives the value of an integer.
 #[unsafe(no_mangle)]
 pub extern "C" fn bplist_int(
     alloc: Global,
@@ -169,7 +169,7 @@ pub extern "C" fn bplist_int(
     tell(answer, out)
 }
 
-/// The number of a UID.
+/// Gives the value of a UID.
 #[unsafe(no_mangle)]
 pub extern "C" fn bplist_uid(
     alloc: Global,

@@ -1,4 +1,4 @@
-//! Parts of the bodies of objects: bytes, and the units of texts.
+//! Reads parts of bodies: bytes, and units of texts.
 
 ghost use Rattle.std.specs.Prelude.{◌≡◌, ◌+◌, ◌≤◌, ℕ, List, Ok, Result, length};
 ghost use Rattle.bplist_c.specs.Prelude.{part, IsTextKind, units_of, IsHeadOf, Spells, IsSafeBody, Status as status, OnObject, bytes_of_body, units_answer, IsFileOf, IsSame, OnHandle, Puts};
@@ -12,7 +12,8 @@ use bplist_objects::{Head, Kind, read_units};
 use bplist_octets::SliceSource;
 use std::alloc::Global;
 
-/// Puts the bytes of a body from its byte `from` on into a buffer, as many as there are and as fit, and tells how many.
+/// Writes the bytes of a body from byte `from` on to a buffer, as many as there are and as fit. Writes their number to
+/// `count`.
 fn put_bytes(
     checked: &Checked<SliceSource<'_>>,
     object: u32,
@@ -37,7 +38,7 @@ fn put_bytes(
     0
 }
 
-/// Fills `into` with the units of a text from its unit `from` on.
+/// Fills `into` with the units of a text from unit `from` on.
 fn read_part(file: &[u8], head: &Head, from: u64, into: &mut [u16])
     requires kind { IsTextKind head.now.kind }
     requires body { IsSafeBody (length file.now) head.now }
@@ -50,7 +51,8 @@ fn read_part(file: &[u8], head: &Head, from: u64, into: &mut [u16])
     }
 }
 
-/// Puts the units of a text from unit `from` on into a buffer, as many as there are and as fit, and tells how many.
+/// Writes the units of a text from unit `from` on to a buffer, as many as there are and as fit. Writes their number to
+/// `count`.
 fn put_units(
     checked: &Checked<SliceSource<'_>>,
     object: u32,
@@ -78,7 +80,7 @@ fn put_units(
     }
 }
 
-/// The bytes of a body from byte `from` on, as many as there are and as fit.
+/// Reads the bytes of a body from byte `from` on, as many as there are and as fit.
 #[unsafe(no_mangle)]
 pub extern "C" fn bplist_read(
     alloc: Global,
@@ -105,7 +107,7 @@ pub extern "C" fn bplist_read(
     }
 }
 
-/// The units of a text from unit `from` on, as many as there are and as fit.
+/// Reads the units of a text from unit `from` on, as many as there are and as fit.
 #[unsafe(no_mangle)]
 pub extern "C" fn bplist_units(
     alloc: Global,

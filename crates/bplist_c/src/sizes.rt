@@ -1,4 +1,4 @@
-//! How large values are, and their texts.
+//! Measures values.
 
 ghost use Rattle.std.specs.Prelude.{◌≡◌, ◌⊎◌, Result, Ok, Err, IfSome};
 ghost use Rattle.bplist_c.specs.Prelude.{Holds, BplistSizes as sizes, Status as status, Memory, OnObject, IsFileOf, IsSame, OnHandle, sizes_by, Tells, form_of, AreMeasuresOf, cap, nodes as node_count};
@@ -12,19 +12,19 @@ use bplist_objects::ObjectNo;
 use bplist_octets::SliceSource;
 use std::alloc::Global;
 
-/// How large a value is.
+/// The size of a value.
 #[repr(C)]
 #[derive(Clone, Copy, Debug, Drop)]
 pub struct BplistSizes {
-    /// How many nodes its tree has, or 18446744073709551615 where there are more.
+    /// The number of nodes of its tree, or 18446744073709551615 if there are more.
     pub nodes: u64,
-    /// How many bytes its text has, or 18446744073709551615 where there are more; 0 where it has none.
+    /// The length of its text in bytes, or 18446744073709551615 if it is longer; 0 if the value has no text.
     pub text: u64,
-    /// 1 where it has a text, else 0.
+    /// 1 if the value has a text, otherwise 0.
     pub has_text: u32,
 }
 
-/// The sizes as C is told them.
+/// Converts the sizes to what C is given.
 fn sizes(nodes: u64, form: Form) -> BplistSizes
     ensures { result ≡ sizes_by nodes form }
 {
@@ -42,7 +42,7 @@ fn sizes(nodes: u64, form: Form) -> BplistSizes
     }
 }
 
-/// The sizes of all values of a checked file. None where a growth was refused.
+/// Measures all values of a checked file. Returns `None` if memory is refused.
 pub(crate) fn measures_of(alloc: Global, checked: &mut Checked<SliceSource<'_>>) -> Option<Measures>
     ensures same { checked.new ≡ checked.old }
     ensures exact { IfSome result (AreMeasuresOf checked.old) }
@@ -56,7 +56,7 @@ pub(crate) fn measures_of(alloc: Global, checked: &mut Checked<SliceSource<'_>>)
     }
 }
 
-/// The size of the value of an object.
+/// Measures the value of an object.
 fn size_of(
     alloc: Global,
     checked: &mut Checked<SliceSource<'_>>,
@@ -79,7 +79,7 @@ fn size_of(
     }
 }
 
-/// How large the value of an object is.
+/// Measures the value of an object.
 #[unsafe(no_mangle)]
 pub extern "C" fn bplist_size(
     alloc: Global,

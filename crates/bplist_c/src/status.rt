@@ -1,34 +1,35 @@
-//! What a call returns, and how it tells its answer.
+//! What a call returns, and how it writes its outputs.
 
 ghost use Rattle.std.specs.Prelude.{◌≡◌, ◌<◌, ◌⊎◌, MatchOption, Ok};
 ghost use Rattle.bplist_c.specs.Prelude.{number_of, Puts, Tells, items_of, sentence_of};
 
-/// Why a call has no answer, in the order of the numbers of the header.
+/// Why a call has no answer. The header numbers the statuses in this order.
 #[derive(Clone, Copy, Debug, PartialEq, Eq, Drop)]
 pub(crate) enum Status {
     /// A rule is broken.
     Fault,
-    /// A growth was refused.
+    /// Memory was refused.
     Memory,
     /// The handle is closed.
     Closed,
-    /// The handle that was to be opened is open.
+    /// The handle to open is already open.
     Opened,
     /// The file is not the one that was opened.
     OtherFile,
-    /// The certificate does not vouch for the object.
+    /// The certificate does not vouch for the object: the number does not exist, or the object is not reachable from
+    /// the top.
     NoObject,
-    /// The object is of another kind.
+    /// The object is not of the kind that the call needs.
     OtherKind,
     /// The object has no such member.
     NoMember,
     /// The dictionary has no such key.
     NoKey,
-    /// The step is no index of the array.
+    /// The step is not an index of the array.
     NoIndex,
     /// The value is neither a dictionary nor an array.
     NotSteppable,
-    /// The path is not written as a path is.
+    /// The path is not a JSON Pointer.
     PathText,
     /// The path is not UTF-8.
     NotUtf8,
@@ -43,14 +44,14 @@ pub(crate) enum Status {
 }
 
 impl Status {
-    /// The number that C is told.
+    /// Returns the number of the status in the header.
     pub(crate) fn number(self) -> u32
         ensures { result ≡ number_of self }
     {
         self as u32 + 1
     }
 
-    /// The status that C is told by this number, if there is one.
+    /// Returns the status with this number, if there is one.
     pub(crate) fn of_number(number: u32) -> Option<Status>
         ensures { MatchOption result ((number ≡ 0) ⊎ (17 < number)) (λ status. number_of status ≡ number) }
     {
@@ -76,7 +77,7 @@ impl Status {
         }
     }
 
-    /// What the status means, as one sentence.
+    /// Returns what the status means, as one sentence.
     pub(crate) fn sentence(self) -> &'static str
         ensures { result.now ≡ sentence_of self }
     {
@@ -103,7 +104,7 @@ impl Status {
     }
 }
 
-/// Tells C the answer of a call: 0 and what was found, or why nothing was, and then `out` is as it was.
+/// Writes the answer to `out` and returns 0, or returns why there is none and leaves `out` unchanged.
 pub(crate) fn tell<T: Drop>(answer: Result<T, Status>, out: &mut T) -> u32
     ensures { Tells answer out.old out.new result }
 {
@@ -116,7 +117,7 @@ pub(crate) fn tell<T: Drop>(answer: Result<T, Status>, out: &mut T) -> u32
     }
 }
 
-/// Puts all items at the front of a buffer, where it is long enough, and tells how many there are.
+/// Writes all items to the front of a buffer if they fit. Writes their number to `count` in any case.
 pub(crate) fn put_all<T: Copy>(items: &[T], buffer: &mut [T], count: &mut u64) -> u32
     ensures { Puts (Ok items.now) buffer.old buffer.new count.old count.new result }
 {
@@ -128,7 +129,7 @@ pub(crate) fn put_all<T: Copy>(items: &[T], buffer: &mut [T], count: &mut u64) -
     0
 }
 
-/// Puts what a call found into a buffer, or tells why nothing was found, and then all is as it was.
+/// Writes the items to the front of a buffer, or returns why there are none and leaves everything unchanged.
 pub(crate) fn put_answer<T: Copy>(
     answer: &Result<Vec<T>, Status>,
     buffer: &mut [T],

@@ -1,4 +1,4 @@
-//! The old-style texts of values.
+//! Writes values as old-style text.
 
 ghost use Rattle.std.specs.Prelude.{◌≡◌, Result, length};
 ghost use Rattle.bplist_c.specs.Prelude.{Status as status, Text as text, IsFileOf, IsSame, OnHandle, OnObject, Holds, IsTextOf, TellsText, printed_as, text_length};
@@ -14,17 +14,17 @@ use bplist_objects::ObjectNo;
 use bplist_octets::SliceSource;
 use std::alloc::Global;
 
-/// What became of a text.
+/// The length of a text, or why there is none.
 #[repr(C)]
 #[derive(Clone, Copy, Debug, Drop)]
 pub struct BplistWritten {
-    /// How many bytes the text has.
+    /// The length of the text in bytes.
     pub length: u64,
     /// The first object, in the order of writing, whose kind has no text.
     pub object: u32,
 }
 
-/// A text that fits, the length of one that does not, or the first object that keeps a value from having one.
+/// A text that fits, the length of one that does not, or the first object whose kind has no text.
 #[derive(Drop)]
 pub(crate) enum Text {
     Fits(Vec<u8>),
@@ -32,7 +32,7 @@ pub(crate) enum Text {
     Formless(ObjectNo),
 }
 
-/// The text of the value of an object, where it has at most `room` bytes.
+/// Returns the text of the value of an object if it has at most `room` bytes.
 fn text_of(
     alloc: Global,
     checked: &mut Checked<SliceSource<'_>>,
@@ -65,7 +65,7 @@ fn text_of(
     text_outcome(printed, text, length)
 }
 
-/// What became of a text that was to be printed into an empty list.
+/// Turns the result of printing into an empty list into an answer.
 fn text_outcome(printed: Result<(), PrintFault>, text: Vec<u8>, length: u64) -> Result<Text, Status>
     ensures { result ≡ printed_as printed text length }
 {
@@ -77,7 +77,7 @@ fn text_outcome(printed: Result<(), PrintFault>, text: Vec<u8>, length: u64) -> 
     }
 }
 
-/// The length of the text of an object's value.
+/// Returns the length of the text of an object's value.
 fn length_of(measures: &Measures, n: ObjectNo) -> u64
     ensures { result ≡ text_length measures.now n.0 }
 {
@@ -87,7 +87,7 @@ fn length_of(measures: &Measures, n: ObjectNo) -> u64
     }
 }
 
-/// Tells C what became of a text, and puts it into the buffer where it fits.
+/// Writes the text to the buffer if it fits, and its length or the reason to `out`.
 fn tell_text(answer: Result<Text, Status>, buffer: &mut [u8], out: &mut BplistWritten) -> u32
     ensures { TellsText buffer.old buffer.new out.old out.new result answer }
 {
@@ -111,7 +111,7 @@ fn tell_text(answer: Result<Text, Status>, buffer: &mut [u8], out: &mut BplistWr
     }
 }
 
-/// The old-style text of the value of an object.
+/// Writes the value of an object as old-style text.
 #[unsafe(no_mangle)]
 pub extern "C" fn bplist_text(
     alloc: Global,

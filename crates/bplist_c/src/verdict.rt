@@ -1,4 +1,4 @@
-//! What was found of a file, for C.
+//! The verdict on a file, as C is given it.
 
 ghost use Rattle.std.specs.Prelude.{◌≡◌};
 ghost use Rattle.bplist_c.specs.Prelude.{NO_VERDICT, refused_told};
@@ -8,15 +8,15 @@ use crate::status::Status;
 use bplist_lint::{LintRefusal, ObjectNos};
 use bplist_objects::{Fault, Rule, rule_number};
 
-/// What was found of a file. Numbers of which nothing is said are 0.
+/// The verdict on a file. A number that does not apply is 0.
 #[repr(C)]
 #[derive(Clone, Copy, Debug, Drop)]
 pub struct BplistVerdict {
     /// The number of the broken rule.
     pub rule: u32,
-    /// 1 where an object breaks the rule, else 0.
+    /// 1 if an object breaks the rule, otherwise 0.
     pub has_object: u32,
-    /// The object that breaks it, of a circle the first.
+    /// The object that breaks it; the first object of a circle.
     pub object: u32,
     /// The top object.
     pub top: u32,
@@ -26,20 +26,20 @@ pub struct BplistVerdict {
     pub height: u32,
     /// The place of the fault.
     pub place: u64,
-    /// How many objects the circle has.
+    /// The number of objects in the circle.
     pub circle: u64,
-    /// How many objects the file has.
+    /// The number of objects in the file.
     pub objects: u64,
-    /// How many objects the top reaches.
+    /// The number of objects reachable from the top.
     pub reached: u64,
-    /// How many references these have.
+    /// The number of references in these objects.
     pub references: u64,
 }
 
 /// The top of a file.
 #[derive(Clone, Copy, Debug, Drop)]
 pub(crate) struct Top {
-    /// How many objects the file has.
+    /// The number of objects in the file.
     pub(crate) objects: u32,
     /// The number of the top object.
     pub(crate) object: u32,
@@ -49,7 +49,7 @@ pub(crate) struct Top {
     pub(crate) height: u32,
 }
 
-/// A verdict that says nothing.
+/// A verdict of zeros.
 pub(crate) const NO_VERDICT: BplistVerdict = BplistVerdict {
     rule: 0,
     has_object: 0,
@@ -65,7 +65,7 @@ pub(crate) const NO_VERDICT: BplistVerdict = BplistVerdict {
 };
 
 impl BplistVerdict {
-    /// The verdict on a file with this top, which reaches so many objects with so many references.
+    /// The verdict on a file with this top. `reached` objects are reachable from it, with `references` references.
     pub(crate) fn of_top(top: Top, reached: u64, references: u64) -> BplistVerdict
         ensures { result ≡ record NO_VERDICT {
           objects = top.objects;
@@ -122,7 +122,7 @@ impl BplistVerdict {
     }
 }
 
-/// What C is told of a file that the linter refuses.
+/// Returns the status and the verdict for a file that the linter refuses.
 pub(crate) fn refused(refusal: &LintRefusal) -> (Status, BplistVerdict)
     ensures { result ≡ refused_told refusal.now }
 {

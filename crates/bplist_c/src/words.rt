@@ -1,4 +1,4 @@
-//! Names and texts of rules and statuses, and the version.
+//! Gives the names and sentences of rules and statuses, and the version.
 
 ghost use Rattle.std.specs.Prelude.{◌≡◌, ◌≢◌, ◌+◌, ◌*◌, ◌^◌, ◌<◌, ◌⊎◌, MatchOption, Ok, Option, codes, ok_or, option_map};
 ghost use Rattle.bplist_c.specs.Prelude.{NoRule, NoStatus, Rule as rule_type, Status as status_type, number_of, sentence_of, number_of_rule, text_of, word_of, Puts};
@@ -6,14 +6,14 @@ ghost use Rattle.bplist_c.specs.Prelude.{NoRule, NoStatus, Rule as rule_type, St
 use crate::status::{Status, put_all};
 use bplist_objects::{rule_name, rule_of_number, texts_of};
 
-/// Major, minor and patch number of the version, as the header has them.
+/// The version, which is also that of the header.
 const MAJOR: u32 = 0;
 
 const MINOR: u32 = 3;
 
 const PATCH: u32 = 0;
 
-/// The version as one number.
+/// Returns the version as one number.
 #[unsafe(no_mangle)]
 pub extern "C" fn bplist_version() -> u32
     ensures { result ≡ 0 * 2 ^ 16 + 3 * 2 ^ 8 + 0 }
@@ -21,7 +21,7 @@ pub extern "C" fn bplist_version() -> u32
     MAJOR << 16 | MINOR << 8 | PATCH
 }
 
-/// The name of a rule, by its number.
+/// Writes the name of the rule with this number.
 #[unsafe(no_mangle)]
 pub extern "C" fn bplist_rule_name(rule: u32, name: &mut [u8], count: &mut u64) -> u32
     ensures { (found : Option rule_type) × MatchOption found ((rule ≡ 0) ⊎ (32 < rule)) (λ r. number_of_rule r ≡ rule)
@@ -33,7 +33,7 @@ pub extern "C" fn bplist_rule_name(rule: u32, name: &mut [u8], count: &mut u64) 
     }
 }
 
-/// What a rule asks, as one sentence, by its number.
+/// Writes what the rule with this number requires, as one sentence.
 #[unsafe(no_mangle)]
 pub extern "C" fn bplist_rule_text(rule: u32, text: &mut [u8], count: &mut u64) -> u32
     ensures { (found : Option rule_type) × MatchOption found ((rule ≡ 0) ⊎ (32 < rule)) (λ r. number_of_rule r ≡ rule)
@@ -48,7 +48,7 @@ pub extern "C" fn bplist_rule_text(rule: u32, text: &mut [u8], count: &mut u64) 
     }
 }
 
-/// What a status means, as one sentence, by its number.
+/// Writes what the status with this number means, as one sentence.
 #[unsafe(no_mangle)]
 pub extern "C" fn bplist_status_text(status: u32, text: &mut [u8], count: &mut u64) -> u32
     ensures answered { status ≡ 0

@@ -1,4 +1,4 @@
-//! The answers to the calls about one file.
+//! Answers the calls about one file.
 
 use crate::checks::accepted;
 use crate::lines::{bytes_of_hex, words_of};
@@ -13,7 +13,7 @@ use std::alloc::Global;
 use std::fmt::Write as _;
 use std::io::Write;
 
-/// Writes the answers to these lines, each with a line feed. The first line has the file and the certificate of all.
+/// Writes the answers to these lines, each with a line feed. The first line gives the file and the certificate for all.
 pub(crate) fn answer_lines<W: Write>(alloc: Global, lines: &[String], out: &mut W) -> Result<()> {
     let Some(first) = lines.first() else {
         return Ok(());
@@ -141,7 +141,7 @@ fn bytes_text(alloc: Global, checked: &mut Checked<SliceSource<'_>>, node: Node)
     Ok(format!(in alloc; "{place} {shown}")?)
 }
 
-/// The place of a body that was lent.
+/// Returns the place of a body that was lent.
 fn body_place(checked: &mut Checked<SliceSource<'_>>, node: Node) -> Result<u64> {
     let frame = checked.frame();
     ensure!(node.object.0 < frame.objects, "bytes of an object outside");
@@ -151,7 +151,7 @@ fn body_place(checked: &mut Checked<SliceSource<'_>>, node: Node) -> Result<u64>
     }
 }
 
-/// The bytes in hexadecimal, and `-` for no byte.
+/// Returns the bytes in hexadecimal, or `-` if there are none.
 fn hex_or_dash(alloc: Global, bytes: &[u8]) -> Result<String> {
     if bytes.is_empty() {
         return Ok(String::from_str(alloc, "-")?);

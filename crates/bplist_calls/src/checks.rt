@@ -1,4 +1,4 @@
-//! Certificates that have to be accepted.
+//! Certificates that must be accepted.
 
 use anyhow::{Result, anyhow, bail};
 use bplist_cert::{Certificate, Checked, check};
@@ -6,7 +6,7 @@ use bplist_lint::upgrade;
 use bplist_octets::Source;
 use std::alloc::Global;
 
-/// What the source gives, checked with this certificate.
+/// Checks the source with this certificate.
 pub(crate) fn accepted<S: Source + Drop>(
     alloc: Global,
     source: S,
@@ -18,7 +18,7 @@ pub(crate) fn accepted<S: Source + Drop>(
     }
 }
 
-/// The certificate of version 2.
+/// Makes the certificate of version 2.
 pub(crate) fn upgraded<S: Source>(alloc: Global, checked: &mut Checked<S>) -> Result<Certificate> {
     upgrade(alloc, checked).map_err(|fault| anyhow!("upgrade: {fault:?}"))
 }

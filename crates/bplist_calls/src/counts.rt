@@ -1,4 +1,4 @@
-//! How much the calls that look at a whole file read of it.
+//! Counts what the calls that look at a whole file read of it.
 
 use crate::checks::{accepted, upgraded};
 use anyhow::Result;
@@ -9,8 +9,9 @@ use std::alloc::Global;
 use std::cell::Cell;
 use std::io::Write;
 
-/// Writes a line for `lint` and, where the file holds a value, one for `check` with its certificate, `upgrade`, and
-/// `check` with what that gives: the name, how many reads the call made of its source, and of how many bytes.
+/// Writes a line for `lint`. If the file holds a value, also writes a line each for `check` with its certificate, for
+/// `upgrade`, and for `check` with the new certificate. A line has the name, the number of reads of the source, and the
+/// number of bytes read.
 pub(crate) fn write_counts<W: Write>(alloc: Global, file: &[u8], out: &mut W) -> Result<()> {
     let counts = Cell::new(Counts::default());
     let mut source = CountingSource::new(file, &counts);
@@ -22,7 +23,7 @@ pub(crate) fn write_counts<W: Write>(alloc: Global, file: &[u8], out: &mut W) ->
     }
 }
 
-/// Writes the lines behind the first, by the certificate that `lint` gave.
+/// Writes the lines after the first, for the certificate that `lint` gave.
 fn write_checks<W: Write>(
     alloc: Global,
     source: CountingSource<'_>,
@@ -38,7 +39,7 @@ fn write_checks<W: Write>(
     write_line("check-2", counts, out)
 }
 
-/// The source, and its certificate of version 2.
+/// Returns the source, and its certificate of version 2.
 fn upgraded_parts<'a>(
     alloc: Global,
     mut checked: Checked<CountingSource<'a>>,
@@ -48,7 +49,7 @@ fn upgraded_parts<'a>(
     Ok((source, sorted))
 }
 
-/// Writes a line, and begins to count anew.
+/// Writes a line, and sets the counts to 0.
 fn write_line<W: Write>(name: &str, counts: &Cell<Counts>, out: &mut W) -> Result<()> {
     let Counts { reads, bytes } = counts.get();
     counts.set(Counts::default());

@@ -1,25 +1,25 @@
-//! The words of a line.
+//! Splits a line into its words.
 
 use anyhow::{Context, Result};
 use std::alloc::Global;
 
-/// A line of input, and its words.
+/// A line of input, as words.
 #[derive(Clone, Copy, Debug)]
 pub(crate) struct Line<'a> {
     pub(crate) file: &'a str,
     pub(crate) certificate: &'a str,
-    /// The call's name.
+    /// The name of the call.
     pub(crate) call: &'a str,
-    /// What stands behind the name, with tabs between them.
+    /// What follows the name, with tabs in between.
     pub(crate) operands: &'a str,
 }
 
-/// Whether a line stands for the same file and certificate as the line before.
+/// Returns true if a line is about the same file and certificate as the line before.
 pub(crate) fn has_same_file(line: &str) -> bool {
     line.starts_with("=\t=\t")
 }
 
-/// A line's words.
+/// Splits a line into its words.
 pub(crate) fn words_of(line: &str) -> Result<Line<'_>> {
     let (file, rest) = line
         .split_once('\t')
@@ -34,7 +34,7 @@ pub(crate) fn words_of(line: &str) -> Result<Line<'_>> {
     })
 }
 
-/// The bytes that hexadecimal text spells.
+/// Decodes hexadecimal text.
 pub(crate) fn bytes_of_hex(alloc: Global, text: &str) -> Result<Vec<u8>> {
     hex::decode(alloc, text).context("text that is not hexadecimal")
 }

@@ -1,22 +1,29 @@
-//! bplist_calls: makes those calls of the library that no subcommand of bplint makes, and shows what calls take. It is a
-//! program for tests, and its functions are proved to be safe and to end, no more.
+//! The program bplist_calls: makes the calls of the library that no subcommand of bplint makes, and shows what calls
+//! cost. It is a program for tests. Its functions are proved to be safe and to end, and nothing else.
 //!
-//! With no word behind its name, a line of standard input is one call: the file and the certificate in hexadecimal, the
-//! call's name and its operands, with tabs between them. `=` stands for the file or the certificate of the line before. Key
-//! paths are in hexadecimal too. For each line one line goes to standard output.
+//! Without arguments, each line of standard input is one call: the file and the certificate in hexadecimal, the name of
+//! the call, and its operands, separated by tabs. `=` means the file or certificate of the line before. Key paths are
+//! in hexadecimal too. Each line of input gives one line of output.
 //!
 //! | call | answer |
 //! |---|---|
 //! | `size PATH` | the number of nodes, or `missing STEP WHY` |
-//! | `keys PATH` | `keys`, and each key as the hexadecimal of its units, `-` for the empty one; or `nokeys`, or `missing STEP WHY` |
+//! | `keys PATH` | `keys`, and the units of each key in hexadecimal, `-` for none; or `nokeys`, or `missing STEP WHY` |
 //! | `nodes N` | the number of nodes, or `none` |
 //! | `form N` | `length` and the length, `noform`, or `none` |
 //! | `member N I` | the number of the member's object, or `none` |
 //! | `bytes_of N` | the place of the bytes, and the bytes in hexadecimal, `-` for no byte; or `none` |
 //! | `references` | how many references the linter counts |
 //!
-//! With the word `twice` standard input is a file, and every call is made twice on it (repeated_calls.rt); with `counts` too, and
-//! what `lint`, `check` and `upgrade` read of it is counted (counts.rt).
+//! With the argument `twice`, standard input is a file, and every call is made on it twice. With `counts`, standard
+//! input is a file too, and the program counts what `lint`, `check` and `upgrade` read of it.
+//!
+//! The modules, in reading order:
+//!
+//! - `lines`, `requests`, `answers`: lines of input, the calls they ask for, and the answers.
+//! - `repeated_calls`: every call twice.
+//! - `counts`: the reads of the calls that look at a whole file.
+//! - `checks`: certificates that must be accepted.
 #![tactic(auto)]
 
 mod answers;
@@ -54,7 +61,7 @@ fn main(rt: HostRuntime) -> Result<()> {
     };
     let mut file = Vec::new(alloc);
     rt.reader().read_to_end(&mut file)?;
-    // Not buffered, so that a line stands before what is done behind it.
+    // Not buffered, so that each line is out before the next call begins.
     let mut out = io::writer(&rt);
     match word.as_str() {
         "twice" => make_twice(alloc, &file, &mut out),

@@ -1,4 +1,4 @@
-//! Each call of the library made twice, so that a growth can be refused in the first and the second show what is left.
+//! Makes each call of the library twice. If memory is refused in the first call, the second shows what is left.
 
 use crate::checks::{accepted, upgraded};
 use anyhow::{Result, anyhow, bail};
@@ -9,12 +9,12 @@ use bplist_samples::{Call, all_calls};
 use std::alloc::Global;
 use std::io::Write;
 
-/// What goes out behind a call that is made for the first time, and behind the making of its answer's text.
+/// Written after a call is made for the first time, and after its answer is made into text.
 const MADE: &[u8] = b"made\n";
 
-/// Makes all calls on this file, which has to hold a value: with its certificate of version 1, and of version 2.
-///
-/// The lines of a call are `call` with its name, `made`, its first answer, and that of the same call on the same value.
+/// Makes all calls on this file, with its certificate of version 1, and then with that of version 2. The file must hold
+/// a value. The lines of a call are `call` and its name, `made`, its first answer, and the answer of the same call on
+/// the same value.
 pub(crate) fn make_twice<W: Write>(alloc: Global, file: &[u8], out: &mut W) -> Result<()> {
     let calls = all_calls(alloc).map_err(|fault| anyhow!("all_calls: {fault:?}"))?;
     by_both_versions(alloc, file, &calls, out)
@@ -33,7 +33,7 @@ fn by_both_versions<W: Write>(
     Ok(())
 }
 
-/// The bytes of the certificate that `lint` gives.
+/// Returns the bytes of the certificate that `lint` gives.
 fn linted(alloc: Global, file: &[u8]) -> Result<Vec<u8>> {
     match lint(alloc, &mut SliceSource::new(file)) {
         Ok(lint) => Ok(lint.certificate.to_octets(alloc)?),
@@ -41,14 +41,14 @@ fn linted(alloc: Global, file: &[u8]) -> Result<Vec<u8>> {
     }
 }
 
-/// The bytes of the certificate of version 2.
+/// Returns the bytes of the certificate of version 2.
 fn sorted(alloc: Global, mut checked: Checked<SliceSource<'_>>) -> Result<Vec<u8>> {
     let certificate = upgraded(alloc, &mut checked)?;
     Ok(certificate.to_octets(alloc)?)
 }
 
-/// Reads this certificate, checks the file with it, and makes the calls on that, each of them twice. It has six parameters, since
-/// `alloc` and `out` go through every step.
+/// Reads this certificate, checks the file with it, and makes the calls on the result, each of them twice. It has six
+/// parameters because every step needs `alloc` and `out`.
 fn all_twice<'a, W: Write>(
     alloc: Global,
     file: &'a [u8],
@@ -77,7 +77,7 @@ fn read_twice<W: Write>(alloc: Global, octets: &[u8], out: &mut W) -> Result<Cer
     Certificate::from_octets(alloc, octets).map_err(|refusal| anyhow!("from_octets: {refusal:?}"))
 }
 
-/// Checks the file with a certificate twice: the second time with what the first handed back.
+/// Checks the file with a certificate twice, the second time with what the first check returned.
 fn check_twice<'a, W: Write>(
     alloc: Global,
     source: SliceSource<'a>,
@@ -91,7 +91,7 @@ fn check_twice<'a, W: Write>(
     accepted(alloc, source, certificate)
 }
 
-/// What a check says, with the source and the certificate.
+/// Returns the text of a check's answer, and the source and the certificate that it hands back.
 fn handed_back<'a>(
     first: Result<Checked<SliceSource<'a>>, (Refusal, SliceSource<'a>, Certificate)>,
 ) -> Result<(&'static str, SliceSource<'a>, Certificate)> {

@@ -1,4 +1,4 @@
-//! What a line asks for.
+//! The calls that a line of input can ask for.
 
 use crate::lines::{Line, bytes_of_hex};
 use anyhow::{Context, Result, anyhow, bail};
@@ -17,7 +17,7 @@ pub(crate) enum Request {
     References,
 }
 
-/// The call that a line asks for.
+/// Returns the call that a line asks for.
 pub(crate) fn request_of(alloc: Global, line: Line<'_>) -> Result<Request> {
     let operands = line.operands;
     match line.call {

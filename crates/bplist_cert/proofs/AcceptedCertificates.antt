@@ -1,4 +1,4 @@
--- The rules of the check are kept exactly where the certificate is accepted.
+-- The rules of the check are kept exactly if the certificate is accepted.
 use Rattle.std.proofs.Common.{◌≡◌, ℕ, suc, ◌<◌, ◌≤◌, ◌⊎◌, inl, inr, Bool, true, false, cond, List, [], length, drop, slice_index, slice_index_or, Option, Some, None, IfSome, MatchOption, Less, refl, sym, ap, ap₂, ◌∙◌, subst, arith}
 use Rattle.std.specs.List.{AllByRecursion}
 use Rattle.std.proofs.lemmas.List.{length-take-le, length-drop}
@@ -42,7 +42,7 @@ use Rattle.bplist_cert.proofs.KeyRepeats.{rules_after}
 use Rattle.bplist_cert.proofs.KeyTies.{HaveKeys, keys_from_rules, rules_from_keys}
 use Rattle.bplist_cert.proofs.TextKeys.{key_refs, texts_are, units_at_key, ordered_differ}
 
--- keys differ where the rule is kept
+-- keys differ if the rule is kept
 last_differs : (f : List ℕ) (F : Frame) (keys : Option Keyed) (n : ℕ) (head : Head) → KeysAreTexts f F head head.count → KeepsLast f F keys n head → KeysDiffer f F head head.count
 last_differs f F None n head texts k = k
 last_differs f F (Some keyed) n head texts k = ordered_differ f F head (list_of keyed n head.count) texts k.1
@@ -57,7 +57,7 @@ module _ (f : List ℕ) (F : Frame) (heights : List ℕ) (keys : Option Keyed) (
   parts : KeepsAll (KeepsByObject f F n) object_rules × KeepsAll (KeepsRule f F (IsVouchedBy heights) (lists heights keys) n) (rules_after (key_rules keys))
   parts = kept_all_parts (KeepsRule f F (IsVouchedBy heights) (lists heights keys) n) object_rules (rules_after (key_rules keys)) kept
 
-  -- its keys are good
+  -- the keys of a vouched object are good
   good : HasGoodKeys f F keys n
   good = good_by_kept f F (IsVouchedBy heights) heights n keys parts.1.1.1.1
 
@@ -175,7 +175,7 @@ module _ (f : List ℕ) (F : Frame) (heights : List ℕ) (valid : IsValid f F he
       let b = valid.room ns r d (all_weaker _ _ (λ m p. p.0) ns a) w in
       omega (arith, b, large)
 
--- where heights are valid, looks show that
+-- if heights are valid, a check of each object shows it
 pub valid_seen : (f : List ℕ) (F : Frame) (heights : List ℕ) → IsValid f F heights → KeepBeforeKeysBelow f F heights F.objects
 valid_seen f F heights valid n lt v =
     let o = valid.vouched n v in
@@ -229,7 +229,7 @@ order_broken f F count None n head place k b = b
 order_broken f F count (Some keyed) n head place k (inl (short, p)) = omega (arith, k.0, short)
 order_broken f F count (Some keyed) n head place k (inr (whole, (j, first, p))) = first.2 (λ i l. k.1 i (omega (arith, l, first.0)))
 
--- what a rule asks of references it asks of fewer
+-- what a rule wants of references it wants of fewer of them, too
 pub fewer : (f : List ℕ) (F : Frame) (heights : List ℕ) (n : ℕ) (rule : Rule) (head : Head) (m many : ℕ) → m ≤ many → Asks f F heights n rule head many → Asks f F heights n rule head m
 fewer f F heights n rules.ChildNotVouched head m many few a = λ k l. a k (omega (arith, few, l))
 fewer f F heights n rules.HeightNotLess head m many few a = λ k l. a k (omega (arith, few, l))
@@ -260,11 +260,11 @@ module _ (f : List ℕ) (F : Frame) (S : ℕ → Type 0) (certificate : Lists) w
       → IsFirstFault (KeepsRule f F S certificate n) (OfObject n (BreaksRule f F S certificate n)) listed fault → ⊥
   no_rule_fault n listed fault = no_first_fault (KeepsRule f F S certificate n) (OfObject n (BreaksRule f F S certificate n)) (rule_or_broken n) listed fault
 
-  -- where all objects of S keep rules there is no fault of them
+  -- if all objects of S keep these rules, there is no fault by them
   pub no_least_fault : (listed : List Rule) (bound : ℕ) → ((n : ℕ) → S n → n < bound) → (a : Fault) → KeepBelow f F S certificate listed bound → IsLeastFault f F S certificate listed a → ⊥
   no_least_fault listed bound within a kept h = no_rule_fault h.object listed a (kept h.object (within h.object h.member) h.member) h.first
 
--- where a fault of the pair is found the certificate is not accepted
+-- if the pair has a fault, the certificate is not accepted
 pub fault_refutes : (f : List ℕ) (F : Frame) (certificate : Lists) (fault : Fault) → IsPairFault f certificate fault → IsAccepted f F certificate → ⊥
 fault_refutes f F certificate fault (inl h) a = no_frame f F fault h a.valid.frame
 fault_refutes f F certificate fault (inr (G, frame, h)) a =

@@ -1,8 +1,8 @@
--- As many different numbers as there are below a bound are all of them.
+-- A list of different numbers below a bound, as long as the bound, has all of them.
 use Rattle.std.proofs.Common.{arith, ◌≡◌, ◌<◌, ◌≤◌, ◌⊎◌, inl, inr, ℕ, zero, suc, refl, sym, ap, ◌∙◌, subst}
 use Rattle.std.proofs.lemmas.Bool.{cases_lt, cases_eq}
 
--- y in the place of x where x is m
+-- y if x is m, else x
 by_place : (m y x : ℕ) → (x ≡ m) ⊎ (x ≡ m → ⊥) → ℕ
 by_place m y x (inl e) = y
 by_place m y x (inr d) = x
@@ -18,7 +18,7 @@ other m y x = by_place m y x (cases_eq x m)
 other_cases : (m y x : ℕ) → ((x ≡ m) × (other m y x ≡ y)) ⊎ ((x ≡ m → ⊥) × (other m y x ≡ x))
 other_cases m y x = by_cases m y x (cases_eq x m)
 
--- different numbers below a bound are no more than the bound
+-- there are at most `bound` different numbers below a bound
 pigeonhole : (n m : ℕ) (g : ℕ → ℕ) → ((j : ℕ) → j < n → g j < m) → ((i j : ℕ) → i < j → j < n → g i ≡ g j → ⊥) → n ≤ m
 pigeonhole zero m g into apart = omega arith
 pigeonhole (suc n) zero g into apart = let l = into 0 (omega arith) in absurd (omega (arith, l))
@@ -44,7 +44,7 @@ pigeonhole (suc n) (suc m) g into apart =
     let rest = pigeonhole n m (λ j. other m (g n) (g j)) below differ in
     omega (arith, rest)
 
--- a number is among the first so many, or is not
+-- a number is among the first ones, or it is not
 among : (n : ℕ) (g : ℕ → ℕ) (i : ℕ) → ((j : ℕ) × (j < n) × (g j ≡ i)) ⊎ ((j : ℕ) → j < n → g j ≡ i → ⊥)
 among zero g i = inr (λ j l e. omega (arith, l))
 among (suc n) g i = elim (among n g i) [
@@ -58,7 +58,7 @@ among (suc n) g i = elim (among n g i) [
   ]
 ]
 
--- i behind the first so many
+-- item i after the first ones
 longer : (n : ℕ) (g : ℕ → ℕ) (i j : ℕ) → (j < n) ⊎ (n ≤ j) → ℕ
 longer n g i j (inl before) = g j
 longer n g i j (inr behind) = i
@@ -73,7 +73,7 @@ unfolding longer
 last n g i j (inl before) l = absurd (omega (arith, l, before))
 last n g i j (inr behind) l = refl
 
--- so many different numbers below so many: each is one of them
+-- each number below the bound is in the list
 pub onto : (n : ℕ) (g : ℕ → ℕ) → ((j : ℕ) → j < n → g j < n) → ((i j : ℕ) → i < j → j < n → g i ≡ g j → ⊥) → (i : ℕ) → i < n → (j : ℕ) × (j < n) × (g j ≡ i)
 onto n g into apart i l = go (among n g i)
   where

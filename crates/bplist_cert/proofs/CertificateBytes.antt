@@ -17,7 +17,7 @@ use Rattle.bplist_objects.specs.declared.fault.Fault.{Fault}
 use Rattle.bplist_objects.specs.declared.rule.Rule.TheVariants as rules
 use Rattle.bplist_cert.proofs.NumberBytes.{num-bytes, length-bytes, length-words}
 
--- equal lists whose fronts are of one length
+-- equal lists with fronts of the same length have equal fronts and equal rests
 parts_same : (p q x y : List ℕ) → length p ≡ length q → p ++ x ≡ q ++ y → (p ≡ q) × (x ≡ y)
 parts_same p q x y l e =
     let front : p ≡ q = sym (take_at p x (length q) l) ∙ ap (take (length q)) e ∙ take_at q y (length q) refl in
@@ -39,7 +39,7 @@ words_once (x ∷ xs) (y ∷ ys) p q e =
 abbrev pub key_words : Option Keyed → List ℕ
 key_words keys = option_map_or (λ (keyed : Keyed). words keyed.starts ++ words keyed.positions) keys []
 
--- what stands behind the magic
+-- the bytes after the magic
 abbrev behind : Lists → List ℕ
 behind lists = bytes_high_first 8 (length lists.heights) ++ (words lists.heights ++ key_words lists.keys)
 
@@ -77,11 +77,11 @@ starts_fit : (heights : List ℕ) (keys : Option Keyed) (count : ℕ) → length
 starts_fit heights None count n h = tt
 starts_fit heights (Some k) count n h = h ∙ sym n
 
--- what stands before a place, the n octets from there on, and the rest
+-- the bytes before a place, the n bytes from there on, and the rest
 drop-part : (xs : List ℕ) (place n : ℕ) → drop place xs ≡ part xs place n ++ drop (place + n) xs
 drop-part xs place n = sym (take-append-drop n (drop place xs)) ∙ ap (λ ys. part xs place n ++ ys) (drop-drop n place xs)
 
--- as many bytes as have room are the first 16
+-- as many of the first 16 bytes as there are
 pub front_is : (f room : List ℕ) (n : ℕ) → length room ≡ 16 → n ≡ min (length f) 16 → part f 0 (length (take n room)) ≡ take 16 f
 front_is f room n r e =
     let len = length-take-le n room (omega arith) in
@@ -99,7 +99,7 @@ header_is f front magic count e m bytes =
     sym e ∙ sym (take-append-drop 8 front) ∙ ap (λ ys. ys ++ drop 8 front) m
     ∙ ap (λ ys. magic ++ ys) (sym rest ∙ bytes)
 
--- a magic with another number of bytes than the number of heights asks for
+-- a magic, but a number of bytes that does not fit the number of heights
 pub length_refused : (f front : List ℕ) (keyed : Bool) (count len : ℕ) → front ≡ take 16 f → len ≡ length f → take 8 front ≡ magic keyed
     → part front 8 8 ≡ bytes_high_first 8 count → count < 2 ^ 64 → (Fits keyed count len → ⊥) → IsOctetsFault f (record { rule = rules.CertLength; object = None; place = len })
 length_refused f front keyed count len e l m bytes low never =
@@ -110,7 +110,7 @@ length_refused f front keyed count len e l m bytes low never =
     never (subst (λ k. Fits keyed k len) (sym told) (subst (Fits keyed (num (part f 8 8))) (sym l) fits)) in
     inr (keyed, sym short ∙ m, none, ap (λ place. record { rule = rules.CertLength; object = None; place = place }) l)
 
--- the numbers behind those so far
+-- the numbers after those so far
 pub words_grown : (f xs ys : List ℕ) (place : ℕ) → part f place (4 * length xs) ≡ words xs
     → part f (place + 4 * length xs) (4 * length ys) ≡ words ys → part f place (4 * length (xs ++ ys)) ≡ words (xs ++ ys)
 words_grown f xs ys place before here =

@@ -1,4 +1,4 @@
--- One vouched object after the other.
+-- The walk over the vouched objects, one after the other.
 use Rattle.std.proofs.Common.{◌≡◌, ℕ, suc, ◌<◌, ◌≤◌, ◌+◌, ◌-◌, ◌*◌, min, ◌⊎◌, inl, inr, List, [], ◌∷◌, length, slice_index, Option, Some, None, sym, ap, subst, arith}
 use Rattle.std.proofs.lemmas.Bool.{cases_lt}
 use Rattle.std.proofs.lemmas.List.{get_or_past}
@@ -151,7 +151,7 @@ module _ (f : List ℕ) (F : Frame) (heights : List ℕ) (keys : Option Keyed) (
       roomy : IsOverfull f F (IsVouchedBy heights) n → ⊥
       roomy = not_overfull f F (IsVouchedBy heights) n now more room
 
-      -- what a rule asks by this head
+      -- what a rule wants, by this head
       by_head : (rule : Rule) → Asks f F heights n rule head (ref_count head.kind head.count)
           → (other : Head) → HasHead f F n other → Asks f F heights n rule other (ref_count other.kind other.count)
       by_head rule = any_head f F n head has (Asks f F heights n rule)
@@ -189,13 +189,13 @@ module _ (f : List ℕ) (F : Frame) (heights : List ℕ) (keys : Option Keyed) (
             let e : n ≡ m = omega (arith, lt, b) in
             subst (λ k. IsShown f F (lists heights keys) look k) e (here (subst (IsVouchedBy heights) (sym e) v))
 
-    -- an object that is not vouched for
+    -- the next object is not vouched for
     pub passed : (slice_index heights n ≡ 0) → (t : ℕ) → AreCheckedBelow f F (lists heights keys) look n t → AreCheckedBelow f F (lists heights keys) look (suc n) t
     passed none t run =
         let never : IsVouchedBy heights n → ⊥ = λ v. omega (arith, v, none) in
         record { sums = sums_same f F (IsVouchedBy heights) n t never run.sums; room = run.room; kept = below_by run.kept (λ v. absurd (never v)) }
 
-    -- one vouched object more
+    -- the next object is vouched for
     pub held_more : (t : ℕ) → AreCheckedBelow f F (lists heights keys) look n t → (u : ℕ) → IsCheckedObject f F (lists heights keys) look n u → AreCheckedBelow f F (lists heights keys) look (suc n) u
     held_more t run u h = record { sums = h.sums; room = h.room; kept = below_by run.kept (λ _. h.kept) }
 
@@ -220,7 +220,7 @@ start f F certificate look frame = record {
   kept = λ m lt v. absurd (omega arith);
 }
 
--- where each rule that is broken names an object, the first fault does
+-- if each broken rule names an object, so does the first fault
 names_object : (keeps : Rule → Type 0) (breaks : Rule → Option ObjectNo → ℕ → Type 0) (o : Option ObjectNo) → ((rule : Rule) (object : Option ObjectNo) (place : ℕ) → breaks rule object place → object ≡ o)
     → (rules : List Rule) (fault : Fault) → IsFirstFault keeps breaks rules fault → fault.object ≡ o
 names_object keeps breaks o names [] fault h = absurd h
@@ -228,12 +228,12 @@ names_object keeps breaks o names (rule ∷ rules) fault (inl h) = names rule fa
 names_object keeps breaks o names (rule ∷ rules) fault (inr h) = names_object keeps breaks o names rules fault h.1
 
 module _ (f : List ℕ) (F : Frame) (heights : List ℕ) (keys : Option Keyed) where
-  -- where all vouched objects are seen, and their keys are good, they keep all rules
+  -- if all vouched objects are seen and their keys are good, they keep all rules
   pub all_good : (t : ℕ) → AreCheckedBelow f F (lists heights keys) Quick F.objects t → ((n : ℕ) → n < F.objects → IsVouchedBy heights n → HasGoodKeys f F keys n) → AreCheckedBelow f F (lists heights keys) Exact F.objects t
   all_good t run good = record { sums = run.sums; room = run.room; kept = λ m lt v. good_keeps f F heights keys m (run.kept m lt v) (good m lt v) }
 
   module _ (fault : Fault) where
-    -- the first fault of keys is the first of all, where all vouched objects up to it are seen
+    -- the first fault of keys is the first of all, if all vouched objects up to it are seen
     pub keys_first : (bound : ℕ) → KeepBeforeKeysBelow f F heights bound → IsFirstKeysFault f F (lists heights keys) bound fault → IsVouchedFault f F (lists heights keys) fault
     keys_first bound seen k = record {
       object = k.object;
@@ -242,7 +242,7 @@ module _ (f : List ℕ) (F : Frame) (heights : List ℕ) (keys : Option Keyed) w
       least = λ m lt v. good_keeps f F heights keys m (seen m (omega (arith, lt, k.within)) v) (k.before m lt v);
     }
 
-    -- the first fault of seen objects is the first of all, where the keys before it are good
+    -- the first fault of seen objects is the first of all, if the keys before it are good
     pub seen_first : (s : IsSeenFault f F (lists heights keys) fault) → ((n : ℕ) → n < s.object → IsVouchedBy heights n → HasGoodKeys f F keys n) → IsVouchedFault f F (lists heights keys) fault
     seen_first s good = record { object = s.object; member = s.vouched; first = s.first; least = λ m lt v. good_keeps f F heights keys m (s.seen m lt v) (good m lt v) }
 
@@ -257,22 +257,22 @@ pub frame_fault : (f : List ℕ) (certificate : Lists) (e : ObjectFault) → Giv
 frame_fault f certificate (errors.Fault fault) h = inl h
 frame_fault f certificate (errors.Read r) h = tt
 
--- what is said of a fault is said of the refusal
+-- a claim about a fault is one about the refusal
 pub object_refused : (P Q : Fault → Type 0) (e : ObjectFault) → ((x : Fault) → P x → Q x) → GivesFault P e → GivesRefusal Q (refusal_of e)
 object_refused P Q (errors.Fault fault) same h = same fault h
 object_refused P Q (errors.Read r) same h = tt
 
--- a call that answers no fault is refused for a failed read or a growth alone
+-- a call that returns no fault is refused only because of a failed read or refused memory
 pub never_refused : (Q : Fault → Type 0) (e : ObjectFault) → GivesFault Never e → GivesRefusal Q (refusal_of e)
 never_refused Q e h = object_refused Never Q e (λ x never. absurd never) h
 
--- what is said of a fault that is refused
+-- a claim about a fault that is refused
 pub refused_weaker : (P Q : Fault → Type 0) (e : Refusal) → ((x : Fault) → P x → Q x) → GivesRefusal P e → GivesRefusal Q e
 refused_weaker P Q (refusals.Fault fault) same h = same fault h
 refused_weaker P Q (refusals.Read r) same h = tt
 refused_weaker P Q refusals.Memory same h = tt
 
--- or that is answered
+-- a claim about a fault that is returned
 pub given_weaker : (P Q : Fault → Type 0) (e : ObjectFault) → ((x : Fault) → P x → Q x) → GivesFault P e → GivesFault Q e
 given_weaker P Q (errors.Fault fault) same h = same fault h
 given_weaker P Q (errors.Read r) same h = tt

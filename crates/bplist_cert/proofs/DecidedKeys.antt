@@ -1,4 +1,4 @@
--- The keys of a dictionary are texts, differ and stand in order in a key list, or there is a first one that does not.
+-- The keys of a dictionary are texts, differ and are in order in a key list, or there is a first one that is not.
 use Rattle.std.proofs.Common.{◌≡◌, ◌≢◌, ℕ, zero, suc, ◌<◌, ◌⊎◌, inl, inr, List, slice_index, Less, refl, sym, ap, ap₂, ◌∙◌, subst, arith}
 use Rattle.std.proofs.lemmas.Bool.{cases_lt}
 use Rattle.bplist_objects.specs.declared.frame.Frame.{Frame}

@@ -1,4 +1,5 @@
--- A vouched object keeps all rules or there is a first one that it breaks, and so a file and a certificate have a yes or a first fault.
+-- A vouched object keeps all rules, or there is a first one that it breaks. So a file and a certificate have a yes or a
+-- first fault.
 use Rattle.std.proofs.Common.{◌≡◌, ℕ, zero, suc, ◌+◌, ◌-◌, ◌*◌, ◌<◌, ◌≤◌, ◌⊎◌, inl, inr, List, length}
 use Rattle.std.proofs.Common.{slice_index, Option, Some, None, refl, arith}
 use Rattle.std.proofs.lemmas.Bool.{cases_lt, cases_eq}
@@ -130,7 +131,7 @@ module _ (f : List ℕ) (F : Frame) where
             ⊎ ((fault : Fault) × IsCheckFault f F certificate n fault)
 
         module _ (head : Head) (has : HasHead f F n head) (kept : KeepsAll (KeepsByObject f F n) object_rules) where
-          -- what the vouched objects take with it
+          -- the bytes that the vouched objects take, with this one
           abbrev now : ℕ
           now = t + (head.«end» - off f F n)
 

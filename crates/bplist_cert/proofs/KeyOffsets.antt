@@ -1,4 +1,4 @@
--- Keys by blocks, with the places of their objects.
+-- Keys, block by block, with the places of their objects.
 use Rattle.std.proofs.Common.{◌≡◌, ℕ, ◌+◌, ◌-◌, ◌<◌, ◌≤◌, ◌⊎◌, inl, inr, List, length, slice_index, set, sym, ap, ◌∙◌, subst, arith, Option, Some, None, MatchOption, is_some, Bool, not, false}
 use Rattle.std.proofs.lemmas.Bool.{cases_lt}
 use Rattle.std.proofs.lemmas.List.{get_or-set_same, get_or-set_other}
@@ -28,7 +28,7 @@ others_more f F refs i texts key is k l = go (cases_lt k i)
     go (inl a) = texts k a
     go (inr b) = let e : i ≡ k = omega (arith, b, l) in (key, subst (λ j. IsText f F (slice_index refs j) key) e is)
 
--- what was found, where something is there
+-- what was found, if something was
 pub found_some : {X : Type 0} (A : Type 0) (P : X → Type 0) (found : Option X) (none : Bool) → is_some found ≡ not none → none ≡ false → MatchOption found A P → (x : X) × P x
 found_some A P None none is some h = let e : false ≡ not false = is ∙ ap not some in cc e
 found_some A P (Some x) none is some h = (x, h)
@@ -46,7 +46,7 @@ module _ (f : List ℕ) (F : Frame) (head : Head) (done : ℕ) (refs : List ℕ)
           let text = by (k - done) (omega (arith, lt, from)) in
           (text.0, subst (λ m. IsText f F m text.0) here text.1)
 
-  -- the first object of the block that is no text is the first such key of all
+  -- the first object of the block that is not a text is the first such key of all
   pub keyless_there : done + length refs ≤ head.count → (i : ℕ) → IsFirstOther f F refs i → IsFirstKeyless f F head (done + i)
   keyless_there few i first = (
     omega (arith, few, first.within),

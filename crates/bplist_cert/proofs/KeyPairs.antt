@@ -35,7 +35,7 @@ ascend_all u count up (suc d) i l =
     (compare_units-less_less (u i) (u (suc (i + d))) (u (suc (suc (i + d)))) (ascend_all u count up d i (omega (arith, l))) (up (suc (i + d)) (omega (arith, l))))
 
 module _ (f : List ℕ) (F : Frame) where
-  -- one pair more takes its slot
+  -- one more pair takes its slot
   pub pairs_more : (slots : List ℕ) (r a b : ℕ) → r < length slots → b < 4294967296 → ArePairs f F slots → Ascends f F a b → ArePairs f F (set slots r (a * 4294967296 + b))
   pairs_more slots r a b within low pairs asc i x y low' some is = elim (cases_eq i r) [
     | inl e ↦
@@ -76,7 +76,7 @@ module _ (f : List ℕ) (F : Frame) where
         let left : text_units f F x.object ≡ units_at k = ap (text_units f F) (at ∙ ap (λ n. ref f F head (slice_index list n)) same) in
         ap₂ compare_units (sym left) (sym (ap (text_units f F) is)) ∙ h.2
 
-    -- one key more
+    -- one more key
     pub ascend_more : (j : ℕ) (before : Option ReadKey) (m : ℕ) → AscendTo j → slice_index list j < head.count → m ≡ ref f F head (slice_index list j) → IsLast j before → Follows f F before m → AscendTo (j + 1)
     ascend_more j before m so low is last h = record {
       low = λ k l. elim (cases_eq k j) [ inl e ↦ subst (λ n. slice_index list n < head.count) (sym e) low | inr d ↦ so.low k (omega (arith, l, d)) ];
@@ -99,7 +99,7 @@ module _ (f : List ℕ) (F : Frame) where
           let same : units_at i ≡ units_at j = ap (λ p. text_units f F (ref f F head p)) e in
           cc (sym less ∙ ap (compare_units (units_at i)) (sym same) ∙ compare_units-self (units_at i))
 
-      -- each key stands at one of so many different positions
+      -- each key is at one of the positions, if there are as many different ones as keys
       pub shapes_all : HaveTextShapes f F head
       shapes_all k l =
           let at = onto head.count (slice_index list) so.low apart k l in
@@ -122,7 +122,7 @@ module _ (f : List ℕ) (F : Frame) where
       let t = shapes k low in
       (t.0, text_there f F (ref f F head k) framed (inside k low) t.0 (shape_announced f F (ref f F head k) t.0 t.1.0) (sound k low (inside k low)) t.1.1)
 
-  -- where all vouched objects are seen, keys that are texts by marker and count, in order in a key list, are good
+  -- if all vouched objects are seen, keys that are texts by marker and count, in order in a key list, are good
   pub listed_good : IsFrame f F → (heights : List ℕ) → KeepBeforeKeysBelow f F heights F.objects → (keyed : Keyed) (n : ℕ) → n < F.objects → IsVouchedBy heights n → IsListed f F keyed n → HasGoodKeys f F (Some keyed) n
   listed_good framed heights seen keyed n within vouched listed head has dict =
       let keys = listed head has dict in

@@ -1,4 +1,4 @@
--- What the classes of the keys of a vouched dictionary say of them.
+-- What the classes of the keys of a vouched dictionary say about the keys.
 use Rattle.std.proofs.Common.{Bool, not, IsTrue, Option, Some, None, MatchOption, is_some, Result, Ok, Err, ◌≡◌, ℕ, ◌*◌, ◌<◌, ◌≤◌, List, [], ◌∷◌, slice_index, count_by, sym, ap, ◌∙◌, subst, inr, arith}
 use Rattle.std.proofs.lemmas.Bool.{false≢true}
 use Rattle.bplist_objects.specs.declared.rule.Rule.{Rule}
@@ -62,7 +62,8 @@ module _ (f : List ℕ) (F : Frame) where
   pub good_at : (keys : Option Keyed) (n : ℕ) (head : Head) → HasHead f F n head → (head.kind ≡ Dict → KeysAreTexts f F head head.count × KeepsLast f F keys n head) → HasGoodKeys f F keys n
   good_at keys n head has good other h = subst (λ (x : Head). x.kind ≡ Dict → KeysAreTexts f F x x.count × KeepsLast f F keys n x) (HasHead-unique f F n head other has h) good
 
-  -- what is said of the key list of a dictionary whose keys are texts is said of the object, and what was learnt with it
+  -- a claim about the key list of a dictionary whose keys are texts is one about the object, with what was learnt
+  -- besides
   pub order_given : {A B : Type 0} → (A → B) → (count : ℕ) (keyed : Keyed) (n : ℕ) (head : Head) → HasHead f F n head → head.kind ≡ Dict → KeysAreTexts f F head head.count → (r : Result (Unit {0}) ObjectFault)
       → Gives (λ _. A × HasOrder f F keyed n head) (IsOrderFault f F count keyed n head) r → Gives (λ _. B × HasGoodKeys f F (Some keyed) n) (BreaksKeys f F count (Some keyed) n) r
   order_given learn count keyed n head has dict texts (Ok x) h = (learn h.0, good_at (Some keyed) n head has (λ _. (texts, h.1)))
@@ -101,13 +102,13 @@ module _ (f : List ℕ) (F : Frame) where
   good_low heights n seen least head has dict =
       (λ k low. absurd (no_keys heights n seen head has dict least k low), λ i j before low. absurd (no_keys heights n seen head has dict least j low))
 
-  -- where no object is named as a key, a dictionary whose keys are named has none
+  -- if no object is named as a key, a dictionary whose keys are named has none
   pub good_unnamed : (named : List Bool) (n : ℕ) → count_by (λ marked. marked) named ≡ 0 → HasNamedKeys f F named n → HasGoodKeys f F None n
   good_unnamed named n none named_keys head has dict =
       let no_key : (k : ℕ) → k < head.count → ⊥ = λ k low. none_marked named none _ (named_keys head has dict k low) in
       (λ k low. absurd (no_key k low), λ i j before low. absurd (no_key j low))
 
-  -- they keep rules 14 to 20
+  -- the keys of a vouched dictionary keep rules 14 to 20
   pub sound_keys : (heights : List ℕ) → KeepBeforeKeysBelow f F heights F.objects → (n : ℕ) → n < F.objects → IsVouchedBy heights n → (head : Head) → HasHead f F n head → head.kind ≡ Dict → KeysAreSound f F head
   sound_keys heights seen n within vouched head has dict k low inside =
       seen_own heights (ref f F head k) (seen (ref f F head k) inside (key_vouched heights n (seen n within vouched) head has dict k low))

@@ -1,4 +1,4 @@
--- The keys of what an object spells are different texts exactly where its head's keys keep rules 21 and 22.
+-- The keys of what an object spells are different texts exactly if its head's keys keep rules 21 and 22.
 use Rattle.std.proofs.Common.{◌≡◌, ℕ, ◌<◌, List, refl, sym, subst, arith}
 use Rattle.std.specs.List.{AllByRecursion, AllZip}
 use Rattle.bplist_objects.specs.declared.frame.Frame.{Frame}
@@ -17,11 +17,11 @@ use Rattle.bplist_cert.specs.DictKeys.{KeysAreTexts, KeysDiffer}
 use Rattle.bplist_cert.proofs.TextKeys.{key_refs, texts_are, have_texts, distinct, differ}
 
 module _ (f : List ℕ) (F : Frame) where
-  -- what holds of the keys of a dictionary with this head
+  -- what is true of the keys of a dictionary with this head
   abbrev pub HaveKeys : Head → Type 0
   HaveKeys head = KeysAreTexts f F head head.count × KeysDiffer f F head head.count
 
-  -- what holds of all references of a dictionary holds of each key
+  -- what is true of all references of a dictionary is true of each key
   pub each_key : (P : ℕ → Type 0) (head : Head) → head.kind ≡ kinds.Dict → AllByRecursion P (refs (content_at f F head)) → (k : ℕ) → k < head.count → P (ref f F head k)
   each_key P head dict all k low =
       let each = subst (λ kind. (i : ℕ) → i < ref_count kind head.count → P (ref f F head i)) dict (each_ref f F P head.kind head.count head.body all) in
@@ -44,7 +44,7 @@ module _ (f : List ℕ) (F : Frame) where
         let us = texts_are f F head k.0 in
         (us.0, (us.1, distinct f F head us.0 us.1 k.0 k.1))))
 
-    -- and back
+    -- and back from the list of the keys to the rules
     pub rules_from_keys : HasKeys f F c → head.kind ≡ kinds.Dict → HaveKeys head
     rules_from_keys k e = (have_texts f F head us.0 us.1.0 low, differ f F head us.0 us.1.0 us.1.1)
       where

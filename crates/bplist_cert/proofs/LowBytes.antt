@@ -56,7 +56,7 @@ module _ (f : List ℕ) where
   none_high from to None none h = below_low from to h
   none_high from to (Some i) none h = absurd (false≢true (sym none))
 
-  -- what is known with what was read before it and behind it
+  -- a known stretch, with what was read before it and after it
   pub low_filled : (known : Stretch) (from to begin end : ℕ) → IsLow f known.from known.to → IsLow f from begin → IsLow f end to → (begin < to → known.from ≤ begin) → (begin < end → end ≤ known.to) → IsLow f from to
   low_filled known from to begin end inside front back starts stops k low high = elim (cases_lt k begin) [
     | inl before ↦ front k low before
@@ -84,7 +84,7 @@ module _ (f : List ℕ) (F : Frame) (m : ℕ) (head : Head) (has : HasHead f F m
     ),
   )
 
-  -- a Wide text does
+  -- a Wide text keeps rules 14 to 20
   pub wide_kept : head.kind ≡ kinds.Wide → KeepsAll (KeepsByObject f F m) object_rules
   wide_kept wide = kept_all_after (KeepsByObject f F m) shape_rules body_rules kept (
     λ other h ascii. absurd (let same = HasHead-unique f F m head other has h in cc (wide, same, ascii)),

@@ -54,7 +54,7 @@ num-low_bytes (suc n) x =
 pub num-bytes : (n x : ℕ) → x < 256 ^ n → num (bytes_high_first n x) ≡ x
 num-bytes n x h = num-low_bytes n x ∙ mod-eq_of_lt h
 
--- as many bytes with the same number are the same
+-- equally many bytes with the same number are the same
 pub num-same : (xs ys : List ℕ) → length xs ≡ length ys → AreBytes xs → AreBytes ys → num xs ≡ num ys → xs ≡ ys
 unfolding num
 num-same [] [] l p q e = refl

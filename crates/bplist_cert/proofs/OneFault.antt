@@ -1,4 +1,4 @@
--- The first fault of a file and a certificate is one.
+-- A file and a certificate have at most one first fault.
 use Rattle.std.proofs.Common.{◌≡◌, ℕ, ◌+◌, ◌*◌, ◌⊎◌, inl, inr, List, length, Option, Some, None, MatchOption, sym, ap, ◌∙◌, subst, arith}
 use Rattle.bplist_objects.specs.declared.rule.Rule.{Rule}
 use Rattle.bplist_objects.specs.declared.rule.Rule.TheVariants as rules
@@ -50,7 +50,7 @@ module _ (f : List ℕ) (F : Frame) (S : ℕ → Type 0) (certificate : Lists) w
   one_place n rule o o' p p' b c =
       (b.0 ∙ sym c.0, by_class (is_of_refs rule) (p ≡ p') (one_ref n rule p p') (λ x y. (one_object_place f F n rule o o' p p' (b.0, x) (c.0, y)).1) b.1 c.1)
 
-  -- the first fault of the objects of S is one
+  -- the objects of S have at most one first fault
   pub one_least_fault : (listed : List Rule) (a b : Fault) → IsLeastFault f F S certificate listed a → IsLeastFault f F S certificate listed b → a ≡ b
   one_least_fault listed a b h k =
       let same = one_number h.object k.object

@@ -1,4 +1,4 @@
--- A dictionary with one key twice has no sorted key list.
+-- A dictionary with a repeated key has no sorted key list.
 use Rattle.std.proofs.Common.{◌≡◌, ℕ, suc, ◌+◌, ◌-◌, ◌<◌, inl, inr, List, [], length, slice_index, slice_index_or, sym, ap, ap₂, ◌∙◌, subst, arith}
 use Rattle.std.proofs.lemmas.Bool.{cases_order}
 use Rattle.std.proofs.lemmas.List.Elements.{All-get_or, All-from_recursion}
@@ -55,7 +55,7 @@ module _ (f : List ℕ) (F : Frame) (ks positions : List ℕ) (s : IsSorted f F 
         ]
       ]
 
--- what two keys have in common is no key list
+-- a key list does not have two keys with the same units
 pub repeated_unlisted : (f : List ℕ) (F : Frame) (ks positions : List ℕ) (i j : ℕ) (us : List ℕ) → i < j → j < length ks → SpellsText f F (slice_index ks i) us → SpellsText f F (slice_index ks j) us
     → IsSorted f F ks positions → ⊥
 repeated_unlisted f F ks positions i j us l m x y s = no_list f F ks positions s i j us l m x y

@@ -102,7 +102,7 @@ module _ (f : List ℕ) (F : Frame) (head : Head) where
         differ i j lt high a.0 b.0 a.1 b.1
         (sym (units_at_key i a.0 low a.1) ∙ get_or_default us i [] d (omega (arith, low, all_units)) ∙ e ∙ get_or_default us j d [] below ∙ units_at_key j b.0 high b.1)
 
-    -- and the other way round
+    -- and keys that differ by the definitions differ by index
     pub differ : AreDistinct us → KeysDiffer f F head head.count
     differ apart i j lt high a b x y e =
         apart i j [] lt (omega (arith, high, all_units))

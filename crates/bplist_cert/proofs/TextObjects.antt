@@ -20,11 +20,11 @@ module _ (f : List ℕ) (F : Frame) (m : ℕ) where
   pub text_there : IsFrame f F → m < F.objects → (head : Head) → HasHead f F m head → KeepsAll (KeepsByObject f F m) object_rules → IsTextKind head.kind → IsText f F m head
   text_there frame lt head has kept kind = record { within = lt; is = kept_spells f F m frame lt head has kept; kind = kind }
 
-  -- an object of which a rule is broken is none
+  -- an object that breaks a rule is not a text
   pub no_text : IsFrame f F → m < F.objects → (fault : Fault) → IsObjectFault f F m object_rules fault → (key : Head) → IsText f F m key → ⊥
   no_text frame lt fault h key text = no_content f F m frame lt fault (content_at f F key) h text.is.1
 
-  -- an object with a head of another kind is none
+  -- an object with a head of another kind is not a text
   pub other_kind : (head : Head) → HasHead f F m head → (IsTextKind head.kind → ⊥) → (key : Head) → IsText f F m key → ⊥
   other_kind head has never key text =
       let same = HasHead-unique f F m key head (shape_announced f F m key text.is.0) has in

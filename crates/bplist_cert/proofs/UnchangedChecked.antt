@@ -1,4 +1,4 @@
--- A call that only reads a checked file leaves frame and certificate.
+-- A call that only reads a checked file keeps frame and certificate.
 use Rattle.std.proofs.Common.{◌≡◌, ℕ, List, [], ◌∷◌, ◌++◌, slice_index, slice_index_or, drop, Option, Some, None, Bool, true, false, refl, ap, ap₂, arith}
 use Rattle.std.specs.Option.{option_map_or}
 use Rattle.bplist_octets.specs.Meaning.{Meaning, OnlyReads}
@@ -16,7 +16,7 @@ frame_same a b m e =
     let o = ap (λ xs. slice_index xs 4) e in
     λ i. record { offset_size = s i; ref_size = r i; objects = n i; top = record { 0 = t i }; table = o i }
 
--- key lists as lists of numbers, behind the version as a list of one
+-- key lists as lists of numbers, after the version as a list of one
 abbrev key_numbers : Option Keyed → List (List ℕ)
 key_numbers keys = option_map_or (λ (keyed : Keyed). (2 ∷ []) ∷ keyed.starts ∷ keyed.positions ∷ []) keys ((1 ∷ []) ∷ [])
 

@@ -110,7 +110,7 @@ module _ (f : List ℕ) (F : Frame) (heights : List ℕ) (valid : IsValid f F he
   pub reached_spells : (n : ℕ) → Reach f F n → (c : Content) × Spells f F n c
   reached_spells n r = let o = valid.vouched n (reached_vouched n r) in (o.content, o.spells)
 
-  -- each reference that is written in a reached object is the number of an object
+  -- each reference in a reached object is the number of an object
   pub references_inside : (n m : ℕ) → Reach f F n → Refs f F n m → m < F.objects
   references_inside n m r e = all_at _ _ m (refs_below f F n e.0 e.1) e.2
 

@@ -11,7 +11,7 @@ use Rattle.bplist_cert.specs.PairFault.{IsPairFault}
 abbrev pub IsVouchedFor : List ℕ → List ℕ → Frame → Lists → Type 0
 IsVouchedFor f cert F lists = IsCertificate lists × (cert ≡ octets_of lists) × ∥ IsAccepted f F lists ∥₁
 
--- the first fault of certificate bytes and file: rules 24 and 25, then the pair's
+-- the first fault of certificate bytes and file: rules 24 and 25, then the faults of the pair
 abbrev pub IsVouchingFault : List ℕ → List ℕ → Fault → Type 0
 IsVouchingFault f cert fault =
     IsOctetsFault cert fault ⊎ ((lists : Lists) × IsCertificate lists × (cert ≡ octets_of lists) × IsPairFault f lists fault)

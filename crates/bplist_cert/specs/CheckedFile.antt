@@ -9,7 +9,7 @@ use Rattle.bplist_objects.specs.Framed.{with_frame}
 use Rattle.bplist_cert.specs.Lists.{Keyed, Lists}
 use Rattle.bplist_cert.specs.Sorted.{IsAccepted}
 
--- a source's meaning, its frame, and the lists of its certificate
+-- what a source means, its frame, and the lists of its certificate
 pub record CheckedFile : Type 0 where
   pub source : Meaning
   pub frame : Frame
@@ -22,7 +22,7 @@ pub record IsChecked (checked : CheckedFile) : Type 0 where
   pub framed : IsTrue checked.source.honest → IsFrame checked.source.octets checked.frame
   pub accepted : IsTrue checked.source.honest → ∥ IsAccepted checked.source.octets checked.frame checked.certificate ∥₁
 
--- as a source: what its source means, with frame and certificate beside it, whose version is a list of one
+-- a checked file as a source: what its source means, with its frame and certificate; the version is a list of one
 abbrev pub meaning_of : CheckedFile → Meaning
 meaning_of checked = with_frame checked.frame (record checked.source {
   extra = checked.certificate.heights ∷ (option_map_or (λ (keyed : Keyed). (2 ∷ []) ∷ keyed.starts ∷ keyed.positions ∷ [])

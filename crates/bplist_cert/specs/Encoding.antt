@@ -10,11 +10,11 @@ use Rattle.bplist_cert.specs.declared.certificate.CertRefusal.{CertRefusal}
 use Rattle.bplist_cert.specs.declared.certificate.CertRefusal.TheVariants as refusals
 use Rattle.bplist_cert.specs.Lists.{Keyed, Lists}
 
--- what a certificate begins with, without key lists and with them
+-- the magic of a certificate, with or without key lists
 abbrev pub magic : Bool → List ℕ
 magic keyed = elim keyed [ false ↦ codes "bplcert1" | true ↦ codes "bplcert2" ]
 
--- numbers in 4 bytes each
+-- numbers as 4 bytes each
 abbrev pub words : List ℕ → List ℕ
 words xs = flat_map (bytes_high_first 4) xs
 
@@ -24,19 +24,19 @@ octets_of lists =
     magic (is_some lists.keys) ++ (bytes_high_first 8 (length lists.heights) ++ (words lists.heights
     ++ option_map_or (λ (keyed : Keyed). words keyed.starts ++ words keyed.positions) lists.keys []))
 
--- a certificate of so many heights, without key lists or with them, can have so many bytes
+-- a certificate with `count` heights, with or without key lists, can take `len` bytes
 abbrev pub Fits : Bool → ℕ → ℕ → Type 0
 Fits false count len = len ≡ 16 + 4 * count
 Fits true count len = (16 + 8 * count ≤ len) × (len % 4 ≡ 0)
 
--- the first broken rule of 24 and 25: no magic, at place 0; or a number of bytes that does not fit the number of heights behind
--- the magic, at that place
+-- the first broken rule of 24 and 25: no magic, at place 0; or a number of bytes that does not fit the number of
+-- heights after the magic, at that number as the place
 abbrev pub IsOctetsFault : List ℕ → Fault → Type 0
 IsOctetsFault octets fault =
     (((keyed : Bool) → take 8 octets ≢ magic keyed) × (fault ≡ record { rule = rules.CertMagic; object = None; place = 0 }))
     ⊎ ((keyed : Bool) × (take 8 octets ≡ magic keyed) × (Fits keyed (num (part octets 8 8)) (length octets) → ⊥)
     × (fault ≡ record { rule = rules.CertLength; object = None; place = length octets }))
 
--- bytes are refused by the first broken rule of 24 and 25, or because memory was refused
+-- the bytes are refused because of the first broken rule of 24 and 25, or because memory was refused
 abbrev pub IsCertRefusal : List ℕ → CertRefusal → Type 0
 IsCertRefusal octets refusal = elim refusal [ refusals.Fault fault ↦ IsOctetsFault octets fault | refusals.Memory ↦ ⊤ ]

@@ -11,7 +11,7 @@ use Rattle.bplist_objects.specs.Claims.{FailsAt}
 use Rattle.bplist_cert.specs.declared.heights.Wanted.{Wanted}
 use Rattle.bplist_cert.specs.declared.heights.Wanted.TheVariants.{Vouched, Below, VouchedBelow}
 
--- a reference's height is as wanted
+-- the height of a reference is as wanted
 abbrev pub Meets : Wanted → ℕ → Type 0
 Meets Vouched height = 1 ≤ height
 Meets (Below bound) height = height < bound
@@ -25,23 +25,23 @@ AreMet f F heights head wanted count = (k : ℕ) → k < count → Meets wanted 
 abbrev pub IsFirstUnmet : List ℕ → Frame → List ℕ → Head → Wanted → ℕ → Type 0
 IsFirstUnmet f F heights head wanted i = FailsAt (AreMet f F heights head wanted) (ref_count head.kind head.count) i
 
--- the same of references by a list of their numbers
+-- the first `count` of a list of references have heights as wanted
 abbrev pub AreMetBy : List ℕ → Wanted → List ℕ → ℕ → Type 0
 AreMetBy heights wanted refs count = (k : ℕ) → k < count → Meets wanted (slice_index heights (slice_index refs k))
 
--- reference i of such a list is the first whose height is not as it is wanted
+-- reference i of such a list is the first whose height is not as wanted
 pub record IsFirstUnmetBy (heights : List ℕ) (wanted : Wanted) (refs : List ℕ) (i : ℕ) : Type 0 where
   pub within : i < length refs
   pub unmet : Meets wanted (slice_index heights (slice_index refs i)) → ⊥
   pub before : AreMetBy heights wanted refs i
 
--- the rule for a height that is not as it is wanted: for both together rule 29, whichever of them is broken
+-- the rule for a height that is not as wanted; for both rules together it is 29, whichever of them is broken
 abbrev pub rule_of : Wanted → Rule
 rule_of Vouched = rules.ChildNotVouched
 rule_of (Below bound) = rules.HeightNotLess
 rule_of (VouchedBelow bound) = rules.HeightNotLess
 
--- the fault of the first reference of object n whose height is not as it is wanted
+-- the fault of the first reference of object n whose height is not as wanted
 abbrev pub IsUnmetFault : List ℕ → Frame → List ℕ → ℕ → Head → Wanted → Fault → Type 0
 IsUnmetFault f F heights n head wanted fault =
     (fault.rule ≡ rule_of wanted) × (fault.object ≡ Some (record { 0 = n }))

@@ -14,33 +14,33 @@ use Rattle.bplist_keys.specs.Texts.{HasTextShape, text_units}
 use Rattle.bplist_objects.specs.Safe.{IsSafeBody}
 use Rattle.bplist_objects.specs.Scan.{ref}
 
--- a head is that of a text with its body inside a file of so many bytes
+-- the head is that of a text, and its body is inside a file of this many bytes
 abbrev pub IsSafeText : ℕ → Head → Type 0
 IsSafeText len head = IsTextKind head.kind × IsSafeBody len head
 
--- a key is an object of the file, and its head, where it was read, that of a text inside
+-- the key is an object of the file; its head, if it was read, is that of a text inside the file
 abbrev pub IsSafeKey : Meaning → ReadKey → Type 0
 IsSafeKey m key = (key.object < (frame_in m).objects) × IfSome key.head (IsSafeText (length m.octets))
 
 module _ (f : List ℕ) (F : Frame) where
-  -- the head of a key, where it was read, is that of its text
+  -- the head of the key, if it was read, is that of its text
   abbrev pub IsReadKey : ReadKey → Type 0
   IsReadKey key = IfSome key.head (λ head. HasShape f F key.object head × IsTextKind head.kind)
 
-  -- objects a and b are texts by marker and count, and the units of the first come before those of the second
+  -- objects a and b are texts by marker and count, and the units of a come before those of b
   abbrev pub Ascends : ℕ → ℕ → Type 0
   Ascends a b = HasTextShape f F a × HasTextShape f F b × (compare_units (text_units f F a) (text_units f F b) ≡ Less)
 
-  -- each of these numbers above 0 says so of two objects
+  -- each of these numbers that is not 0 stores two such objects
   abbrev pub ArePairs : List ℕ → Type 0
   ArePairs slots =
       (i a b : ℕ) → b < 4294967296 → 0 < slice_index slots i → slice_index slots i ≡ a * 4294967296 + b → Ascends a b
 
-  -- the pairs are such, and the runs those of the file
+  -- the stored pairs are in order, and the runs are those of the file
   abbrev pub AreKnown : OrderedPairs → Type 0
   AreKnown pairs = ArePairs pairs.slots × AreRuns f pairs.runs.slots
 
-  -- key m is a text by marker and count, and comes after the one before, if there is one
+  -- key m is a text by marker and count, and comes after the one before it, if there is one
   abbrev pub Follows : Option ReadKey → ℕ → Type 0
   Follows None m = HasTextShape f F m
   Follows (Some last) m = Ascends last.object m
@@ -49,6 +49,6 @@ module _ (f : List ℕ) (F : Frame) where
   abbrev pub HaveTextShapes : Head → Type 0
   HaveTextShapes head = (k : ℕ) → k < head.count → HasTextShape f F (ref f F head k)
 
-  -- where a dictionary has at most 32 keys, these numbers begin with the references to them
+  -- if the dictionary has at most 32 keys, these numbers begin with the references to them
   abbrev pub AreFewKeys : Head → List ℕ → Type 0
   AreFewKeys head numbers = head.count ≤ 32 → (k : ℕ) → k < head.count → slice_index numbers k ≡ ref f F head k

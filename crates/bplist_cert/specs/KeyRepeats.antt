@@ -1,4 +1,4 @@
--- The keys of vouched dictionaries, of which the rules before those of keys are known. Source: profile.
+-- The keys of vouched dictionaries that are known to keep the rules before those of keys. Source: profile.
 use Rattle.std.specs.Prelude.{◌≡◌, ℕ, ◌<◌, Bool, List, length, Option}
 use Rattle.bplist_objects.specs.declared.fault.Fault.{Fault}
 use Rattle.bplist_objects.specs.declared.frame.Frame.{Frame}
@@ -18,16 +18,16 @@ use Rattle.bplist_cert.specs.CheckRules.{KeepsLast, IsKeysFault}
 abbrev pub KeysAreSound : List ℕ → Frame → Head → Type 0
 KeysAreSound f F head = (k : ℕ) → k < head.count → ref f F head k < F.objects → KeepsAll (KeepsByObject f F (ref f F head k)) object_rules
 
--- the keys of object n, if it is a dictionary, keep the rules of keys
+-- if object n is a dictionary, its keys keep the rules of keys
 abbrev pub HasGoodKeys : List ℕ → Frame → Option Keyed → ℕ → Type 0
 HasGoodKeys f F keys n =
     (head : Head) → HasHead f F n head → head.kind ≡ Dict → KeysAreTexts f F head head.count × KeepsLast f F keys n head
 
--- the keys of the vouched dictionaries below a bound keep them
+-- the keys of the vouched dictionaries below a bound keep the rules of keys
 abbrev pub HaveGoodKeys : List ℕ → Frame → List ℕ → Option Keyed → ℕ → Type 0
 HaveGoodKeys f F heights keys bound = (n : ℕ) → n < bound → IsVouchedBy heights n → HasGoodKeys f F keys n
 
--- there is a mark for each object, and the keys of the vouched dictionaries below a bound are marked as named
+-- there is a mark for each object, and the keys of the vouched dictionaries below a bound are marked
 abbrev pub HaveNamedKeys : List ℕ → Frame → List ℕ → ℕ → List Bool → Type 0
 HaveNamedKeys f F heights bound marks =
     (length marks ≡ F.objects) × ((n : ℕ) → n < bound → IsVouchedBy heights n → HasNamedKeys f F marks n)
@@ -40,11 +40,11 @@ IsKeyOf f F n m = (head : Head) × HasHead f F n head × (head.kind ≡ Dict) ×
 abbrev pub IsVouchedKey : List ℕ → Frame → List ℕ → ℕ → Type 0
 IsVouchedKey f F heights m = (n : ℕ) × IsVouchedBy heights n × IsKeyOf f F n m
 
--- object n is a dictionary whose keys break them, first with this fault
+-- object n is a dictionary whose keys break the rules of keys, with this as the first fault
 abbrev pub BreaksKeys : List ℕ → Frame → ℕ → Option Keyed → ℕ → Fault → Type 0
 BreaksKeys f F count keys n fault = (head : Head) × HasHead f F n head × IsKeysFault f F count keys n head fault
 
--- the fault of the least vouched object whose keys break them
+-- the fault of the least vouched object whose keys break the rules of keys
 pub record IsFirstKeysFault (f : List ℕ) (F : Frame) (certificate : Lists) (bound : ℕ) (fault : Fault) : Type 0 where
   pub object : ℕ
   pub within : object < bound

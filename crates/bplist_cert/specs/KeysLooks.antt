@@ -1,4 +1,4 @@
--- What a walk over the vouched objects finds of the keys of dictionaries. Source: profile.
+-- What the walk over the vouched objects finds out about the keys of dictionaries. Source: profile.
 use Rattle.std.specs.Prelude.{◌≡◌, ℕ, ◌<◌, IsTrue, List, IfSome, MatchOption}
 use Rattle.bplist_objects.specs.declared.frame.Frame.{Frame}
 use Rattle.bplist_objects.specs.declared.head.Head.{Head}
@@ -13,21 +13,21 @@ use Rattle.bplist_cert.specs.KeyPairs.{AreKnown, HaveTextShapes}
 use Rattle.bplist_cert.specs.KeyRepeats.{HaveNamedKeys}
 use Rattle.bplist_cert.specs.LowBytes.{AreLow}
 
--- object n, if it is a dictionary, has keys that are texts by marker and count, and a key list with them in order
+-- if object n is a dictionary, its keys are texts by marker and count, and its key list has them in order
 abbrev pub IsListed : List ℕ → Frame → Keyed → ℕ → Type 0
 IsListed f F keyed n = (head : Head) → HasHead f F n head → head.kind ≡ Dict → HaveTextShapes f F head × HasOrder f F keyed n head
 
--- what keys are looked up in is that of the file
+-- the caches that keys are looked up in are true of the file
 abbrev pub AreLearnt : List ℕ → Frame → ListLook → Type 0
 AreLearnt f F look = AreKnown f F look.pairs × AreLow f look.low.slots
 
--- besides, a look that found all key lists good did so of those below a bound
+-- the caches are true of the file, and if the walk found all key lists good, then those below a bound are
 pub record HaveGoodLists (f : List ℕ) (F : Frame) (heights : List ℕ) (keyed : Keyed) (bound : ℕ) (look : ListLook) : Type 0 where
   pub learnt : AreLearnt f F look
   pub good : IsTrue look.good → (n : ℕ) → n < bound → IsVouchedBy heights n → IsListed f F keyed n
 
--- the keys of the vouched dictionaries below a bound are named, where they are to be, or in version 2 have good key lists, where the
--- look says so
+-- version 1: the keys of the vouched dictionaries below a bound are named, if they are to be; version 2: their key
+-- lists are good, if the walk found so
 abbrev pub AreSeen : List ℕ → Frame → Lists → ℕ → KeysLook → Type 0
 AreSeen f F certificate bound look =
     MatchOption certificate.keys (IfSome look.named (λ named. HaveNamedKeys f F certificate.heights bound named.marks.items))

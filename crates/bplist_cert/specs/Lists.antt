@@ -1,13 +1,13 @@
--- Certificates as their lists. Source: profile.
+-- Certificates as lists. Source: profile.
 use Rattle.std.specs.Prelude.{◌≡◌, ℕ, ◌+◌, ◌^◌, ◌<◌, ◌≤◌, List, length, slice_index, Option, IfSome}
 use Rattle.bplist_octets.specs.Octets.{part}
 
--- the key lists of version 2: where each dictionary's list starts, and the positions of its keys
+-- the key lists of version 2: the index at which each dictionary's list starts, and the positions of its keys
 pub record Keyed : Type 0 where
   pub starts : List ℕ
   pub positions : List ℕ
 
--- the key list of object n, of so many positions, is complete
+-- the key list of object n, with `count` positions, is complete
 abbrev pub IsWhole : Keyed → ℕ → ℕ → Type 0
 IsWhole keyed n count = slice_index keyed.starts n + count ≤ length keyed.positions
 
@@ -28,11 +28,11 @@ lists heights keys = record { heights = heights; keys = keys }
 abbrev pub HasStarts : List ℕ → Option Keyed → Type 0
 HasStarts heights keys = IfSome keys (λ keyed. length keyed.starts ≡ length heights)
 
--- in version 2 there are so many starts
+-- in version 2, this is the number of starts
 abbrev pub HasCount : Option Keyed → ℕ → Type 0
 HasCount keys count = IfSome keys (λ keyed. length keyed.starts ≡ count)
 
--- these are numbers of 32 bits
+-- all of these numbers have 32 bits
 abbrev pub AreWords : List ℕ → Type 0
 AreWords xs = (k : ℕ) → slice_index xs k < 2 ^ 32
 

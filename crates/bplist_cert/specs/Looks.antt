@@ -1,4 +1,4 @@
--- What one look at each vouched object shows. Source: profile.
+-- What a walk finds out about each vouched object. Source: profile.
 use Rattle.std.specs.Prelude.{ℕ, List, None}
 use Rattle.bplist_objects.specs.declared.fault.Fault.{Fault}
 use Rattle.bplist_objects.specs.declared.frame.Frame.{Frame}
@@ -13,17 +13,17 @@ use Rattle.bplist_cert.specs.CheckRules.{KeepsRule, KeepBelow, KeepsCheck, IsChe
 abbrev pub KeepsBeforeKeys : List ℕ → Frame → List ℕ → ℕ → Type 0
 KeepsBeforeKeys f F heights n = KeepsAll (KeepsRule f F (IsVouchedBy heights) (lists heights None) n) rules_before_keys
 
--- each vouched object below n does
+-- each vouched object below n keeps the rules before those of keys
 abbrev pub KeepBeforeKeysBelow : List ℕ → Frame → List ℕ → ℕ → Type 0
 KeepBeforeKeysBelow f F heights n = KeepBelow f F (IsVouchedBy heights) (lists heights None) rules_before_keys n
 
 module _ (f : List ℕ) (F : Frame) (certificate : Lists) where
-  -- what a look shows of vouched object n
+  -- what a check of vouched object n without a fault shows
   abbrev pub IsShown : Look → ℕ → Type 0
   IsShown Quick n = KeepsBeforeKeys f F certificate.heights n
   IsShown Exact n = KeepsCheck f F certificate n
 
-  -- a look at vouched object n finds this fault: an exact one the first, a quick one any
+  -- a check of vouched object n finds this fault: an exact check the first, a quick one any
   abbrev pub IsShownFault : Look → ℕ → Fault → Type 0
   IsShownFault Quick n fault = Unit {0}
   IsShownFault Exact n fault = IsCheckFault f F certificate n fault

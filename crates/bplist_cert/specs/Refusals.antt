@@ -21,18 +21,18 @@ refused_read answer = elim answer [ Err refusal ↦ is_read refusal | _ ↦ fals
 abbrev pub GivesRefusal : (Fault → Type 0) → Refusal → Type 0
 GivesRefusal Q refusal = elim refusal [ refusals.Fault fault ↦ Q fault | _ ↦ Unit {0} ]
 
--- P holds of the value, or Q of the fault unless a read failed or memory was refused
+-- P holds of the value, or Q of the fault, unless a read failed or memory was refused
 abbrev pub Judges : {X : Type 0} → (X → Type 0) → (Fault → Type 0) → Result X Refusal → Type 0
 Judges P Q result = MatchResult result P (GivesRefusal Q)
 
--- a growth may be refused only in version 1
+-- memory can be refused in version 1 only
 abbrev pub MayRefuse : Option Keyed → Refusal → Type 0
 MayRefuse keys refusal = elim refusal [ refusals.Memory ↦ keys ≡ None | _ ↦ Unit {0} ]
 
--- an object's fault as a refusal
+-- the fault of an object as a refusal
 abbrev pub refusal_of : ObjectFault → Refusal
 refusal_of error = elim error [ errors.Fault fault ↦ refusals.Fault fault | errors.Read fault ↦ refusals.Read fault ]
 
--- the refusal where keys are not ranked
+-- the reason why keys are not ranked, as a refusal
 abbrev pub refusal_of_keys : Failure → Refusal
 refusal_of_keys failure = elim failure [ keys_errors.Read fault ↦ refusals.Read fault | keys_errors.Memory ↦ refusals.Memory ]

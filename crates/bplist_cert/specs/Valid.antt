@@ -9,7 +9,7 @@ use Rattle.bplist_objects.specs.Extents.{HaveRoom}
 use Rattle.bplist_objects.specs.Holds.{AreDistinct}
 use Rattle.bplist_objects.specs.File.{FileHolds}
 
--- object n has a height of 1 or more
+-- object n has a height of 1 or more: the certificate vouches for it
 abbrev pub IsVouchedBy : List ℕ → ℕ → Type 0
 IsVouchedBy heights n = 1 ≤ slice_index heights n
 
@@ -18,16 +18,17 @@ module _ (f : List ℕ) (F : Frame) where
   abbrev pub SpellsText : ℕ → List ℕ → Type 0
   SpellsText n units = Spells f F n (leaf (text units))
 
-  -- the keys of a dictionary are texts, which differ: rules 21 and 22
+  -- the keys of a dictionary are texts that differ: rules 21 and 22
   abbrev pub HasKeys : Content → Type 0
   HasKeys (dict ks ms) = (us : List (List ℕ)) × (AllZip SpellsText ks us × AreDistinct us)
   HasKeys content = ⊤
 
-  -- what holds of an object with a height
+  -- what is true of an object with a height
   pub record IsVouched (heights : List ℕ) (n : ℕ) : Type 0 where
     pub content : Content
     pub spells : Spells f F n content
-    pub lower : AllByRecursion (λ m. IsVouchedBy heights m × (slice_index heights m < slice_index heights n)) (refs content)
+    pub lower : AllByRecursion (λ m. IsVouchedBy heights m × (slice_index heights m < slice_index heights n))
+        (refs content)
     pub keys : HasKeys content
 
 -- the heights are valid for a file with this frame

@@ -1,4 +1,4 @@
-//! Certificates: heights of objects, and in version 2 the sorted keys of dictionaries.
+//! The certificate: a height for each object, and in version 2 also the sorted key lists of dictionaries.
 
 ghost use Rattle.bplist_cert.specs.declared.certificate.CertRefusal.TheVariants.{Memory, Fault as is_fault};
 ghost use Rattle.std.specs.Prelude.{◌≡◌};
@@ -7,14 +7,13 @@ use bplist_objects::Fault;
 use std::alloc::AllocError;
 use std::marker::Model;
 
-/// The sorted keys of dictionaries. The key list of a dictionary of `c` pairs is the `c` positions from
-/// its start on.
+/// The sorted keys of dictionaries. The key list of a dictionary of `c` pairs is `positions[start .. start + c]`.
 #[derive(Drop)]
 pub struct KeyLists {
-    /// For each object, the number of positions before its key list. It is not looked at where the
-    /// object is not vouched for or is no dictionary.
+    /// For each object, the index in `positions` at which its key list starts. Ignored for an object that is not
+    /// vouched for or is not a dictionary.
     pub starts: Vec<u32>,
-    /// Numbers of keys of a dictionary, from 0, in ascending order of the keys' units.
+    /// Key numbers of a dictionary, counted from 0 in written order, sorted by the units of the keys.
     pub positions: Vec<u32>,
 }
 
@@ -26,13 +25,12 @@ impl Model for KeyLists {
     ghost view = { λ k. record { starts = k.starts.items; positions = k.positions.items } };
 }
 
-/// A certificate of a file. Of version 1 it has heights alone, of version 2 key lists too, with as many
-/// starts as heights.
+/// A certificate of a file. Version 1 has heights only. Version 2 also has key lists, with one start for each height.
 #[derive(Drop)]
 pub struct Certificate {
-    /// The height of each object; 0 stands for an object that is not vouched for.
+    /// The height of each object, or 0 for an object that is not vouched for.
     pub heights: Vec<u32>,
-    /// The key lists, in version 2.
+    /// The key lists: `Some` in version 2, None in version 1.
     pub keys: Option<KeyLists>,
 }
 
@@ -46,12 +44,12 @@ impl Model for Certificate {
     ghost invariant = { λ c. HasStarts c.heights.items c.keys };
 }
 
-/// Why bytes give no certificate.
+/// Why bytes are not accepted as a certificate.
 #[derive(Clone, Copy, Debug, PartialEq, Eq, Drop)]
 pub enum CertRefusal {
     /// Rule 24 or 25 is broken. The place counts from the certificate's first byte.
     Fault(Fault),
-    /// A growth was refused, so the bytes may be those of a certificate.
+    /// An allocation was refused. The bytes may still be a certificate.
     Memory,
 }
 

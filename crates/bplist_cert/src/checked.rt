@@ -1,4 +1,4 @@
-//! A source with a certificate that the check has accepted.
+//! A source together with a certificate that the check has accepted.
 
 ghost use Rattle.std.specs.Prelude.{◌≡◌, slice_index, IsTrue};
 ghost use Rattle.bplist_cert.specs.Prelude.{StandsAt, IsChecked, meaning_of};
@@ -33,7 +33,7 @@ impl<S: Source> Source for Checked<S> {
         self.source.len()
     }
 
-    // Inlined, so that a read costs what it costs the source.
+    // Inlined, so that a read costs no more than a read of the source.
     #[inline(always)]
     fn read_at(&mut self, at: u64, into: &mut [u8]) -> Result<(), ReadFault> {
         self.source.read_at(at, into)
@@ -47,8 +47,9 @@ impl<S: Source> Framed for Checked<S> {
 }
 
 impl<S: Source> Checked<S> {
-    /// A source with a frame and a certificate for which everything that a `Checked` promises is known: by a check, or by the
-    /// linter. It is public for callers that keep frame and certificate and are lent the source again later.
+    /// Makes a `Checked` from a source, a frame and a certificate for which everything that a `Checked` promises is
+    /// already known, from a check or from the linter. It is public for callers that keep frame and certificate and
+    /// borrow the source again later.
     pub fn new(source: S, frame: Frame, certificate: Certificate) -> Checked<S>
         requires { IsChecked (record { source = S.means source; frame = frame; certificate = certificate }) }
         ensures source { result.source ≡ S.means source }
@@ -62,7 +63,7 @@ impl<S: Source> Checked<S> {
         }
     }
 
-    /// The frame of the file.
+    /// Returns the frame of the file.
     pub fn frame(&self) -> Frame
         ensures frame { result ≡ self.now.frame }
         ensures checked { IsChecked self.now }
@@ -70,7 +71,7 @@ impl<S: Source> Checked<S> {
         self.frame
     }
 
-    /// The height of object `n`, 0 for one that is not vouched for and for one outside.
+    /// Returns the height of object `n`: 0 if the certificate does not vouch for it, or the file has no such object.
     pub fn height(&self, n: ObjectNo) -> u32
         ensures { result ≡ slice_index self.now.certificate.heights n.0 }
     {
@@ -80,14 +81,14 @@ impl<S: Source> Checked<S> {
         }
     }
 
-    /// The certificate.
+    /// Returns the certificate.
     pub fn certificate(&self) -> &Certificate
         ensures { result.now ≡ self.now.certificate }
     {
         &self.certificate
     }
 
-    /// The source and the certificate again.
+    /// Gives the source and the certificate back.
     pub fn into_parts(self) -> (S, Certificate)
         ensures source { S.means result.0 ≡ self.source }
         ensures certificate { result.1 ≡ self.certificate }
@@ -102,7 +103,8 @@ impl<S: Source> Checked<S> {
 }
 
 impl<'a> Checked<SliceSource<'a>> {
-    /// The bytes of the file, where they stand. The source is honest, and no read of it fails.
+    /// Returns the bytes of the file, from the slice itself and not from a copy. A slice is honest, and no read of it
+    /// fails.
     pub fn octets(&self) -> &'a [u8]
         ensures octets { result.now ≡ self.now.source.octets }
         ensures place { StandsAt self.now.source 0 result }

@@ -1,4 +1,4 @@
-//! The check of a certificate against a file.
+//! The check of a certificate against a file, and its walk over the vouched objects.
 
 ghost use Rattle.std.specs.Prelude.{◌≡◌, ◌+◌, ◌-◌, ◌≤◌, ◌<◌, ℕ, length, IfOk, IfErr, MatchResult, Some};
 ghost use Rattle.bplist_cert.specs.Prelude.{AllByRecursion, OnlyReads, Honestly, frame_in, HonestlyIn, off, Overfull, Sums, IsSafeFrame, ObjectNo as object_no, IsVouchedBy, HoldsOneValue, IsShownFault, ArePlaces, AreSeen, Quick as quick, Exact as exact, IsCheckedObject, AreCheckedBelow, IsWalkFault, IsSeenFault, IsVouchedFault, KeepsPairRules, IsPairFault, Gives, read_failed, Judges, GivesRefusal, is_read, refused_read, MayRefuse, IsAccepted, Never, Reach, Chain, Content, Spells, refs, Frame as frame};
@@ -16,27 +16,27 @@ use bplist_objects::{
 use bplist_octets::Source;
 use std::alloc::Global;
 
-/// How many entries of the offset table are read at once at most.
+/// The most entries of the offset table that are read at once.
 const BLOCK: usize = 512;
 
-/// How each vouched object is looked at.
+/// How a walk checks each vouched object.
 #[derive(Clone, Copy, Debug)]
 enum Look {
-    /// By the rules before those of keys. A fault is any.
+    /// By the rules before those of keys, in whatever order is fastest. A fault need not be the first.
     Quick,
-    /// By the same rules in the order of the check. A fault is the first.
+    /// By the same rules in their order. A fault is the first.
     Exact,
 }
 
-/// What a walk over the vouched objects goes by, beside the source. It is handed on as a copy, so that its parts stay in registers.
+/// What a walk over the vouched objects needs besides the source. Passed by value, so that its parts stay in registers.
 #[derive(Clone, Copy, Drop)]
 struct Walk<'a> {
     certificate: &'a Certificate,
     look: Look,
 }
 
-/// The bytes that the vouched objects take, where those before object `n` take `used` and `n` stands at
-/// `place` and ends at `end`.
+/// Rule 31: returns `used` plus the bytes of object `n`, which is at `place` and ends at `end`. `used` is what the
+/// vouched objects before it take.
 #[inline(always)]
 fn check_extent<P: Framed>(
     src: &P,
@@ -63,9 +63,9 @@ fn check_extent<P: Framed>(
     Ok(used + extent)
 }
 
-/// Looks at object `n`, which is vouched for and stands at `place`, by the rules before those of keys, where the vouched
-/// objects before it take `used` bytes, and answers how many they take with it. A quick look reads no byte twice: at
-/// references it looks by rules 20, 28 and 29 at once, since objects alone have heights.
+/// Checks vouched object `n` at `place` by the rules before those of keys. The vouched objects before it take `used`
+/// bytes; returns how many they take with it. A quick check reads no byte twice: it decides rules 20, 28 and 29
+/// together, because only an object has a height.
 fn check_object<P: Framed>(
     src: &mut P,
     walk: Walk,
@@ -111,7 +111,7 @@ fn check_object<P: Framed>(
     }
 }
 
-/// Looks at the vouched objects among those from number `from` on, which stand at these places.
+/// Checks the vouched objects among those from number `from` on. `places` has their places.
 fn check_block<P: Framed>(
     src: &mut P,
     walk: Walk,
@@ -140,8 +140,8 @@ fn check_block<P: Framed>(
     Ok(used)
 }
 
-/// Looks at all vouched objects, in the order of their numbers, and at the keys of the dictionaries among them: block by block,
-/// as places and objects are at hand then. How many bytes they take.
+/// Checks all vouched objects in the order of their numbers. Returns how many bytes they take. The keys of each block
+/// are looked at right after it, while its places and objects are at hand.
 fn check_all<P: Offsets>(src: &mut P, walk: Walk, found: &mut KeysLook) -> Result<u64, ObjectFault>
     requires { length walk.certificate.now.heights ≡ (frame_in (P.means src.old)).objects }
     ensures reads { OnlyReads (read_failed result) (P.means src.old) (P.means src.new) }
@@ -173,8 +173,8 @@ fn check_all<P: Offsets>(src: &mut P, walk: Walk, found: &mut KeysLook) -> Resul
     Ok(used)
 }
 
-/// Looks at all vouched objects by the rules before those of keys: quickly, and where that finds a fault again, by the rules
-/// in their order. What the first walk found of keys counts only where it found no fault. How many bytes they take.
+/// Checks all vouched objects by the rules before those of keys, and returns how many bytes they take. A second, exact
+/// walk runs only if the quick one finds a fault. What the first walk found about keys is then dropped.
 fn check_in_passes<P: Offsets>(
     src: &mut P,
     cert: &Certificate,
@@ -199,7 +199,6 @@ fn check_in_passes<P: Offsets>(
     check_all(src, walk, found)
 }
 
-/// The number of the object that a fault is of.
 fn object_of(fault: &Fault) -> u32
     ensures { (n : object_no) → fault.now.object ≡ Some n → result ≡ n.0 }
 {
@@ -209,8 +208,8 @@ fn object_of(fault: &Fault) -> u32
     }
 }
 
-/// Looks at all vouched objects, and then at the keys of the dictionaries among them, up to the first object that breaks a
-/// rule before those of keys. How many bytes they take.
+/// Checks all vouched objects, then the keys of the dictionaries among them, up to the first object that breaks a rule
+/// before those of keys. Returns how many bytes the objects take.
 fn check_objects<P: Offsets>(alloc: Global, src: &mut P, cert: &Certificate) -> Result<u64, Refusal>
     requires { length cert.now.heights ≡ (frame_in (P.means src.old)).objects }
     ensures reads { OnlyReads (refused_read result) (P.means src.old) (P.means src.new) }
@@ -245,7 +244,7 @@ fn check_objects<P: Offsets>(alloc: Global, src: &mut P, cert: &Certificate) -> 
     }
 }
 
-/// The frame of the file, where the certificate is accepted.
+/// Returns the frame of the file if the certificate is accepted.
 fn check_lists<S: Source>(alloc: Global, src: &mut S, cert: &Certificate) -> Result<Frame, Refusal>
     ensures reads { OnlyReads (refused_read result) (S.means src.old) (S.means src.new) }
     ensures memory { IfErr result (MayRefuse cert.now.keys) }
@@ -273,18 +272,20 @@ fn check_lists<S: Source>(alloc: Global, src: &mut S, cert: &Certificate) -> Res
     Ok(frame)
 }
 
-/// Checks a certificate of unknown origin against a file. It says yes exactly where the file has a frame
-/// and the certificate is one of the file: there is one height for each object, the top is vouched for, and
-/// each object that is vouched for keeps rules 14 to 22 (with key lists 32 in the place of 22) and 31 and
-/// has references of smaller heights alone, which are vouched for. Otherwise the fault is the first one:
-/// that of the first broken rule of 1 to 13, 26 and 27, or else that of the least object that is vouched for
-/// and breaks a rule, with the first that it breaks of 14 to 20, 31, 28, 29, 21 and the last one. Places of
-/// rules 26, 27 and 32 count in the certificate's bytes, all others in the file.
+/// Checks a certificate of unknown origin against a file.
 ///
-/// Source and certificate are handed back with every refusal: `Read` where a read failed, `Memory` where a
-/// growth was refused, which never happens with key lists. After a yes the file holds exactly one value, each
-/// reference that is written in an object which the top reaches is the number of an object, and no circle of
-/// references is reached.
+/// Over an honest source the certificate is accepted exactly if the file has a frame (rules 1 to 13), there is one
+/// height for each object (26), the top is vouched for (27), and each vouched object keeps rules 14 to 21 and 31, rule
+/// 22 (or 32 if there are key lists), and refers only to vouched objects (28) of smaller heights (29). After a yes the
+/// file holds exactly one value, every reference in an object that the top reaches is the number of an object, and the
+/// top reaches no circle.
+///
+/// Otherwise the fault is the first one: the first broken rule of 1 to 13, 26 and 27; or else, of the lowest-numbered
+/// vouched object that breaks a rule, the first that it breaks in the order 14 to 20, 31, 28, 29, 21 and then 22 or 32.
+/// Places of rules 26, 27 and 32 count from the certificate's first byte, all others from the file's.
+///
+/// Errors other than a fault: `Read` if a read failed; `Memory` if an allocation was refused, which never happens with
+/// key lists. Every refusal hands back source and certificate.
 pub fn check<S: Source>(
     alloc: Global,
     src: S,

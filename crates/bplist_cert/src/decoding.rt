@@ -1,4 +1,4 @@
-//! Certificates from bytes, which are read by blocks.
+//! Reads a certificate from bytes, block by block.
 
 ghost use Rattle.std.specs.Prelude.{◌≡◌, ◌≢◌, ◌+◌, ◌*◌, ◌≤◌, Bool, length, take, IfOk, MatchOption, MatchResult, ◌↔◌, IsTrue, ⊤};
 ghost use Rattle.bplist_cert.specs.Prelude.{part, OnlyReads, Honestly, Gives, Never, read_failed, failed_to_read, Lists, IsCertificate, AreWords, octets_of, magic, bytes_high_first, words, Fits, IsOctetsFault, IsCertRefusal, CertMemory as Memory, Judges, refused_read, is_keyed, header_octets};
@@ -11,36 +11,37 @@ use bplist_objects::{Fault, ObjectFault, Rule};
 use bplist_octets::{SliceSource, Source, sized};
 use std::alloc::Global;
 
-/// How many bytes are read at once at most.
+/// The most bytes that are read at once.
 const BLOCK_BYTES: usize = 16_384;
 
-/// How many numbers stand in so many bytes.
+/// The most numbers that are read at once.
 const BLOCK: usize = BLOCK_BYTES / 4;
 
-/// The version of a certificate's bytes.
+/// The version of a certificate.
 #[derive(Clone, Copy, Debug, PartialEq, Eq, Drop)]
 pub(crate) enum Version {
-    /// Heights alone.
+    /// Version 1: heights only.
     Plain,
-    /// Heights and key lists.
+    /// Version 2: heights and key lists.
     Keyed,
 }
 
-/// What a certificate begins with, in 16 bytes.
+/// The first 16 bytes of a certificate.
 #[derive(Clone, Copy, Debug, Drop)]
 pub(crate) struct Header {
-    /// What the magic tells.
+    /// From the magic, bytes 0 to 7.
     pub version: Version,
-    /// The number of heights.
+    /// The number of heights, from bytes 8 to 15.
     pub count: usize,
 }
 
 impl Certificate {
-    /// The certificate whose bytes the source gives. Else the fault is that of rule 24, at place 0, where they begin with
-    /// no magic, and otherwise that of rule 25, at the place that is their number. `Memory` where a growth was refused,
-    /// `Read` where a read failed.
+    /// Reads the certificate whose bytes the source gives. Each byte is read once, forward, in blocks of at most 16,384
+    /// bytes.
     ///
-    /// Each byte is read once, forward, in blocks of at most 16,384 bytes.
+    /// Errors: `Fault` of rule 24 at place 0 if the bytes do not begin with a magic; `Fault` of rule 25 if their number
+    /// does not fit the number of heights, with that number of bytes as its place; `Memory` if an allocation was
+    /// refused; `Read` if a read failed.
     pub fn from_source<S: Source>(alloc: Global, src: &mut S) -> Result<Certificate, Refusal>
         ensures reads { OnlyReads (refused_read result) (S.means src.old) (S.means src.new) }
         ensures yes { Honestly (S.means src.old)
@@ -71,8 +72,7 @@ impl Certificate {
         }
     }
 
-    /// The certificate whose bytes these are. Else the fault is that of rule 24, at place 0, where they begin with no
-    /// magic, and otherwise that of rule 25, at the place that is their number. `Memory` where a growth was refused.
+    /// Returns the certificate that these bytes spell. Errors are those of `from_source`, without `Read`.
     pub fn from_octets(alloc: Global, octets: &[u8]) -> Result<Certificate, CertRefusal>
         ensures yes { IfOk result (λ certificate. IsCertificate certificate × (octets.now ≡ octets_of certificate)) }
         ensures exact { (certificate : Lists) → IsCertificate certificate → octets.now ≡ octets_of certificate
@@ -88,7 +88,7 @@ impl Certificate {
     }
 }
 
-/// The header, where the bytes are as many as it asks for.
+/// Reads the header and checks rules 24 and 25.
 fn header_of<S: Source>(src: &mut S) -> Result<Header, ObjectFault>
     ensures reads { OnlyReads (read_failed result) (S.means src.old) (S.means src.new) }
     ensures fits { IfOk result (λ header. Fits (is_keyed header.version) header.count (length (S.means src.old).octets)) }
@@ -121,7 +121,6 @@ fn header_of<S: Source>(src: &mut S) -> Result<Header, ObjectFault>
     }))
 }
 
-/// The number of heights, as a header tells it.
 fn count_in(header: &[u8]) -> u64
     requires { 16 ≤ length header.now }
     ensures { part header.now 8 8 ≡ bytes_high_first 8 result }
@@ -129,7 +128,6 @@ fn count_in(header: &[u8]) -> u64
     sized(&header[8..16])
 }
 
-/// The version that the magic tells, where there is one.
 fn version_of(octets: &[u8]) -> Option<Version>
     ensures { MatchOption result ((keyed : Bool) → take 8 octets.now ≢ magic keyed)
         (λ version. take 8 octets.now ≡ magic (is_keyed version)) }
@@ -143,7 +141,7 @@ fn version_of(octets: &[u8]) -> Option<Version>
     None
 }
 
-/// Whether a certificate of this version with `count` heights can have `len` bytes.
+/// Returns whether a certificate of this version with `count` heights can take `len` bytes.
 fn fits(version: Version, count: u64, len: u64) -> bool
     ensures { IsTrue result ↔ Fits (is_keyed version) count len }
 {
@@ -153,7 +151,7 @@ fn fits(version: Version, count: u64, len: u64) -> bool
     }
 }
 
-/// So many numbers of 4 bytes each, from a place on, block by block.
+/// Reads `count` numbers of 4 bytes each, from `place` on.
 fn read_words<S: Source>(
     alloc: Global,
     src: &mut S,
@@ -183,15 +181,14 @@ fn read_words<S: Source>(
     Ok(numbers)
 }
 
-/// Numbers of 32 bits.
+/// Carries to the contract that these numbers have 32 bits each.
 fn are_words(numbers: &[u32])
     ensures { AreWords numbers.now }
 {
     let _count = numbers.len();
 }
 
-/// Puts the numbers of 4 bytes each that the bytes spell in their places. Nothing else is done in the loop, so that it takes
-/// several at a time.
+/// Decodes numbers of 4 bytes each into `into`. The loop does nothing else, so that the compiler can vectorize it.
 fn spell_words(octets: &[u8], into: &mut [u32])
     requires { length octets.now ≡ 4 * length into.old }
     ensures { octets.now ≡ words into.new }

@@ -1,4 +1,4 @@
-//! The bytes of a certificate.
+//! Writes a certificate as bytes.
 
 ghost use Rattle.std.specs.Prelude.{◌≡◌, ◌++◌, IfOk, OnOk, is_some};
 ghost use Rattle.bplist_cert.specs.Prelude.{IsCertificate, AreWords, octets_of, words, magic};
@@ -6,16 +6,16 @@ ghost use Rattle.bplist_cert.specs.Prelude.{IsCertificate, AreWords, octets_of, 
 use crate::certificate::{Certificate, KeyLists};
 use std::alloc::{AllocError, Global};
 
-/// What the bytes of a version 1 certificate begin with.
+/// The first 8 bytes of a version 1 certificate.
 pub(crate) const PLAIN_MAGIC: [u8; 8] = *b"bplcert1";
 
-/// What the bytes of a version 2 certificate begin with.
+/// The first 8 bytes of a version 2 certificate.
 pub(crate) const KEYED_MAGIC: [u8; 8] = *b"bplcert2";
 
 impl Certificate {
-    /// The bytes of the certificate: the magic of its version, the number of heights in 8 bytes, the
-    /// heights, and in version 2 the starts and the positions, 4 bytes each and greatest byte first.
-    /// The one refusal is that of a growth.
+    /// Returns the bytes of the certificate: the magic of its version, the number of heights in 8 bytes, the heights,
+    /// and in version 2 the starts and the positions. Heights, starts and positions take 4 bytes each. All numbers are
+    /// big-endian. Returns `AllocError` if an allocation was refused, and no other error.
     pub fn to_octets(&self, alloc: Global) -> Result<Vec<u8>, AllocError>
         ensures { IfOk result (λ octets. IsCertificate self.now × (octets.items ≡ octets_of self.now)) }
     {
@@ -31,7 +31,7 @@ impl Certificate {
         Ok(octets)
     }
 
-    /// How many bytes the certificate takes.
+    /// Returns how many bytes the certificate takes.
     fn octet_count(&self) -> usize {
         let words = match &self.keys {
             None => self.heights.len(),
@@ -44,7 +44,6 @@ impl Certificate {
     }
 }
 
-/// The magic of a certificate's version.
 fn magic_of(keys: &Option<KeyLists>) -> [u8; 8]
     ensures { result ≡ magic (is_some keys.now) }
 {
@@ -54,7 +53,7 @@ fn magic_of(keys: &Option<KeyLists>) -> [u8; 8]
     }
 }
 
-/// Puts numbers of 4 bytes each behind the bytes.
+/// Appends numbers of 4 bytes each.
 fn push_words(octets: &mut Vec<u8>, numbers: &[u32]) -> Result<(), AllocError>
     ensures octets { OnOk result (octets.new.items ≡ octets.old.items ++ words numbers.now) }
     ensures words { AreWords numbers.now }

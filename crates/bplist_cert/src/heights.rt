@@ -1,4 +1,4 @@
-//! The heights of references: rules 28 and 29.
+//! Checks the heights of references: rules 28 and 29.
 
 ghost use Rattle.std.specs.Prelude.{◌≡◌, ◌↔◌, ℕ, ◌+◌, ◌≤◌, ◌<◌, length, slice_index, IsTrue, MatchOption};
 ghost use Rattle.bplist_cert.specs.Prelude.{OnlyReads, frame_in, HonestlyIn, IsSafeHead, ref_count, Gives, read_failed, Meets, AreMet, AreMetBy, IsFirstUnmetBy, IsUnmetFault, rule_of};
@@ -7,22 +7,21 @@ use bplist_objects::{
     Fault, Framed, Head, ObjectFault, ObjectNo, Rule, read_refs_in, ref_place, refs_of,
 };
 
-/// How many references are read at once at most: few, as room for a block is cleared for each container.
+/// The most references that are read at once. It is small because the block is cleared for each container.
 const BLOCK: usize = 32;
 
-/// What the height of a reference has to be.
+/// What a reference's height must be.
 #[derive(Clone, Copy, Debug, PartialEq, Eq, Drop)]
 pub(crate) enum Wanted {
-    /// At least 1.
+    /// At least 1 (rule 28).
     Vouched,
-    /// Below that of the object.
+    /// Smaller than this height of the object (rule 29).
     Below(u32),
-    /// Both.
+    /// Both, for a quick check.
     VouchedBelow(u32),
 }
 
 impl Wanted {
-    /// The height is as it is wanted.
     fn meets(self, height: u32) -> bool
         ensures { IsTrue result ↔ Meets self height }
     {
@@ -33,7 +32,7 @@ impl Wanted {
         }
     }
 
-    /// The rule for a height that does not meet this: for both together rule 29, whichever of them is broken.
+    /// Returns the rule that a height breaks if it is not as wanted. For `VouchedBelow` that is always 29.
     fn rule(self) -> Rule
         ensures { result ≡ rule_of self }
     {
@@ -44,7 +43,7 @@ impl Wanted {
     }
 }
 
-/// The height of an object, 0 outside.
+/// Returns the height of an object, or 0 if there is no such object.
 pub(crate) fn height_at(heights: &[u32], n: u64) -> u32
     ensures { result ≡ slice_index heights.now n }
 {
@@ -55,7 +54,8 @@ pub(crate) fn height_at(heights: &[u32], n: u64) -> u32
     }
 }
 
-/// The numbers of at most `n` objects from number `from` on, as far as the list has them: a loop over these tests no bounds.
+/// Returns the entries of at most `n` objects from number `from` on, as far as the list goes. A loop over the result
+/// needs no bounds checks.
 pub(crate) fn block_of(numbers: &[u32], from: u32, n: usize) -> &[u32]
     ensures few { length result.now ≤ n }
     ensures at { (k : ℕ) → k < n → slice_index result.now k ≡ slice_index numbers.now (from + k) }
@@ -65,7 +65,7 @@ pub(crate) fn block_of(numbers: &[u32], from: u32, n: usize) -> &[u32]
     &numbers[start..start + many]
 }
 
-/// The first of these references whose height is not as it is wanted.
+/// Returns the index of the first of these references whose height is not as wanted.
 fn first_unmet_in(heights: &[u32], refs: &[u64], wanted: Wanted) -> Option<usize>
     ensures { MatchOption result (AreMetBy heights.now wanted refs.now (length refs.now))
         (IsFirstUnmetBy heights.now wanted refs.now) }
@@ -78,7 +78,7 @@ fn first_unmet_in(heights: &[u32], refs: &[u64], wanted: Wanted) -> Option<usize
     None
 }
 
-/// Looks for a reference of object `n` whose height is not as it is wanted.
+/// Checks that all references of object `n` have heights as wanted. The fault is at the first that has not.
 pub(crate) fn check_refs<P: Framed>(
     src: &mut P,
     heights: &[u32],

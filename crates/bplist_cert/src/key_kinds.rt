@@ -1,4 +1,4 @@
-//! The keys of dictionaries: rule 21.
+//! Checks that the keys of a dictionary are texts: rule 21.
 
 ghost use Rattle.std.specs.Prelude.{◌≡◌, ◌↔◌, IsTrue, ◌+◌, ◌*◌, ◌<◌, length, IfOk, IfSome, MatchOption, Some, is_err};
 ghost use Rattle.bplist_cert.specs.Prelude.{OnlyReads, frame_in, HonestlyIn, IsSafeHead, Gives, read_failed, KeyKind, Dict, Head as head_record, IsText, KeysAreTexts, IsKeylessFault, AreLow, IsOffsetOf, AreOffsetsOf, ReferToTexts, IsFirstOther};
@@ -9,7 +9,7 @@ use bplist_keys::Offsets;
 use bplist_objects::{Fault, Framed, Head, Kind, ObjectFault, ObjectNo, Rule, ref_place, shape_at};
 use bplist_octets::ReadFault;
 
-/// An object with its head, which is that of a dictionary.
+/// A dictionary: its object and its head.
 #[derive(Clone, Copy, Debug, Drop)]
 pub(crate) struct Dictionary {
     pub n: ObjectNo,
@@ -17,8 +17,8 @@ pub(crate) struct Dictionary {
     pub ghost dict: { head.kind ≡ Dict },
 }
 
-/// Whether object number `m`, which stands at `place`, spells a text. The bytes of an Ascii one that are not known to be low
-/// are read.
+/// Returns whether object `m`, which is at `place`, spells a text. Reads the bytes of an Ascii text unless `low` knows
+/// that they are below 128.
 fn is_text<P: Framed>(
     src: &mut P,
     low: &mut LowBytes,
@@ -45,7 +45,7 @@ fn is_text<P: Framed>(
     }
 }
 
-/// The first of these objects, which stand at these places, that is no text.
+/// Returns the index of the first of these objects that is not a text. `offsets` has their places.
 fn first_other<P: Framed>(
     src: &mut P,
     low: &mut LowBytes,
@@ -67,8 +67,8 @@ fn first_other<P: Framed>(
     Ok(None)
 }
 
-/// Looks for a key of dictionary `n`, whose head this is, that is no text: rule 21. The fault is that of the first such
-/// key, at its reference, counted from the file's first byte. `Read` where a read failed.
+/// Checks rule 21 for dictionary `n`, which has this head. The fault is that of the first key that is not a text, at
+/// its reference, counted from the file's first byte. `Read` if a read failed.
 pub(crate) fn check_texts<P: Offsets>(
     src: &mut P,
     low: &mut LowBytes,
@@ -97,7 +97,7 @@ pub(crate) fn check_texts<P: Offsets>(
     Ok(())
 }
 
-/// The fault of key `i` of dictionary `n`.
+/// Returns the fault of key `i` of this dictionary.
 pub(crate) fn keyless<P: Framed>(src: &P, dict: &Dictionary, i: u64) -> Fault
     requires head { IsSafeHead (frame_in (P.means src.now)) dict.now.head }
     requires within { i < dict.now.head.count }

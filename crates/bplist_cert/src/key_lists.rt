@@ -1,4 +1,4 @@
-//! Whether the key lists of vouched dictionaries have the keys in order, which are texts: rules 21 and 32.
+//! Checks that the key lists of vouched dictionaries have their keys in order: rules 21 and 32.
 
 ghost use Rattle.std.specs.Prelude.{◌≡◌, ◌+◌, ◌≤◌, ◌<◌, ℕ, List, Some, IsTrue, false, IfOk, IfSome, OnOk, MatchOption, ⊤, is_err, length, slice_index};
 ghost use Rattle.bplist_cert.specs.Prelude.{OnlyReads, Gives, Never, read_failed, off, ArePlaces, Frame as frame, frame_in, HonestlyIn, KeepsAll, KeepsByObject, object_rules, IsSafeHead, Head as head, Dict, ref, HasShape, IsTextKind, HasTextShape, lists, IsWhole, list_of, HasOrder, AreInOrder, HasGoodKeys, HaveGoodKeys, BreaksKeys, IsFirstKeysFault, AreFewKeys, AreKnown, HaveTextShapes, Follows, IsReadKey, IsSafeKey, IsSafeText, KeepBeforeKeysBelow, IsListed, HaveGoodLists, AreLearnt, IsVouchedBy};
@@ -14,17 +14,17 @@ use bplist_keys::{Offsets, object_shape, object_text};
 use bplist_objects::{Framed, Head, Kind, ObjectFault, ObjectNo, read_refs_in, ref_at, shape_in};
 use bplist_octets::ReadFault;
 
-/// Up to so many keys are read at once. Most dictionaries have no more.
+/// The most keys that are read at once. Most dictionaries have no more.
 const FEW: usize = 32;
 
-/// A key that was looked at: its object, and its head where that was read.
+/// A key that was looked at: its object, and its head if that was read.
 #[derive(Clone, Copy, Debug)]
 struct ReadKey {
     object: u32,
     head: Option<Head>,
 }
 
-/// The head of a key, where its marker and count are those of a text. It is not read a second time.
+/// Returns the head of a key if its marker and count are those of a text. A head that is known is not read again.
 fn head_of<P: Offsets>(src: &mut P, key: &ReadKey) -> Result<Option<Head>, ReadFault>
     requires { IsSafeKey (P.means src.old) key.now }
     ensures reads { OnlyReads (is_err result) (P.means src.old) (P.means src.new) }
@@ -38,7 +38,7 @@ fn head_of<P: Offsets>(src: &mut P, key: &ReadKey) -> Result<Option<Head>, ReadF
     }
 }
 
-/// Object `m` as a key, where it is a text by marker and count, and comes after the key before it, if there is one.
+/// Returns object `m` as a key, if it is a text by marker and count and comes after the key before it, if there is one.
 fn follows<P: Offsets>(
     src: &mut P,
     before: &Option<ReadKey>,
@@ -84,7 +84,7 @@ fn follows<P: Offsets>(
     }))
 }
 
-/// Reads the references to the keys of a dictionary where they are few.
+/// Reads the references to the keys of a dictionary, if they are few.
 fn read_few<P: Offsets>(
     src: &mut P,
     dict: &Dictionary,
@@ -100,8 +100,8 @@ fn read_few<P: Offsets>(
     read_refs_in(src, &dict.head, 0, &mut into[..dict.head.count as usize])
 }
 
-/// The object that the key at a position of a dictionary names, where there are such a key and such an object. Its number is among
-/// these where the keys are few.
+/// Returns the object that the key at this position of a dictionary names, if there are such a key and such an object.
+/// If the keys are few, `few` already has its number.
 fn key_at<P: Offsets>(
     src: &mut P,
     dict: &Dictionary,
@@ -130,7 +130,7 @@ fn key_at<P: Offsets>(
     Ok(Some(m as u32))
 }
 
-/// Whether the keys at the positions of a key list are texts by marker and count that ascend.
+/// Returns whether the keys of a key list are texts by marker and count, in ascending order.
 fn is_ascending<P: Offsets>(
     src: &mut P,
     dict: &Dictionary,
@@ -159,7 +159,7 @@ fn is_ascending<P: Offsets>(
     Ok(true)
 }
 
-/// The key list of dictionary `n`, of so many positions, where it is wholly there.
+/// Returns the key list of dictionary `n` with `count` pairs, if it is complete.
 fn key_list(keys: &KeyLists, n: u32, count: u64) -> Option<&[u32]>
     ensures { MatchOption result ⊤ (λ list. IsWhole keys.now n count × (list.now ≡ list_of keys.now n count) × (length list.now ≡ count)) }
 {
@@ -170,17 +170,17 @@ fn key_list(keys: &KeyLists, n: u32, count: u64) -> Option<&[u32]>
     Some(part_of(&keys.positions, start as usize, count as usize))
 }
 
-/// What the keys of key lists are looked up in, and what a walk over the vouched objects finds of the lists.
+/// The caches that keys are looked up in, and what a walk over the vouched objects found about the key lists.
 #[derive(Drop)]
 pub(crate) struct ListLook {
     pub pairs: OrderedPairs,
     pub low: LowBytes,
-    /// The key lists that the walk came by are good.
+    /// Whether all key lists that the walk has seen so far are good.
     pub good: bool,
 }
 
 impl ListLook {
-    /// No key list was looked at yet, of a file of so many bytes.
+    /// Before the walk, for a file of `len` bytes.
     pub(crate) fn new(len: u64) -> ListLook
         ensures { (f : List ℕ) (F : frame) → AreLearnt f F result }
     {
@@ -192,7 +192,7 @@ impl ListLook {
     }
 }
 
-/// Whether the key list of a dictionary has its keys in order, which are texts by marker and count then.
+/// Returns whether the key list of a dictionary is in order, with keys that are texts by marker and count.
 fn has_good_list<P: Offsets>(
     src: &mut P,
     keys: &KeyLists,
@@ -211,8 +211,8 @@ fn has_good_list<P: Offsets>(
     }
 }
 
-/// Looks at the keys of vouched object `n` and at its key list, where it is a dictionary. Where all vouched objects were seen, keys
-/// that are texts by marker and count are texts.
+/// Checks the keys and the key list of vouched object `n`, if it is a dictionary. If all vouched objects were seen, a
+/// key that is a text by marker and count is a text.
 fn check_dict_order<P: Offsets>(
     src: &mut P,
     seen: &VouchedPrefix,
@@ -246,8 +246,8 @@ fn check_dict_order<P: Offsets>(
     check_order(src, keys, &dict, &mut look.pairs.runs)
 }
 
-/// Whether an object of this height may have keys, or a key list without keys that starts behind all of so many positions. An
-/// object of height 1 has no references.
+/// Returns whether this object needs a look: it may be a dictionary with keys, or its (empty) key list starts past the
+/// end of `positions`. An object of height 1 has no references.
 fn may_be_wrong(height: u32, start: u32, positions: usize) -> bool
     ensures vouched { IsTrue result → 1 ≤ height }
     ensures none { result ≡ false → 1 ≤ height → (height ≤ 1) × (start ≤ positions) }
@@ -258,8 +258,8 @@ fn may_be_wrong(height: u32, start: u32, positions: usize) -> bool
     start as usize > positions
 }
 
-/// Whether object `n`, which stands at `place`, has its keys in order in its key list, where it is a dictionary. Not inlined,
-/// so that the loop over leaves stays in registers.
+/// Returns whether object `n`, which is at `place`, has a good key list, or is not a dictionary. Not inlined, so that
+/// the loop over leaves stays in registers.
 #[inline(never)]
 fn is_listed<P: Offsets>(
     src: &mut P,
@@ -284,8 +284,8 @@ fn is_listed<P: Offsets>(
     }
 }
 
-/// Looks at the key lists of the vouched dictionaries among the objects after those that were seen, which stand at these places,
-/// up to the first that is not good. Not inlined either, for the loop over all objects.
+/// Checks the key lists of the vouched dictionaries among the next objects, which are at these places, up to the first
+/// bad list. Not inlined, so that the loop over all objects stays in registers.
 #[inline(never)]
 pub(crate) fn look_at_lists<P: Offsets>(
     src: &mut P,
@@ -303,7 +303,7 @@ pub(crate) fn look_at_lists<P: Offsets>(
 {
     let heights = block_of(seen.heights, seen.bound, places.len());
     let starts = block_of(&keys.starts, seen.bound, places.len());
-    // Certificates have a start for each height: to know it here spares the loop a test of bounds.
+    // A certificate has one start for each height. To say so here saves the loop its bounds checks.
     look.good = look.good && starts.len() == heights.len();
     if !look.good {
         return Ok(());
@@ -322,8 +322,8 @@ pub(crate) fn look_at_lists<P: Offsets>(
     Ok(())
 }
 
-/// Looks at the keys of the vouched dictionaries that were seen: they are texts, and the key lists have them in order. Where
-/// all vouched objects were seen, a walk that found all lists good has shown it.
+/// Checks that the keys of the vouched dictionaries seen so far are texts, and that the key lists have them in order.
+/// If all vouched objects were seen and the walk found all lists good, there is nothing left to check.
 pub(crate) fn check_key_orders<P: Offsets>(
     src: &mut P,
     seen: &VouchedPrefix,

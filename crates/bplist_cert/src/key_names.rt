@@ -1,4 +1,4 @@
-//! The objects that the vouched dictionaries name as keys.
+//! Collects the objects that vouched dictionaries name as keys.
 
 ghost use Rattle.std.specs.Prelude.{◌≡◌, ◌⊎◌, ◌+◌, ◌<◌, ◌≤◌, ℕ, None, IfOk, IfSome, OnOk, length};
 ghost use Rattle.bplist_cert.specs.Prelude.{OnlyReads, Gives, Never, read_failed, off, frame_in, HonestlyIn, KeepsAll, KeepsByObject, object_rules, HasNamedKeys, HaveNamedKeys, IsKeyOf, IsVouchedKey, ArePlaces, IsMarked, IsVouchedBy, KeepBeforeKeysBelow, Judges, refused_read};
@@ -9,10 +9,10 @@ use bplist_keys::{NamedKeys, name_keys};
 use bplist_objects::{Framed, Kind, ObjectFault, ObjectNo, read_offsets_in, shape_in};
 use std::alloc::Global;
 
-/// How many entries of the offset table are read at once at most.
+/// The most entries of the offset table that are read at once.
 const BLOCK: usize = 512;
 
-/// Names the keys of object `n`, which stands at `place`, where it is a dictionary. Not inlined, so that the loop over leaves
+/// Names the keys of object `n`, which is at `place`, if it is a dictionary. Not inlined, so that the loop over leaves
 /// stays in registers.
 #[inline(never)]
 fn name_object<P: Framed>(
@@ -37,8 +37,8 @@ fn name_object<P: Framed>(
     }
 }
 
-/// Names the keys of the vouched dictionaries among the objects from number `from` on, which stand at these places. An object
-/// of height 1 has no references.
+/// Names the keys of the vouched dictionaries among the objects from number `from` on, which are at these places. Skips
+/// objects of height 1, which have no references.
 pub(crate) fn name_block<P: Framed>(
     src: &mut P,
     heights: &[u32],
@@ -65,7 +65,7 @@ pub(crate) fn name_block<P: Framed>(
     Ok(())
 }
 
-/// The objects that the vouched dictionaries below `bound` name as keys. They are given, with a mark for each object, or found.
+/// Returns the objects that the vouched dictionaries below `bound` name as keys: those given, or else found by a walk.
 pub(crate) fn seen_keys<P: Framed>(
     alloc: Global,
     src: &mut P,
@@ -101,7 +101,7 @@ pub(crate) fn seen_keys<P: Framed>(
     Ok(named)
 }
 
-/// The objects that the vouched dictionaries name as keys, and no others.
+/// Returns exactly the objects that the vouched dictionaries name as keys.
 pub fn vouched_keys<P: Framed>(
     alloc: Global,
     src: &mut P,

@@ -1,7 +1,7 @@
-//! Key references, read ahead with the places of the objects that they name.
+//! Reads key references ahead, with the places of the objects that they name.
 //!
-//! The references, the offset table and the objects lie far from each other in a file. A source with one
-//! window reads each of them forward where they are read in turns, and not for one key after the other.
+//! References, offset table and objects are far apart in a file. A source with one window reads each of them forward if
+//! they are read in blocks, but not if each key reads all three in turn.
 
 ghost use Rattle.std.specs.Prelude.{◌≡◌, ◌+◌, ◌≤◌, length, OnOk, is_err};
 ghost use Rattle.bplist_cert.specs.Prelude.{OnlyReads, frame_in, HonestlyIn, IsSafeHead, ref_count, AreOffsetsOf, AreRefs};
@@ -10,11 +10,11 @@ use bplist_keys::Offsets;
 use bplist_objects::{Framed, Head, read_refs};
 use bplist_octets::ReadFault;
 
-/// How many keys are read ahead at most.
+/// The most keys that are read ahead.
 pub(crate) const BLOCK: usize = 256;
 
-/// Fills `refs` with the numbers of references from number `from` on, and `found` with the places of the
-/// objects that they name, and 0 for a number that names no object. The frame is copied once for all of them.
+/// Fills `refs` with the references from number `from` on, and `found` with the places of the objects that they name,
+/// or 0 for a number that names no object. Copies the frame once for all of them.
 pub(crate) fn read_ahead<P: Offsets>(
     src: &mut P,
     head: &Head,

@@ -1,4 +1,4 @@
-//! Whether the keys of vouched dictionaries are texts that differ, by the classes of the texts: rules 21 and 22.
+//! Checks that the keys of vouched dictionaries are texts that differ, by the classes of the texts: rules 21 and 22.
 
 ghost use Rattle.std.specs.Prelude.{◌≡◌, ◌<◌, None, IfOk, IfSome, length};
 ghost use Rattle.bplist_cert.specs.Prelude.{OnlyReads, frame_in, HonestlyIn, HasHead, Head as head, Dict, HaveNamedKeys, AreClassed, IsStamped, IsNew, AreClasses, failed_to_read, lists, KeepBeforeKeysBelow, AreLow, IsVouchedBy, HasGoodKeys, HaveGoodKeys, BreaksKeys, IsFirstKeysFault, Judges, refused_read};
@@ -17,18 +17,18 @@ use bplist_objects::{Fault, Framed, Head, Kind, ObjectNo, Rule, ref_place};
 use bplist_octets::ReadFault;
 use std::alloc::Global;
 
-/// A table of all places is worth its memory where one or more in so many objects is a key.
+/// A table of all places is worth its memory if at least one object in this many is a key.
 const OBJECTS_FOR_A_KEY: u32 = 16;
 
-/// What keys are looked up in.
+/// The tables that keys are looked up in.
 #[derive(Drop)]
 struct ClassLook {
     table: ClassTable,
     low: LowBytes,
 }
 
-/// The classes of the keys. Where not all vouched objects were seen the texts may lie in one another: then they are not read
-/// one by one, but compared.
+/// Returns the classes of the keys. If not all vouched objects were seen, texts may overlap; they are then compared
+/// with each other and not read one by one.
 fn key_classes<P: Offsets>(
     alloc: Global,
     src: &mut P,
@@ -46,9 +46,9 @@ fn key_classes<P: Offsets>(
     ranks_of(alloc, src, named)
 }
 
-/// Looks at the keys of vouched object `n`, where it is a dictionary, by their classes: these show the first key that is no text
-/// by its marker and count, or else the first with the units of an earlier one. Where all vouched objects were seen they tell
-/// whether the keys are texts.
+/// Checks the keys of vouched object `n` by their classes, if it is a dictionary. The fault is that of the first key
+/// that is not a text, or else that of the first key with the units of an earlier one. If all vouched objects were
+/// seen, a key that is a text by marker and count is a text, so the classes alone show that the keys are good.
 fn check_dict_repeats<P: Offsets>(
     src: &mut P,
     seen: &VouchedPrefix,
@@ -90,8 +90,7 @@ fn check_dict_repeats<P: Offsets>(
     }
 }
 
-/// Looks at the keys of the vouched dictionaries that were seen, where what they name as keys is named and the places of keys are
-/// given.
+/// Checks the keys of the vouched dictionaries seen so far. Their keys are already named, and the places of keys given.
 fn check_named<P: Offsets>(
     alloc: Global,
     src: &mut P,
@@ -120,10 +119,11 @@ fn check_named<P: Offsets>(
     Ok(())
 }
 
-/// Looks at the keys of the vouched dictionaries that were seen: they are texts that differ. With all vouched objects seen
-/// each text that is named as a key is read once to find its class, and again only where another has the same fingerprint.
-/// Where no object is named as a key, as in a file without dictionaries, neither places nor classes are worth their memory and
-/// their passes over all objects: no dictionary has a key that could be wrong. Where few are, a table of all places is not.
+/// Checks that the keys of the vouched dictionaries seen so far are texts that differ. If all vouched objects were
+/// seen, each named text is read once for its class, and again only if another has the same fingerprint.
+///
+/// Without keys there is nothing to check, so neither classes nor places are read. With few keys, places are read when
+/// they are needed, and not kept in a table.
 pub(crate) fn check_key_repeats<P: Offsets>(
     alloc: Global,
     src: &mut P,

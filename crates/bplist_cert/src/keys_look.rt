@@ -1,4 +1,4 @@
-//! What a walk over the vouched objects finds of the keys of dictionaries.
+//! What the walk over the vouched objects finds out about the keys of dictionaries.
 
 ghost use Rattle.std.specs.Prelude.{◌≡◌, ◌+◌, ◌≤◌, ℕ, List, None, IfOk, IfErr, length};
 ghost use Rattle.bplist_cert.specs.Prelude.{OnlyReads, Gives, Never, read_failed, frame_in, HonestlyIn, Frame as frame, Lists, lists, ArePlaces, KeepBeforeKeysBelow, HaveGoodKeys, IsFirstKeysFault, Judges, MayRefuse, refused_read, AreSeen};
@@ -12,7 +12,7 @@ use bplist_keys::{NamedKeys, Offsets};
 use bplist_objects::{Framed, ObjectFault};
 use std::alloc::{AllocError, Global};
 
-/// The vouched objects with numbers below `bound`, which keep the rules before those of keys, and the key lists beside them.
+/// The vouched objects with numbers below `bound`, all of which keep the rules before those of keys, and the key lists.
 #[derive(Drop)]
 pub(crate) struct VouchedPrefix<'a> {
     pub heights: &'a [u32],
@@ -21,16 +21,16 @@ pub(crate) struct VouchedPrefix<'a> {
     pub ghost within: { bound ≤ length heights.now },
 }
 
-/// What a walk over the vouched objects finds of the keys of dictionaries.
+/// What the walk over the vouched objects has found out about the keys of dictionaries so far.
 #[derive(Drop)]
 pub(crate) struct KeysLook {
-    /// The objects that are named as keys, where they are to be found: for version 1.
+    /// For version 1: the objects that are named as keys, if they are to be collected.
     pub named: Option<NamedKeys>,
-    /// Whether the key lists are good: for version 2.
+    /// For version 2: whether the key lists are good.
     pub lists: ListLook,
 }
 
-/// The look with which a walk begins.
+/// Returns what a walk begins with.
 pub(crate) fn keys_look<P: Framed>(
     alloc: Global,
     src: &P,
@@ -51,7 +51,7 @@ pub(crate) fn keys_look<P: Framed>(
 }
 
 impl KeysLook {
-    /// What was found counts no more, and a walk looks at no keys.
+    /// Drops what was found. After this a walk looks at no keys.
     pub(crate) fn forget(&mut self)
         ensures { (f : List ℕ) (F : frame) (certificate : Lists) (bound : ℕ) → AreSeen f F certificate 0 self.old
             → AreSeen f F certificate bound self.new }
@@ -60,7 +60,7 @@ impl KeysLook {
         self.lists.good = false;
     }
 
-    /// Looks at the keys of the vouched dictionaries among the objects after those that were seen, which stand at these places.
+    /// Looks at the keys of the vouched dictionaries among the next objects, which are at these places.
     pub(crate) fn look<P: Offsets>(
         &mut self,
         src: &mut P,
@@ -83,7 +83,7 @@ impl KeysLook {
         }
     }
 
-    /// Looks at the keys of the vouched dictionaries that were seen, where what was found does not show that they are good.
+    /// Checks the keys of the vouched dictionaries seen so far, unless the walk has already shown that they are good.
     pub(crate) fn check<P: Offsets>(
         &mut self,
         alloc: Global,

@@ -1,9 +1,9 @@
-//! Laws of the definitions: each is the contract of a function that does nothing.
+//! Laws about the definitions in specs/. Each law is the contract of a function that does nothing.
 
 ghost use Rattle.std.specs.Prelude.{◌≡◌, ◌⊎◌, ℕ, ◌<◌, List, length, slice_index, Bool};
 ghost use Rattle.bplist_cert.specs.Prelude.{OnlyReads, Fault as fault, Frame as frame, Head as head, Value, Content, Spells, Holds, Chain, Reach, Refs, Lists, IsCertificate, octets_of, IsVouchedBy, IsValid, HoldsOneValue, SpellsText, IsSorted, IsAccepted, KeysAreTexts, KeysDiffer, AreInOrder, IsPairFault, CheckedFile, meaning_of};
 
-/// Two certificates with the same bytes are the same.
+/// Certificates with the same bytes are the same.
 pub fn one_certificate()
     ensures { (a b : Lists) → IsCertificate a → IsCertificate b → octets_of a ≡ octets_of b → a ≡ b }
 {}
@@ -15,8 +15,8 @@ pub fn vouched_values()
     ensures file { (f : List ℕ) (F : frame) (heights : List ℕ) → IsValid f F heights → HoldsOneValue f }
 {}
 
-/// Under valid heights each object that the top reaches is vouched for and spells a content, its references
-/// are numbers of objects, and no chain of references leads from it to itself.
+/// Under valid heights each object that the top reaches is vouched for and spells a content, its references are numbers
+/// of objects, and no chain of references leads from it back to itself.
 pub fn reached_objects()
     ensures vouched { (f : List ℕ) (F : frame) (heights : List ℕ) → IsValid f F heights → (n : ℕ) → Reach f F n → IsVouchedBy heights n }
     ensures content { (f : List ℕ) (F : frame) (heights : List ℕ) → IsValid f F heights → (n : ℕ) → Reach f F n
@@ -38,30 +38,30 @@ pub fn ordered_keys_differ()
         → KeysDiffer f F h h.count }
 {}
 
-/// A dictionary with one key twice has no key list that is sorted.
+/// A dictionary with a repeated key has no sorted key list.
 pub fn repeated_key_has_no_list()
     ensures { (f : List ℕ) (F : frame) (ks positions : List ℕ) (i j : ℕ) (us : List ℕ) → i < j → j < length ks
         → SpellsText f F (slice_index ks i) us → SpellsText f F (slice_index ks j) us → IsSorted f F ks positions → ⊥ }
 {}
 
-/// Where a fault of a file and a certificate is found the certificate is not one of the file.
+/// If a file and a certificate have a fault, the certificate is not one of the file.
 pub fn pair_fault_excludes()
     ensures { (f : List ℕ) (F : frame) (certificate : Lists) (a : fault) → IsPairFault f certificate a → IsAccepted f F certificate → ⊥ }
 {}
 
-/// The first fault of a file and a certificate is one, with its rule, its object and its place.
+/// A file and a certificate have at most one first fault, with one rule, one object and one place.
 pub fn one_pair_fault()
     ensures { (f : List ℕ) (certificate : Lists) (a b : fault) → IsPairFault f certificate a → IsPairFault f certificate b → a ≡ b }
 {}
 
-/// A file and a certificate have a yes or a first fault. With `pair_fault_excludes` and `one_pair_fault` it is exactly one of
-/// the two.
+/// A file and a certificate have either a yes or a first fault. By `pair_fault_excludes` and `one_pair_fault` they have
+/// exactly one of the two.
 pub fn yes_or_fault()
     ensures { (f : List ℕ) (certificate : Lists) → ((F : frame) × IsAccepted f F certificate)
         ⊎ ((a : fault) × IsPairFault f certificate a) }
 {}
 
-/// A call that only reads a checked file leaves its frame and its certificate, and only reads its source.
+/// A call that only reads a checked file keeps its frame and its certificate, and only reads its source.
 pub fn checked_stays()
     ensures { (failed : Bool) (old new : CheckedFile) → OnlyReads failed (meaning_of old) (meaning_of new)
         → OnlyReads failed old.source new.source × (new.frame ≡ old.frame) × (new.certificate ≡ old.certificate) }

@@ -1,7 +1,8 @@
-//! Certificates of binary property lists, and their check.
+//! Certificates of binary property lists: their bytes, and the check of a certificate against a file. Making a
+//! certificate is in `bplist_lint`; answers about the value of a checked file are in `bplist_cursor`.
 //!
-//! A certificate is a height for each object, and in version 2 the sorted key list of each dictionary. Nothing in it is
-//! trusted.
+//! A certificate gives a height to each object. In version 2 it also has the sorted key list of each dictionary.
+//! Nothing in it is trusted.
 //!
 //! ```
 //! let certificate = Certificate::from_source(alloc, &mut cert)?;   // rules 24 and 25
@@ -11,16 +12,31 @@
 //! }
 //! ```
 //!
-//! | what | calls |
-//! |---|---|
-//! | a certificate, and its bytes | [`Certificate`], [`KeyLists`], `to_octets`, `from_source`, `from_octets`, [`CertRefusal`] |
-//! | the check of a file and a certificate | [`check`], [`Refusal`] |
-//! | a source with the frame and the certificate that fit it | [`Checked`]: `frame`, `height`, `certificate`, `into_parts`, `octets` |
-//! | the objects that dictionaries name as keys, for the linter | [`vouched_keys`] |
+//! A [`Checked`] keeps what the check found: over an honest source its heights are valid, even after it is moved. Two
+//! laws say what follows: each vouched object holds one value ([`vouched_values`]), and its references are vouched for
+//! and lower ([`vouched_references`]).
 //!
-//! The invariant of a `Checked` is what the check found: over an honest source its heights are valid, wherever it is. The laws
-//! say what follows: each vouched object holds one value, and its references are lower (`vouched_values`,
-//! `vouched_references`).
+//! The modules, in reading order:
+//!
+//! | module | what it is about | public items |
+//! |---|---|---|
+//! | certificate | heights and key lists | [`Certificate`], [`KeyLists`], [`CertRefusal`] |
+//! | encoding | a certificate as bytes | `Certificate::to_octets` |
+//! | decoding | a certificate from bytes: rules 24 and 25 | `Certificate::from_source`, `from_octets` |
+//! | checked | a source with a certificate that was accepted | [`Checked`] |
+//! | checker | the check: rules 26, 27 and 31, and the walk over the objects | [`check`] |
+//! | refusal | why the check says no | [`Refusal`] |
+//! | heights | rules 28 and 29 | |
+//! | keys_look | what the walk finds out about keys, and the key rules after it | |
+//! | key_kinds | rule 21 | |
+//! | key_names | the objects that are named as keys | [`vouched_keys`] |
+//! | key_repeats | rules 21 and 22, for version 1 | |
+//! | key_lists | rules 21 and 32, for version 2 | |
+//! | key_order | rule 32, in its exact order | |
+//! | key_offsets | key references, read ahead | |
+//! | key_pairs | a cache of key pairs in order | |
+//! | low_bytes | a cache of stretches of ASCII bytes | |
+//! | laws | laws about the definitions in specs/ | [`one_certificate`], [`yes_or_fault`] and others |
 #![tactic(auto)]
 
 mod certificate;

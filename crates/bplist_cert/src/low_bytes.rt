@@ -1,5 +1,5 @@
-//! Stretches of a file that were found to have only bytes below 128, so that Ascii texts which many dictionaries name, or
-//! which lie in one another, are not read again for rule 18.
+//! A cache of stretches of the file that have only bytes below 128, for rule 18. It saves reading an Ascii text again
+//! if many dictionaries name it, or if texts overlap.
 
 ghost use Rattle.std.specs.Prelude.{◌↔◌, ◌≤◌, ◌<◌, ℕ, List, length, IsTrue, IfOk, is_err};
 ghost use Rattle.bplist_cert.specs.Prelude.{OnlyReads, Honestly, IsLow, AreLow};
@@ -7,25 +7,25 @@ ghost use Rattle.bplist_cert.specs.Prelude.{OnlyReads, Honestly, IsLow, AreLow};
 use bplist_objects::first_high_in;
 use bplist_octets::{ReadFault, Source};
 
-/// How many stretches are kept.
+/// The number of stretches that are kept.
 const SLOTS: usize = 256;
 
-/// The bytes from one place up to before another.
+/// The bytes from place `from` up to, and without, place `to`.
 #[derive(Clone, Copy, Debug)]
 pub(crate) struct Stretch {
     pub from: u64,
     pub to: u64,
 }
 
-/// A stretch for each part of the file: of those that begin in the part the longest, together with what it meets.
+/// One stretch for each part of the file: the longest that begins in that part, joined with those that it meets.
 #[derive(Drop)]
 pub(crate) struct LowBytes {
     pub slots: [Stretch; SLOTS],
-    /// How many bytes a part of the file has, or 0 for one.
+    /// The number of bytes in a part of the file. 0 counts as 1.
     part: u64,
 }
 
-/// One stretch of two: both together where they meet, and else the longer.
+/// Returns one stretch for two: both joined if they meet, else the longer.
 fn joined(known: Stretch, found: Stretch) -> Stretch
     ensures { (f : List ℕ) → IsLow f known.from known.to → IsLow f found.from found.to → IsLow f result.from result.to }
 {
@@ -43,7 +43,7 @@ fn joined(known: Stretch, found: Stretch) -> Stretch
 }
 
 impl LowBytes {
-    /// No stretches yet, for a file of so many bytes.
+    /// Returns an empty cache for a file of `len` bytes.
     pub(crate) fn new(len: u64) -> LowBytes
         ensures { (f : List ℕ) → AreLow f result.slots }
     {
@@ -53,7 +53,7 @@ impl LowBytes {
         }
     }
 
-    /// Whether the bytes from one place up to before another are below 128. Those are read that are not known to be.
+    /// Returns whether all bytes of this stretch are below 128. Reads only those that are not known to be.
     pub(crate) fn covers<S: Source>(
         &mut self,
         src: &mut S,
@@ -66,7 +66,7 @@ impl LowBytes {
         ensures exact { Honestly (S.means src.old) (λ f. AreLow f self.old.slots
             → IfOk result (λ low. AreLow f self.new.slots × (IsTrue low ↔ IsLow f from to))) }
     {
-        // The slot of the part that the first byte lies in.
+        // The slot of the part that the first byte is in.
         let slot = (from / self.part.max(1) % SLOTS as u64) as usize;
         let known = self.slots[slot];
         let begin = known.from.max(from).min(to);

@@ -9,15 +9,15 @@ use bplist_objects::{Fault, ObjectFault};
 use bplist_octets::ReadFault;
 use std::alloc::{AllocError, AllocFailed};
 
-/// Why a call that checks gave no yes, or a call that makes certificates none.
+/// Why a check gave no yes, or why no certificate was made.
 #[derive(Clone, Copy, Debug, PartialEq, Eq, Drop)]
 pub enum Refusal {
-    /// A rule is broken. The place counts from the file's first byte, and for rules 24 to 27 and 32 from the
-    /// certificate's.
+    /// A rule is broken. For rules 24 to 27 and 32 the place counts from the certificate's first byte, else from the
+    /// file's.
     Fault(Fault),
-    /// A read of the source failed, so nothing is said of the rules.
+    /// A read of the source failed, so nothing is known about the rules.
     Read(ReadFault),
-    /// A growth was refused, so nothing is said of the rules.
+    /// An allocation was refused, so nothing is known about the rules.
     Memory,
 }
 

@@ -1,4 +1,4 @@
--- What an accepted certificate and the replies of the top's value say of the file.
+-- What an accepted certificate and the replies of the top's value say about the file.
 use Rattle.std.proofs.Common.{◌≡◌, ℕ, List, map, sym, ◌∙◌, subst}
 use Rattle.bplist_objects.specs.declared.frame.Frame.{Frame}
 use Rattle.bplist_objects.specs.Value.{Value}
@@ -38,7 +38,7 @@ answer_fault_of (refusals.Fault fault) = faults.Fault fault
 answer_fault_of (refusals.Read fault) = faults.Read fault
 answer_fault_of refusals.Memory = faults.Memory
 
--- what holds of the fault of a refusal holds of that of the answer
+-- what is true of the fault of a refusal is true of that of the answer
 pub refused_by : (Q : Fault → Type 0) (refusal : Refusal) → GivesRefusal Q refusal → RefusesBy Q (answer_fault_of refusal)
 refused_by Q (refusals.Fault fault) h = h
 refused_by Q (refusals.Read fault) h = tt

@@ -1,4 +1,4 @@
--- Sizes added along references, by blocks.
+-- Adding up the sizes of references, block by block.
 use Rattle.std.proofs.Common.{◌≡◌, ℕ, suc, ◌+◌, ◌≤◌, ◌<◌, List, length, take, drop, slice_index, Option, Some, None, refl, sym, ap, ◌∙◌, arith}
 use Rattle.std.specs.Prelude.{option_and_then}
 use Rattle.std.proofs.lemmas.List.{take-append-drop, drop-drop, drop_all, ext_get_or}
@@ -16,12 +16,12 @@ use Rattle.bplist_cursor.specs.declared.measures.Size.{Size}
 use Rattle.bplist_cursor.specs.Sizes.{Table, both, size_in, added}
 use Rattle.bplist_cursor.proofs.SizeSteps.{added-append}
 
--- what is nothing that there is is none
+-- an option that is not Some is None
 pub none_of : {X : Type 0} (o : Option X) → ((x : X) → o ≡ Some x → ⊥) → o ≡ None
 none_of None h = refl
 none_of (Some x) h = absurd (h x refl)
 
--- one more
+-- one more object
 pub added_next : (sizes : Table) (total s : Size) (xs : List ℕ) (k : ℕ) → k < length xs → size_in sizes (slice_index xs k) ≡ Some s
     → added sizes (both total s) (drop (k + 1) xs) ≡ added sizes total (drop k xs)
 added_next sizes total s xs k l is =
@@ -29,12 +29,12 @@ added_next sizes total s xs k l is =
     ap (λ n. added sizes (both total s) (drop n xs)) more
     ∙ sym (ap (added sizes total) (drop-cons xs k 0 l) ∙ ap (option_and_then (λ s. added sizes (both total s) (drop (suc k) xs))) is)
 
--- one that the table does not have
+-- an object that the table does not have
 pub added_not : (sizes : Table) (total : Size) (xs : List ℕ) (k : ℕ) → k < length xs → size_in sizes (slice_index xs k) ≡ None → added sizes total (drop k xs) ≡ None
 added_not sizes total xs k l is =
     ap (added sizes total) (drop-cons xs k 0 l) ∙ ap (option_and_then (λ s. added sizes (both total s) (drop (suc k) xs))) is
 
--- a block and what is behind it
+-- a block and the references after it
 block_front : (sizes : Table) (total : Size) (xs block : List ℕ) (from n : ℕ) → block ≡ part xs from n
     → added sizes total (drop from xs) ≡ option_and_then (λ t. added sizes t (drop (from + n) xs)) (added sizes total block)
 block_front sizes total xs block from n is =
@@ -66,7 +66,7 @@ refs_block f F head from block within numbers =
     ∙ sym (nth-refs f F head.kind head.count head.body (from + k) (omega (arith, within, l)))
     ∙ sym (get_or-part xs from (length block) k 0 l))
 
--- nothing is left
+-- nothing is left to add
 pub none_left : (f : List ℕ) (F : Frame) (head : Head) (sizes : Table) (total whole : Size) (done : ℕ) → ref_count head.kind head.count ≤ done
     → added sizes total (drop done (refs (content_at f F head))) ≡ Some whole → total ≡ whole
 none_left f F head sizes total whole done all is =

@@ -22,16 +22,16 @@ cursor_fault_of unread.Changed = faults.Changed
 abbrev pub IsUnread : Unread → Type 0
 IsUnread e = e ≢ unread.Changed
 
--- a failed read or a refused growth, and not Changed
+-- a failed read or refused memory, and not Changed
 abbrev pub IsExcused : CursorFault → Type 0
 IsExcused e = e ≢ faults.Changed
 
--- without a fault it is a failed read
+-- if there is no fault, it is a failed read
 pub unread_never : (e : ObjectFault) → GivesFault Never e → IsUnread (unread_of e)
 unread_never (errors.Fault x) h = absurd h
 unread_never (errors.Read x) h = λ is. cc is
 
--- what is not Changed to an inner call is not Changed to a caller
+-- an error of an inner call that is not Changed is not Changed for the caller either
 pub unread_excused : (e : Unread) → IsUnread e → IsExcused (cursor_fault_of e)
 unread_excused (unread.Read x) h = λ is. cc is
 unread_excused unread.Changed h = absurd (h refl)

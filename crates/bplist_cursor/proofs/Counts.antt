@@ -10,7 +10,7 @@ use Rattle.bplist_objects.proofs.Bounds.{frame_safe, shape_safe, refs_within}
 use Rattle.bplist_objects.proofs.References.{length-refs}
 use Rattle.bplist_objects.proofs.FrameTies.{numbered}
 
--- fewer than 64 bits count
+-- the count is below 2^64
 pub few_refs : (f : List ℕ) (F : Frame) → IsFrame f F → (n : ℕ) (c : Content) → Spells f F n c → length (refs c) < 2 ^ 64
 few_refs f F is n c sp =
     let large = (numbered is).large in

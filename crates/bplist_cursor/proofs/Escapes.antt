@@ -24,7 +24,7 @@ closed-append [] ys p q rest k low loose = q rest k low loose
 closed-append (x ∷ xs) ys p q rest zero low loose = p (ys ++ rest) 0 (omega arith) (subst IsLoose (ap (λ l. x ∷ l) (append_assoc xs ys rest)) loose)
 closed-append (x ∷ xs) ys p q rest (suc k) low loose = closed-append xs ys (λ r j l. p r (suc j) (omega (arith, l))) q rest k (omega (arith, low)) loose
 
--- a `~` with `0` or `1` behind it
+-- a `~` followed by `0` or `1` is not loose
 pub closed_pair : (d : ℕ) (xs : List ℕ) → (d ≡ 0x30) ⊎ (d ≡ 0x31) → IsClosed xs → IsClosed (0x7E ∷ d ∷ xs)
 closed_pair d xs is closed rest zero low loose = elim is [ inl p ↦ loose.1 (ap Some p) | inr p ↦ loose.2 (ap Some p) ]
 closed_pair d xs is closed rest (suc k) low loose =
@@ -69,17 +69,17 @@ written_not_loose cs k tokens loose is =
     closed_written tokens [] closed-nil [] k (omega (arith, low, long))
     (subst (λ xs. IsLoose (drop k xs)) (all ∙ sym (append-nil (written tokens ++ []))) loose)
 
--- and is not wrong
+-- a path text is not wrong
 pub written_not_wrong : (cs : List ℕ) (k : ℕ) (tokens : List (List ℕ)) → IsWrong cs k → cs ≡ written tokens → ⊥
 written_not_wrong cs k [] (inl other) is = let long = ap length is in omega (arith, long, other.1)
 written_not_wrong cs k (t ∷ ts) (inl other) is = other.2 (ap (λ xs. slice_get xs 0) is)
 written_not_wrong cs k tokens (inr loose) is = written_not_loose cs k tokens loose is
 
--- so it spells no steps
+-- a wrong text spells no steps
 pub wrong_no_path : (text : List ℕ) (k : ℕ) → IsWrong (chars text) k → (steps : List (List ℕ)) → ¬ IsPathOf text steps
 wrong_no_path text k wrong steps (tokens, spelled, _) = written_not_wrong (chars text) k tokens wrong spelled
 
--- a loose `~` behind what has none, in characters that begin with `/`
+-- a loose `~` after characters without one that begin with `/`
 pub first_wrong : (text front tail rest : List ℕ) → chars text ≡ front ++ tail → chars text ≡ 0x2F ∷ rest → IsClosed front → IsLoose tail → IsNoPath text (length (encode_utf8_all front))
 first_wrong text front tail rest is begins closed loose =
     let wrong : IsWrong (chars text) (length front) = inr (subst IsLoose (sym (ap (drop (length front)) is ∙ drop-append_seam front tail)) loose) in

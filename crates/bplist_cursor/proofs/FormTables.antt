@@ -1,4 +1,4 @@
--- A table over the objects, in which each has the form that those of its references make, has the forms of the values.
+-- If a table gives each object the form that its references' forms make, it has the forms of the values.
 use Rattle.std.proofs.Common.{◌≡◌, ℕ, List, [], ◌∷◌, ◌++◌, Option, Some, None, refl, ap, ◌∙◌, arith, length}
 use Rattle.std.specs.Prelude.{option_map, option_and_then}
 use Rattle.std.specs.List.{AllByRecursion}
@@ -16,7 +16,7 @@ use Rattle.bplist_cursor.specs.Texts.{text_of_units}
 use Rattle.bplist_cursor.specs.OldStyle.{comma, value_text, members_text, pairs_text}
 use Rattle.bplist_cursor.specs.Forms.{form_of_text, form_of, joined, form_at, comma_length, members_form, pairs_form, content_form, Formed}
 
--- two bytes round a text
+-- a text between two bytes
 enclosed : (front back : ℕ) (o : Option (List ℕ)) → joined (Length 2) (form_of_text o) ≡ form_of_text (option_map (λ t. front ∷ (t ++ back ∷ [])) o)
 enclosed front back None = refl
 enclosed front back (Some t) = ap Length (omega (arith, length-append t (back ∷ [])))

@@ -13,7 +13,7 @@ map_none : {X Y : Type 0} (g : X → Y) (o : Option X) → option_map g o ≡ No
 map_none g None e = refl
 map_none g (Some x) e = cc
 
--- what is said of the one case or of the other, where it is known which
+-- a claim by two cases, if it is known which case it is
 at_none : (A : Type 0) (B : List ℕ → Type 0) (o : Option (List ℕ)) → o ≡ None → A → MatchOption o A B
 at_none A B None e a = a
 at_none A B (Some t) e a = cc
@@ -88,7 +88,7 @@ module _ (f : List ℕ) (F : Frame) where
         go (Some t) here later p q = later p q
 
   mutual
-    -- where a held value has no text there is one
+    -- if a held value has no text, there is such an object
     pub some_formless : (v : Value) (n : ℕ) → Holds f F n v → value_text v ≡ None → (x : ℕ) × IsFormless f F n v x
     some_formless (leaf l) n h e = (n, (e, refl))
     some_formless (array vs) n h e = let r = some_member vs h.0 h.2 (map_none _ _ e) in (r.0, (h.0, h.1, r.1))

@@ -1,4 +1,4 @@
--- What the certificate of a checked file says of what a path leads to.
+-- What the certificate of a checked file says about the object that a path leads to.
 use Rattle.std.proofs.Common.{arith, ◌≡◌, ◌<◌, ◌+◌, ℕ, zero, suc, List, [], ◌∷◌, length, map, drop, slice_index_or, Result, Ok, Err, refl, sym, ap, ◌∙◌, subst, IsTrue, Contains, true, false}
 use Rattle.std.proofs.Props.{props}
 use Rattle.std.proofs.lemmas.Grind.{not_there}
@@ -29,7 +29,7 @@ use Rattle.bplist_cursor.proofs.IndexSteps.{halvings_here}
 use Rattle.bplist_cursor.proofs.StepObjects.{leads_held}
 use Rattle.bplist_cursor.proofs.StepReferences.{taken_there}
 
--- what follows where there is a value, or else where there is none
+-- what follows from a value, or from none
 abbrev pub on_either : {T E R : Type 0} → Result T E → (T → R) → (E → R) → R
 on_either r go stop = elim r [ Ok v ↦ go v | Err e ↦ stop e ]
 
@@ -43,7 +43,7 @@ drop_all units [] = refl
 drop_all units (x ∷ xs) = drop_all units xs
 
 module _ (checked : CheckedFile) where
-  -- after k steps, with so many comparisons made since: at object n
+  -- after k steps and this many comparisons the walk is at object n
   pub record Along (v : Value) (steps : List (List ℕ)) (k n before comparisons : ℕ) : Type 0 where
     pub value : Value
     pub led : look k value (drop k steps) ≡ look 0 v steps
@@ -68,11 +68,11 @@ module _ (checked : CheckedFile) (is : IsChecked checked) (honest : IsTrue check
   pub top_vouched : IsVouchedBy heights F.top.0
   top_vouched = ∥∥₁_elim valid (hlevel props) (λ p. p.top)
 
-  -- and so is each object that one that is vouched for refers to
+  -- each object that a vouched object refers to is vouched for
   pub lower_vouched : (n m : ℕ) (content : Content) → IsVouchedBy heights n → Spells f F n content → Contains (refs content) m → IsVouchedBy heights m
   lower_vouched n m content vouched s c = ∥∥₁_elim valid (hlevel props) (λ p. (references_lower f F heights p n m vouched (content, s, c)).0)
 
-  -- it holds a value
+  -- a vouched object holds a value
   pub value_there : (n : ℕ) → IsVouchedBy heights n → ∥ ((v : Value) × Holds f F n v) ∥₁
   value_there n vouched = ∥∥₁_map valid (λ p. let h = object_holds f F heights p n vouched in (h.0, h.1))
 
@@ -127,15 +127,15 @@ module _ (checked : CheckedFile) (is : IsChecked checked) (honest : IsTrue check
         (q.0, ap (λ x. on_either x (λ w. look 1 w []) (λ why. Err (0, why))) q.1, q.2),
       )
 
-  -- why nothing was read, where the answer for any value of the object says it
+  -- the reason why nothing was read is right if it is right for any value of the object
   pub unread_for : (n : ℕ) → IsVouchedBy heights n → (e : Unread) → ((v : Value) → Holds f F n v → IsUnread e) → IsUnread e
   unread_for n vouched e h = λ is. not_there (value_there n vouched) (λ p. h p.0 p.1 is)
 
-  -- and why there is no answer
+  -- the reason why there is no answer is right in the same way
   pub excused_for : (n : ℕ) → IsVouchedBy heights n → (e : CursorFault) → ((v : Value) → Holds f F n v → IsExcused e) → IsExcused e
   excused_for n vouched e h = λ is. not_there (value_there n vouched) (λ p. h p.0 p.1 is)
 
-  -- what holds of the answer for any value of the object holds of it without one
+  -- what is true of the answer for any value of the object is true of it without a value
   pub quiet : (n : ℕ) → IsVouchedBy heights n → {X : Type 0} (P : Value → X → Type 0) (r : Result X CursorFault)
       → ((v : Value) → Holds f F n v → GivesCursor (P v) r) → GivesCursor (λ _. ⊤) r
   quiet n vouched P (Ok x) h = tt

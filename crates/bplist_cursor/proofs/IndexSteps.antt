@@ -20,7 +20,7 @@ use Rattle.bplist_cursor.specs.declared.path_step.RefIndex.TheVariants as ref_in
 use Rattle.bplist_cursor.proofs.Counts.{pair_counts}
 use Rattle.bplist_cursor.proofs.Keys.{value_ref}
 
--- so many comparisons suffice for a step at this value
+-- this many comparisons are enough for a step at this value
 abbrev pub halvings_here : Value → ℕ
 halvings_here v = elim v [ dict ps ↦ digits_2 (length (keys ps)) | _ ↦ 0 ]
 
@@ -72,7 +72,7 @@ module _ (f : List ℕ) (F : Frame) where
       let n = length-nums_at f head.body F.ref_size head.count in
       subst (λ x. ((m : ℕ) → IsTaken f F x s m → ⊥) × (why.NoIndex ≡ why_of x)) (array_is h head d e) (λ m q. none q.0 (omega (arith, n, q.1)) q.2, refl)
 
-  -- so many comparisons suffice for the value as for the head
+  -- the bound on comparisons is the same for the value and for the head
   pub same_halvings : (v : Value) (n : ℕ) (head : Head) → Holds f F n v → ((content : H.Content) → Spells f F n content → content ≡ H.content_at f F head) → halvings_of head.kind head.count ≡ halvings_here v
   same_halvings (leaf l) n head o e = leaf_halvings head.kind head.count head.body l (e _ o)
     where

@@ -1,4 +1,4 @@
--- What a value replies to a query for its keys, by the head of an object that holds it.
+-- What a value replies to a query for its keys, by the head of the object that holds it.
 use Rattle.std.proofs.Common.{Ok, ◌≡◌, ℕ, List, [], ◌∷◌, refl, ap, ◌∙◌}
 use Rattle.std.specs.List.{AllZip}
 use Rattle.bplist_objects.specs.declared.frame.Frame.{Frame}
@@ -14,7 +14,7 @@ use Rattle.bplist_cursor.specs.declared.reply.Reply.TheVariants as replies
 use Rattle.bplist_cursor.specs.declared.reply.Query.{Query}
 use Rattle.bplist_cursor.specs.declared.reply.Query.TheVariants as queries
 use Rattle.bplist_cursor.specs.Look.{look}
-use Rattle.bplist_cursor.specs.Replies.{reply, keys_reply}
+use Rattle.bplist_cursor.specs.Replies.{reply, told_of, keys_reply}
 use Rattle.bplist_cursor.specs.Queries.{steps_in, reply_at}
 
 module _ (f : List ℕ) (F : Frame) where
@@ -55,6 +55,6 @@ module _ (f : List ℕ) (F : Frame) where
 
 -- the reply of a value is that of what the query's path leads to
 pub reply_found : (v w : Value) (query : Query) → look 0 v (steps_in query) ≡ Ok w → reply v query ≡ reply_at w query
-reply_found v w (queries.Get steps) e = rw (e, reply) refl
-reply_found v w (queries.Keys steps) e = rw (e, reply) refl
-reply_found v w (queries.Size steps) e = rw (e, reply) refl
+reply_found v w (queries.Get steps) e = rw (e, reply, told_of) refl
+reply_found v w (queries.Keys steps) e = rw (e, reply, told_of) refl
+reply_found v w (queries.Size steps) e = rw (e, reply, told_of) refl

@@ -36,11 +36,11 @@ told_equal Greater us vs b e is = (λ t. cc (t, is), λ same. let self = (compar
 pub ref : (ks ms : List ℕ) (i : ℕ) → i < length ks → slice_index (refs (dict ks ms)) i ≡ slice_index ks i
 ref ks ms i l = get_or_append_left ks ms 0 i l
 
--- and behind the keys reference i is value i
+-- after the keys, reference i is value i
 pub value_ref : (ks ms : List ℕ) (c i : ℕ) → length ks ≡ c → slice_index (refs (dict ks ms)) (c + i) ≡ slice_index ms i
 value_ref ks ms c i e = let at : (c + i) - c ≡ i = omega arith in get_or-append_right ks ms c (c + i) 0 e (omega arith) ∙ ap (slice_index ms) at
 
--- number j of a part of the positions
+-- item j of a part of the positions
 pub list_at : (positions : List ℕ) (start count j : ℕ) → j < count → slice_index (part positions start count) j ≡ slice_index positions (start + j)
 list_at positions start count j l = get_or-part positions start count j 0 l
 
@@ -50,7 +50,7 @@ module _ (f : List ℕ) (F : Frame) where
   dict_counts head ks ms e = as_many f F head.kind head.count head.body ks ms e
 
   module _ (ks list units : List ℕ) where
-    -- before low the keys of the list lie below the units, and from high on above
+    -- the keys of the list before `low` are less than the units, and those from `high` on are greater
     pub record Searching (low high : ℕ) : Type 0 where
       pub below : (j : ℕ) → j < low → (us : List ℕ) → Spells f F (slice_index ks (slice_index list j)) (leaf (text us)) → compare_units us units ≡ Less
       pub above : (j : ℕ) → high ≤ j → j < length ks → (us : List ℕ) → Spells f F (slice_index ks (slice_index list j)) (leaf (text us)) → compare_units us units ≡ Greater
@@ -97,7 +97,7 @@ module _ (f : List ℕ) (F : Frame) where
         compare_units-not_less ta.0 ta.0 refl (is.ascend a b before within ta.0 ta.0 ta.1 tb))
         i l
 
-    -- where nothing is left no key has the units
+    -- if no key is left to compare, no key has the units
     pub none_left : IsKeyList f F ks list → SpellTexts f F ks → (low high : ℕ) → Searching low high → high ≤ low
         → (i : ℕ) → i < length ks → Spells f F (slice_index ks i) (leaf (text units)) → ⊥
     none_left is texts low high searching done i l s =
@@ -114,7 +114,7 @@ module _ (f : List ℕ) (F : Frame) where
     pub position_below : slice_index positions (start + middle) < length ks
     position_below = subst (λ i. i < length ks) (list_at positions start (length ks) middle within) (list.within middle within)
 
-    -- what the comparison with the key in the middle said
+    -- what the comparison with the middle key shows
     pub compared_text : (units : List ℕ) (found : ℕ × Ordering) → SpellTexts f F ks → IsCompared f F ks (slice_index positions (start + middle)) units found
         → (us : List ℕ) × Spells f F (slice_index ks (slice_index (part positions start (length ks)) middle)) (leaf (text us)) × (found.1 ≡ compare_units us units)
     compared_text units found texts told =

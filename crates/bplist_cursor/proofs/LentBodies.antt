@@ -23,7 +23,7 @@ use Rattle.bplist_cursor.specs.LentBodies.{SpellsBytes}
 abbrev IsByteKind : Kind → Type 0
 IsByteKind kind = (kind ≡ kinds.Bytes) ⊎ (kind ≡ kinds.Ascii)
 
--- without a failed read and without a fault there is an answer
+-- if no read failed and there is no fault, there is an answer
 pub no_error : {X : Type 0} (P : X → Type 0) (r : Result X ObjectFault) → read_failed r ≡ false → Gives P Never r → ((x : X) → r ≡ Ok x → ⊥) → ⊥
 no_error P (Ok x) read given none = none x refl
 no_error P (Err (errors.Fault x)) read given none = given

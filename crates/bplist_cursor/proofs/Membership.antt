@@ -53,7 +53,7 @@ none_in_turn (k ∷ ks) (m ∷ ms) (suc zero) same l = absurd (omega (arith, l))
 none_in_turn (k ∷ ks) (m ∷ ms) (suc (suc i)) same l = none_in_turn ks ms i (omega (arith, same)) (omega (arith, l))
 
 module _ (f : List ℕ) (F : Frame) where
-  -- the number of a member, in a container of references one by one
+  -- the number of a member in an array or a set
   in_order : (xs : List ℕ) (count i k : ℕ) → length xs ≡ count → i < count → k ≡ i → slice_get xs i ≡ Some (slice_index xs k)
   in_order xs count i k len l e = slice_get-get_or xs i 0 (omega (arith, len, l)) ∙ ap (λ n. Some (slice_index xs n)) (sym e)
 
@@ -85,7 +85,7 @@ module _ (f : List ℕ) (F : Frame) where
       (length-nums_at f body F.ref_size count) (length-nums_at f (body + count * F.ref_size) F.ref_size count) l number
   reference_of_number _ count body i k l e = absurd (omega (arith, l))
 
-  -- from the end on there is none
+  -- from the end on there is no reference
   no_reference : (kind : Kind) (count body i : ℕ) → ref_count kind count ≤ i → member_reference (content_of f F kind count body) i ≡ None
   no_reference kinds.Array count body i l = slice_get_past (nums_at f body F.ref_size count) i (let n = length-nums_at f body F.ref_size count in omega (arith, n, l))
   no_reference kinds.Set count body i l = slice_get_past (nums_at f body F.ref_size count) i (let n = length-nums_at f body F.ref_size count in omega (arith, n, l))
@@ -109,7 +109,7 @@ module _ (f : List ℕ) (F : Frame) where
     pub number_below : (k : ℕ) → k < ref_count kind count → k < length (refs content)
     number_below k l = let n = ap (λ c. length (refs c)) same ∙ length-refs f F kind count body in omega (arith, n, l)
 
-  -- at an object with references one by one, and at a dictionary
+  -- the node at an object that is not a dictionary; below, at a dictionary
   pub node_in_order : (ms : List ℕ) (i : ℕ) → i < length ms → named (slice_get ms i) ≡ Some (node_of (slice_index ms i))
   node_in_order ms i l = ap named (slice_get-get_or ms i 0 l)
 
@@ -147,7 +147,7 @@ module _ (f : List ℕ) (F : Frame) where
   hold_pairs (k ∷ ks) (m ∷ ms) (pair u v ps) (suc zero) h = h.1
   hold_pairs (k ∷ ks) (m ∷ ms) (pair u v ps) (suc (suc i)) h = hold_pairs ks ms ps i h.2
 
-  -- the objects of the references for members hold the members of the value
+  -- the objects that the references name hold the members of the value
   pub held_members : (v : Value) (n : ℕ) → Holds f F n v
       → (c : Content) × Spells f F n c × ((i : ℕ) → HoldsMember f F (member_of v i) (named (member_reference c i)))
   held_members (leaf l) n h = (Content.leaf l, h, λ i. refl)

@@ -97,7 +97,7 @@ module _ (f : List ℕ) (F : Frame) where
     container_total k c at n (set vs) one h is sized = set_total k c at vs h.0 (sized (Content.set h.0) h.1) h.2 (is (Content.set h.0) h.1)
     container_total k c at n (dict ps) one h is sized = dict_total k c at ps h.0 h.1 (sized (Content.dict h.0 h.1) h.2) h.3 (is (Content.dict h.0 h.1) h.2)
 
-  -- what holds of the forms of the leaf holds of the value, where the object is no container
+  -- what is true of the form of a leaf is true of the value, if the object is not a container
   pub leaf_total : (k : Kind) (c at n : ℕ) (v : Value) (form : Form) → (k ≡ kinds.Array → ⊥) → (k ≡ kinds.Set → ⊥) → (k ≡ kinds.Dict → ⊥) → Holds f F n v
       → ((x : Content) → Spells f F n x → x ≡ content_of f F k c at) → ((l : Leaf) → Content.leaf l ≡ content_of f F k c at → form ≡ form_of_text (leaf_text l))
       → record { nodes = 1; form = form } ≡ size_of v

@@ -31,7 +31,7 @@ module _ (f : List ℕ) (F : Frame) (heights order : List ℕ) (valid : IsValid 
   pub value_at : (k : ℕ) → k < length order → (v : Value) × Holds f F (at k) v
   value_at k l = let o = object_holds f F heights valid (at k) (vouched_at k l) in (o.0, o.1)
 
-  -- and its references have their sizes already
+  -- the references of an object of the order already have their sizes
   pub refs_sized : (k : ℕ) (sizes : Table) → k < length order → AreSet f F heights order k sizes → (c : Content) → Spells f F (at k) c → AllByRecursion (IsSized f F sizes) (refs c)
   refs_sized k sizes l set c s = all_from (IsSized f F sizes) (refs c) (λ m among.
       let lower = references_lower f F heights valid (at k) m (vouched_at k l) (c, s, among) in
@@ -70,7 +70,7 @@ are_measures_prop f F heights sizes = Prim.hlevel props
 abbrev nowhere : Option Size
 nowhere = None
 
--- a table of nothing
+-- a table in which no object has a size
 pub empty_table : (sizes : Table) (n : ℕ) → sizes ≡ replicate n None → IsEmpty sizes
 empty_table sizes n is k = ap (λ t. size_in t k) is ∙ elim (cases_lt k n) [
   | inl l ↦ get_or-replicate n k nowhere None l

@@ -55,7 +55,7 @@ both-assoc a b c = same_size _ _ (omega arith) (joined-assoc a.form b.form c.for
 pub both_nothing : (a : Size) → IsFit a → both a no_size ≡ a
 both_nothing a fit = same_size _ _ (omega (arith, fit.0)) (joined_nothing a.form fit.1)
 
--- objects behind others are added to their total
+-- to add two lists one after the other is to add them as one
 pub added-append : (sizes : List (Option Size)) (total : Size) (xs ys : List ℕ) → added sizes total (xs ++ ys) ≡ option_and_then (λ t. added sizes t ys) (added sizes total xs)
 added-append sizes total [] ys = refl
 added-append sizes total (x ∷ xs) ys = go (λ s. added-append sizes (both total s) xs ys) (size_in sizes x)
@@ -114,7 +114,7 @@ module _ (f : List ℕ) (F : Frame) (sizes : List (Option Size)) where
       ∙ ap (option_and_then (λ t. added sizes t ms)) (added_keys ps ks ms total fit (all_front (IsSized f F sizes) ks ms all) h)
       ∙ added_values ps ks ms (both total (size_of_keys ps)) (both_fits total (size_of_keys ps)) (all_behind (IsSized f F sizes) ks ms all) h
 
--- how many commas so many members have
+-- the number of commas between these members
 abbrev commas : Values → ℕ
 commas no_values = 0
 commas (value v vs) = length (comma vs) + commas vs
@@ -150,7 +150,7 @@ commas_of f F (value v vs) (m ∷ ms) h = go vs ms h.1 (commas_of f F vs ms h.1)
     go (value w vs) [] h e = absurd h
     go (value w vs) (n ∷ ms) h e = omega (arith, e)
 
--- two bytes round a text
+-- a text between two bytes
 enclosed : (front back : ℕ) (o : Option (List ℕ)) (x : Form) (n : ℕ) → form_of_text o ≡ joined (Length (cap n)) x
     → joined (Length (cap (n + 2))) x ≡ form_of_text (option_map (λ t. front ∷ (t ++ back ∷ [])) o)
 enclosed front back None NoForm n e = refl

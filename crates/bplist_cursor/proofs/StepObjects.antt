@@ -33,15 +33,15 @@ other_is u s h = not_true (bytes_eq u s) (λ e. h ((bytes_eq-Decides u s).0 e))
 abbrev pub value_at : List ℕ → Pairs → Option Value
 value_at s ps = option_map (λ e. e.1) (find (λ e. bytes_eq e.0 s) (entries ps))
 
--- the member at the index that these units spell, where the first has this index
+-- the member at the index that these units spell, if the first has this index
 abbrev pub member_at : List ℕ → ℕ → Values → Option Value
 member_at s i vs = option_map (λ e. e.1) (find (λ e. bytes_eq (decimal e.0) s) (enumerate_from i (members vs)))
 
--- the same of one pair more, by the test of its key
+-- the value of the key with one more pair, by the test of its key
 abbrev value_by : List ℕ → Value → List ℕ → Pairs → Bool → Option Value
 value_by u v s ps b = option_map (λ e. e.1) (cond b (Some (u, v)) (find (λ e. bytes_eq e.0 s) (entries ps)))
 
--- and of one member more, by that of its index
+-- the member at the index with one more member, by the test of its index
 abbrev member_by : ℕ → Value → List ℕ → Values → Bool → Option Value
 member_by i v s vs b = option_map (λ e. e.1) (cond b (Some (i, v)) (find (λ e. bytes_eq (decimal e.0) s) (enumerate_from (i + 1) (members vs))))
 
@@ -109,7 +109,7 @@ module _ (f : List ℕ) (F : Frame) (one : OneHead f F) where
       let r = by_key ps h.0 h.1 s h.3 h.4 t.0 t.1 t.2 in
       (r.0, ap (λ o. ok_or o why.NoKey) r.1, subst (λ k. Holds f F k r.0) (t.3 ∙ e.4) r.2)
 
-  -- ---- the other way round: where a step goes on, a reference is taken
+  -- ---- the other way round: if a step goes on, it takes a reference
   from_key : (ps : Pairs) (ks ms : List ℕ) (s : List ℕ) (w : Value) → HoldPairs f F ks ms ps → value_at s ps ≡ Some w → (i : ℕ) × (i < length ks) × Spells f F (slice_index ks i) (Content.leaf (text s)) × Holds f F (slice_index ms i) w
   from_key no_pairs ks ms s w h e = cc e
   from_key (pair u v ps) [] [] s w h e = absurd h

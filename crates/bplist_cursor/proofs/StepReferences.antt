@@ -1,4 +1,4 @@
--- What the value of an object says of its references, and of the steps for which none is taken.
+-- What the value of an object says about its references, and about the steps that take none of them.
 use Rattle.std.proofs.Common.{arith, ◌≡◌, ◌<◌, ℕ, zero, suc, length, List, [], ◌∷◌, ◌++◌, slice_index, Option, Some, None, Ok, Err, ok_or, refl, sym, ap, ◌∙◌, subst, Contains}
 use Rattle.std.proofs.lemmas.List.Elements.{Contains-append_left, Contains-append_right, Contains-get_or}
 use Rattle.bplist_objects.specs.declared.frame.Frame.{Frame}
@@ -36,7 +36,7 @@ module _ (f : List ℕ) (F : Frame) where
   content_of_value (set vs) n h = (Content.set h.0, h.1, tt)
   content_of_value (dict ps) n h = (Content.dict h.0 h.1, h.2, λ i l. (all_at (λ m. m < F.objects) (h.0 ++ h.1) (slice_index h.0 i) (refs_below f F n (Content.dict h.0 h.1) h.2) (Contains-append_left h.0 h.1 (slice_index h.0 i) (Contains-get_or h.0 i 0 l)), text_at ps h.0 h.1 i h.3 l))
 
-  -- where no reference is taken the step can't be taken
+  -- a step that takes no reference can't be taken
   pub not_taken : (v : Value) (n : ℕ) (s : List ℕ) (c : Content) → Holds f F n v → Spells f F n c → ((m : ℕ) → IsTaken f F c s m → ⊥) → stepped v s ≡ Err (why_of c)
   not_taken (leaf l) n s c h sp none = ap (λ x. Err (why_of x)) (one_head f F n _ _ h sp)
   not_taken (set vs) n s c h sp none = ap (λ x. Err (why_of x)) (one_head f F n _ _ h.1 sp)

@@ -49,7 +49,7 @@ reads_more s t u xs ys p q = record {
   after = q.after;
 }
 
--- nothing is left where no byte is
+-- if no bytes are left, no characters are
 pub left_none : (s : CharIndices) → length (char_indices_rest s) ≡ 0 → left s ≡ []
 left_none s none = ap chars (empty (char_indices_rest s) none) ∙ chars-nil
   where
@@ -77,11 +77,11 @@ meets_later s t front place p closed m = record {
 pub loose_end : (c : ℕ) (xs : List ℕ) → c ≡ 0x7E → xs ≡ [] → IsLoose (c ∷ xs)
 loose_end c xs is e = subst (λ l. IsLoose (c ∷ l)) (sym e) (ap Some is, λ h. cc h, λ h. cc h)
 
--- and one before another character
+-- a `~` before another character
 pub loose_before : (c : ℕ) (xs : List ℕ) (d : ℕ) (ys : List ℕ) → c ≡ 0x7E → xs ≡ d ∷ ys → d ≢ 0x30 → d ≢ 0x31 → IsLoose (c ∷ xs)
 loose_before c xs d ys is e m n = subst (λ l. IsLoose (c ∷ l)) (sym e) (ap Some is, λ h. m (cc h), λ h. n (cc h))
 
--- a `~` that stands here
+-- a loose `~` that is met now
 pub meets_now : (s t : CharIndices) (c place : ℕ) → Reads s t (c ∷ []) → place ≡ char_indices_offset s → IsLoose (c ∷ left t) → MeetsLoose s place
 meets_now s t c place p is loose = record {
   front = [];
@@ -112,7 +112,7 @@ reading_more s t u v c d more before step step' r p q is add = record {
       ∙ ap (λ l. before ++ l) (ap (λ l. units r.token ++ l) (sym (append-nil (encode_utf16 d))) ∙ sym (flat_map-append encode_utf16 r.token (d ∷ [])));
 }
 
--- the tokens that were read of a text, up to the `/` that begins the next one
+-- the tokens read so far, up to the `/` that begins the next one
 pub record IsParsing (text : List ℕ) (now : CharIndices) (goes_on : Bool) (steps : List (List ℕ)) : Type 0 where
   pub tokens : List (List ℕ)
   pub read : chars text ≡ (written tokens ++ slash goes_on) ++ left now
@@ -201,7 +201,7 @@ not_read text s steps place p m =
     begins [] xs = (xs, refl)
     begins (t ∷ ts) xs = (_, refl)
 
--- a refused growth says nothing of the text
+-- refused memory says nothing about the text
 pub fails_at : (text : List ℕ) (s : CharIndices) (steps : List (List ℕ)) (e : PathFault) → IsParsing text s true steps → OnText (MeetsLoose s) e → OnText (IsNoPath text) e
 fails_at text s steps (Text place) p m = not_read text s steps place p m
 fails_at text s steps Memory p m = tt

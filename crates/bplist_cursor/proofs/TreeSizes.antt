@@ -1,4 +1,4 @@
--- A table over the objects, in which each is one more than its references together, has the sizes of the trees.
+-- If a table gives each object one more than the sum of its references, it has the sizes of the trees.
 use Rattle.std.proofs.Common.{◌≡◌, ℕ, ◌+◌, List, [], ◌∷◌, slice_index, refl, ap, ◌∙◌, arith, sum_by}
 use Rattle.std.specs.List.{AllByRecursion}
 use Rattle.std.proofs.lemmas.List.Sums.{sum_by-cons, sum_by-append}

@@ -1,4 +1,4 @@
--- What is known of an object that a checked file vouches for, where its source is honest.
+-- What is known about a vouched object of a checked file, if its source is honest.
 use Rattle.std.proofs.Common.{◌<◌, ℕ, length, slice_index, Result, Ok, Err, IfErr, IsTrue, subst}
 use Rattle.std.proofs.Props.{props}
 use Rattle.std.specs.List.{AllByRecursion}
@@ -21,7 +21,7 @@ gives_weaker P Q (Ok x) on h = on x h
 gives_weaker P Q (Err e) on h = h
 
 module _ (checked : CheckedFile) (is : IsChecked checked) (honest : IsTrue checked.source.honest) (n : ℕ) (vouched : IsVouchedBy checked.certificate.heights n) where
-  -- it spells something, so what is not Changed for each content is not Changed
+  -- it spells a content, so an error that is not Changed for any content is not Changed
   pub never_changed : {X : Type 0} (P : Content → X → Type 0) (r : Result X CursorFault)
       → ((content : Content) → Spells checked.source.octets checked.frame n content → GivesCursor (P content) r) → IfErr r IsExcused
   never_changed P (Ok x) h = tt

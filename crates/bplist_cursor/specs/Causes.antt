@@ -1,22 +1,22 @@
--- What a call of the cursor answers. Source: profile.
+-- What a call of the cursor returns. Source: profile.
 use Rattle.std.specs.Prelude.{◌≢◌, Result, MatchResult, Err, Bool, true, false}
 use Rattle.bplist_cursor.specs.declared.faults.Unread.{Unread}
 use Rattle.bplist_cursor.specs.declared.faults.Unread.TheVariants as unread
 use Rattle.bplist_cursor.specs.declared.faults.CursorFault.{CursorFault}
 use Rattle.bplist_cursor.specs.declared.faults.CursorFault.TheVariants as faults
 
--- the answer says that a read has failed
+-- a read has failed, for `Unread`
 abbrev pub read_failed : {X : Type 0} → Result X Unread → Bool
 read_failed answer = elim answer [ Err (unread.Read _) ↦ true | _ ↦ false ]
 
--- the answer is a failed read
+-- a read has failed, for `CursorFault`
 abbrev pub cursor_read : {X : Type 0} → Result X CursorFault → Bool
 cursor_read answer = elim answer [ Err (faults.Read _) ↦ true | _ ↦ false ]
 
--- P holds of what was read, or the fault is not `Changed`
+-- P holds of what was read, or the error is not `Changed`
 abbrev pub GivesRead : {X : Type 0} → (X → Type 0) → Result X Unread → Type 0
 GivesRead P answer = MatchResult answer P (λ fault. fault ≢ unread.Changed)
 
--- P holds of the answer, or the fault is not `Changed`
+-- P holds of the answer, or the error is not `Changed`
 abbrev pub GivesCursor : {X : Type 0} → (X → Type 0) → Result X CursorFault → Type 0
 GivesCursor P answer = MatchResult answer P (λ fault. fault ≢ faults.Changed)

@@ -1,4 +1,4 @@
--- Where a path leads. Source: profile.
+-- What a path leads to. Source: profile.
 use Rattle.std.specs.Prelude.{◌≡◌, ℕ, List, map, Ok, Err, Vec}
 use Rattle.std.specs.Global.{Global}
 use Rattle.bplist_objects.specs.Value.{Value}
@@ -19,8 +19,8 @@ units_of steps = map (λ step. step.items) steps
 abbrev pub IsHeld : CheckedFile → ℕ → Value → Type 0
 IsHeld checked n v = IsVouchedBy checked.certificate.heights n × Holds checked.source.octets checked.frame n v
 
--- the node is vouched for and holds what the steps lead to from object n, which holds v, or the first step that can't be taken is
--- named
+-- the steps lead from object n, which holds v, to this node, which is vouched for and holds what they lead to in v; or
+-- this is the first step that can't be taken, and why
 abbrev pub IsFound : CheckedFile → ℕ → Value → List (List ℕ) → Found → Type 0
 IsFound checked n v steps (At node) =
     LeadTo checked.source.octets checked.frame n steps node.object.0 × IsVouchedBy checked.certificate.heights node.object.0

@@ -1,4 +1,4 @@
--- The reference that is taken for a step. Source: profile.
+-- The reference that a step takes. Source: profile.
 use Rattle.std.specs.Prelude.{◌≡◌, ℕ, ◌<◌, List, [], ◌∷◌, length, slice_index, ⊤}
 use Rattle.std.specs.Fmt.{decimal}
 use Rattle.bplist_objects.specs.declared.frame.Frame.{Frame}
@@ -8,13 +8,13 @@ use Rattle.bplist_cursor.specs.declared.found.Why.TheVariants.{NoKey, NoIndex, N
 use Rattle.bplist_objects.specs.Heads.{Content, leaf, array, set, dict, Spells}
 
 module _ (f : List ℕ) (F : Frame) where
-  -- m is the reference of this content for the step with these units
+  -- m is the reference that the step with these units takes from this content
   abbrev pub IsTaken : Content → List ℕ → ℕ → Type 0
   IsTaken (dict ks ms) s m = (i : ℕ) × (i < length ks) × Spells f F (slice_index ks i) (leaf (text s)) × (slice_index ms i ≡ m)
   IsTaken (array ms) s m = (i : ℕ) × (i < length ms) × (decimal i ≡ s) × (slice_index ms i ≡ m)
   IsTaken _ s m = ⊥
 
-  -- the steps lead from object n to m by references
+  -- the steps lead from object n to object m by references
   abbrev pub LeadTo : ℕ → List (List ℕ) → ℕ → Type 0
   LeadTo n [] m = n ≡ m
   LeadTo n (s ∷ steps) m = (c : Content) × (k : ℕ) × Spells f F n c × IsTaken c s k × LeadTo k steps m
@@ -24,7 +24,7 @@ module _ (f : List ℕ) (F : Frame) where
   HasTextKeys (dict ks ms) = (i : ℕ) → i < length ks → (slice_index ks i < F.objects) × ((u : List ℕ) × Spells f F (slice_index ks i) (leaf (text u)))
   HasTextKeys _ = ⊤
 
--- why no reference is taken for a step
+-- why a step takes no reference
 abbrev pub why_of : Content → Why
 why_of (dict ks ms) = NoKey
 why_of (array ms) = NoIndex

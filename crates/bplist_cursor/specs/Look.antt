@@ -8,14 +8,16 @@ use Rattle.bplist_cursor.specs.Members.{members, entries}
 use Rattle.bplist_cursor.specs.declared.found.Why.{Why}
 use Rattle.bplist_cursor.specs.declared.found.Why.TheVariants.{NoKey, NoIndex, NotSteppable}
 
--- where a step leads: to the value of the first key with these units, or the member whose index they spell; or why it can't
+-- one step leads to the value of the first key with these units, or to the member whose index they spell; else this is
+-- why it can't be taken
 abbrev pub stepped : Value → List ℕ → Result Value Why
 stepped (dict ps) s = ok_or (option_map (λ e. e.1) (find (λ e. bytes_eq e.0 s) (entries ps))) NoKey
 stepped (array vs) s =
-    ok_or (option_map (λ e. e.1) (find (λ e. bytes_eq (decimal e.0) s) (enumerate_from 0 (members vs)))) NoIndex
+    let with_index = enumerate_from 0 (members vs) in
+    ok_or (option_map (λ e. e.1) (find (λ e. bytes_eq (decimal e.0) s) with_index)) NoIndex
 stepped _ s = Err NotSteppable
 
--- where the steps lead, or the number of the first that can't be taken, and why; they are numbered from k on
+-- what the steps lead to, or the number of the first step that can't be taken and why; steps are numbered from k on
 abbrev pub look : ℕ → Value → List (List ℕ) → Result Value (ℕ × Why)
 look k v [] = Ok v
 look k v (s ∷ steps) = elim (stepped v s) [ Ok w ↦ look (k + 1) w steps | Err why ↦ Err (k, why) ]

@@ -1,4 +1,4 @@
--- The members of a value in their order: of a dictionary each key before its value. Source: profile.
+-- The members of a value in their order: in a dictionary, each key before its value. Source: profile.
 use Rattle.std.specs.Prelude.{◌≡◌, ℕ, ◌+◌, ◌*◌, List, [], ◌∷◌, zip, flat_map, slice_get, option_map, Option, None, MatchOption, IsSomeAnd}
 use Rattle.bplist_objects.specs.declared.frame.Frame.{Frame}
 use Rattle.bplist_objects.specs.declared.kind.Kind.{Kind}
@@ -18,14 +18,14 @@ abbrev pub entries : Pairs → List (List ℕ × Value)
 entries no_pairs = []
 entries (pair u v ps) = (u, v) ∷ entries ps
 
--- member i of a value; of a dictionary number 2j is key j, and 2j + 1 is value j; a leaf has none
+-- member i of a value; in a dictionary, number 2j is key j and 2j + 1 is value j; a leaf has no members
 abbrev pub member_of : Value → ℕ → Option Value
 member_of (leaf l) i = None
 member_of (array vs) i = slice_get (members vs) i
 member_of (set vs) i = slice_get (members vs) i
 member_of (dict ps) i = slice_get (flat_map (λ entry. leaf (text entry.0) ∷ entry.1 ∷ []) (entries ps)) i
 
--- the object that the reference for member i names: of a dictionary each key before its value
+-- the object that the reference for member i names; in a dictionary, each key comes before its value
 abbrev pub member_reference : Content → ℕ → Option ℕ
 member_reference (Content.dict ks ms) i = slice_get (flat_map (λ pair. pair.0 ∷ pair.1 ∷ []) (zip ks ms)) i
 member_reference content i = slice_get (refs content) i

@@ -10,32 +10,32 @@ use Rattle.bplist_cursor.specs.declared.form.Form.{Form}
 use Rattle.bplist_cursor.specs.declared.form.Form.TheVariants.{NoForm, Length}
 use Rattle.bplist_cursor.specs.Sizes.{Table, size_in, IsSized}
 
--- how long what stands round and between the parts of a container with this kind and count is, where it has a text
+-- the length of a container's brackets and separators, for this kind and count
 abbrev pub punctuation_of : Kind → ℕ → Form
 punctuation_of kinds.Array count = Length (cap (max count 1 + 1))
 punctuation_of kinds.Dict count = Length (cap (2 * count + 2))
 punctuation_of _ count = NoForm
 
--- these are numbers of objects
+-- all of these are numbers of objects
 abbrev pub AreInside : List ℕ → ℕ → Type 0
 AreInside order objects = (j : ℕ) → j < length order → slice_index order j < objects
 
--- of the objects below this number, those that are higher than this are among these, and each of these is one
+-- these are exactly the objects below this number that are higher than this height
 pub record AreHigher (heights : List ℕ) (height below : ℕ) (order : List ℕ) : Type 0 where
   pub all : (n : ℕ) → n < below → height < slice_index heights n → Contains order n
   pub only : (n : ℕ) → Contains order n → height < slice_index heights n
 
--- the table has nothing yet
+-- the table is empty
 abbrev pub IsEmpty : Table → Type 0
 IsEmpty sizes = (n : ℕ) → size_in sizes n ≡ None
 
--- the objects that are higher than this, in the order of their heights
+-- the objects that are higher than this height, in the order of their heights
 pub record IsOrder (heights : List ℕ) (height : ℕ) (order : List ℕ) : Type 0 where
   pub all : (n : ℕ) → height < slice_index heights n → Contains order n
   pub only : (n : ℕ) → Contains order n → height < slice_index heights n
   pub ascends : IsNonDecreasingBy (slice_index heights) order
 
--- the first k objects of the order have their sizes, and no object that the heights do not vouch for has any
+-- the first k objects of the order have their sizes, and no object without a height has one
 pub record AreSet (f : List ℕ) (F : Frame) (heights order : List ℕ) (k : ℕ) (sizes : Table) : Type 0 where
   pub done : (j : ℕ) → j < k → IsSized f F sizes (slice_index order j)
   pub none : (n : ℕ) → (IsVouchedBy heights n → ⊥) → size_in sizes n ≡ None

@@ -1,9 +1,11 @@
--- The old-style text of a value. Source: Apple's old-style form for the braces, brackets, `=`, `;` and commas; the single line and what has no form are profile.
+-- The old-style text of a value.
+-- Source: Apple's old-style form for the braces, brackets, `=`, `;` and commas; the single line and what has no form
+-- are profile.
 use Rattle.std.specs.Prelude.{ℕ, List, [], ◌∷◌, ◌++◌, Option, Some, None, option_map, option_and_then, ⊤}
 use Rattle.bplist_objects.specs.Value.{Leaf, bytes, text, Value, leaf, array, set, dict, Values, no_values, value, Pairs, no_pairs, pair}
 use Rattle.bplist_cursor.specs.Texts.{text_of_units, text_of_bytes}
 
--- `,` before more members
+-- `,` if more members follow
 abbrev pub comma : Values → List ℕ
 comma values = elim values [ no_values ↦ [] | value v vs ↦ 0x2C ∷ [] ]
 
@@ -16,7 +18,7 @@ abbrev mutual
   value_text (dict ps) = option_map (λ t. 0x7B ∷ (t ++ 0x7D ∷ [])) (pairs_text ps)
   value_text _ = None
 
-  -- the members' texts, with `,` between them
+  -- the texts of the members, with `,` between them
   pub members_text : Values → Option (List ℕ)
   members_text no_values = Some []
   members_text (value v vs) = option_and_then (λ t. option_map (λ r. t ++ (comma vs ++ r)) (members_text vs)) (value_text v)
@@ -30,7 +32,7 @@ abbrev mutual
 abbrev pub leaf_text : Leaf → Option (List ℕ)
 leaf_text l = value_text (leaf l)
 
--- the leaf has a text; here and below the same in two parts, whether there is a text and which
+-- the leaf has a text; from here on the same once more, in two parts: whether there is a text, and which it is
 abbrev pub IsFormedLeaf : Leaf → Type 0
 IsFormedLeaf (text u) = ⊤
 IsFormedLeaf (bytes l) = ⊤
@@ -44,12 +46,12 @@ abbrev mutual
   IsFormed (set vs) = ⊥
   IsFormed (dict ps) = ArePairsFormed ps
 
-  -- each value has a text
+  -- each of the values has a text
   pub AreFormed : Values → Type 0
   AreFormed no_values = ⊤
   AreFormed (value v vs) = IsFormed v × AreFormed vs
 
-  -- each pair's value has a text
+  -- the value of each pair has a text
   pub ArePairsFormed : Pairs → Type 0
   ArePairsFormed no_pairs = ⊤
   ArePairsFormed (pair u v ps) = IsFormed v × ArePairsFormed ps
@@ -68,7 +70,7 @@ abbrev mutual
   plain (set vs) = []
   plain (dict ps) = 0x7B ∷ (plain_pairs ps ++ 0x7D ∷ [])
 
-  -- the members' texts, with `,` between them
+  -- the texts of the members, with `,` between them
   pub plain_members : Values → List ℕ
   plain_members no_values = []
   plain_members (value v vs) = plain v ++ (comma vs ++ plain_members vs)

@@ -3,28 +3,28 @@ use Rattle.std.specs.Prelude.{◌≡◌, ◌≢◌, ◌⊎◌, ◌==◌, ℕ, �
 use Rattle.std.specs.Str.{chars}
 use Rattle.std.specs.Char.Escape.{encode_utf16}
 
--- a character in a path text: `~` is `~0`, `/` is `~1`
+-- a character in a path text: `~` is written `~0`, and `/` is written `~1`
 abbrev pub escaped : ℕ → List ℕ
 escaped c = if c == 0x7E then 0x7E ∷ 0x30 ∷ [] else if c == 0x2F then 0x7E ∷ 0x31 ∷ [] else c ∷ []
 
--- a token's characters as UTF-16 units
+-- the characters of a token as UTF-16 units
 abbrev pub units : List ℕ → List ℕ
 units token = flat_map encode_utf16 token
 
--- the text is that of tokens, each with a `/` before it, and the steps are their characters as UTF-16 units
+-- the text is that of tokens, each with a `/` before it; the steps are the characters of the tokens as UTF-16 units
 abbrev pub IsPathOf : List ℕ → List (List ℕ) → Type 0
 IsPathOf text steps = (tokens : List (List ℕ)) × (chars text ≡ flat_map (λ token. 0x2F ∷ flat_map escaped token) tokens)
     × (steps ≡ map (flat_map encode_utf16) tokens)
 
--- the characters begin with a `~` that neither `0` nor `1` follows
+-- the characters begin with a `~` that is not followed by `0` or `1`
 abbrev pub IsLoose : List ℕ → Type 0
 IsLoose cs = (slice_get cs 0 ≡ Some 0x7E) × (slice_get cs 1 ≢ Some 0x30) × (slice_get cs 1 ≢ Some 0x31)
 
--- character k is wrong: it is the first and no `/`, or begins a loose `~`
+-- character k is wrong: it is the first and not `/`, or it begins a loose `~`
 abbrev pub IsWrong : List ℕ → ℕ → Type 0
 IsWrong cs k = ((k ≡ 0) × (0 < length cs) × (slice_get cs 0 ≢ Some 0x2F)) ⊎ IsLoose (drop k cs)
 
--- the text spells no steps, and its first wrong character begins at this byte
+-- the text does not spell steps, and its first wrong character begins at this byte
 pub record IsNoPath (text : List ℕ) (place : ℕ) : Type 0 where
   pub none : (steps : List (List ℕ)) → ¬ IsPathOf text steps
   pub before : ℕ

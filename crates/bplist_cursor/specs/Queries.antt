@@ -14,7 +14,7 @@ steps_in (queries.Get steps) = steps
 steps_in (queries.Keys steps) = steps
 steps_in (queries.Size steps) = steps
 
--- the reply of the value that the path leads to
+-- the reply to a query, given the value that its path leads to
 abbrev pub reply_at : Value → Query → Reply
 reply_at w (queries.Get steps) = replies.Face (face w)
 reply_at w (queries.Keys steps) = keys_reply w

@@ -1,5 +1,5 @@
 -- What a value replies to a query. Source: profile.
-use Rattle.std.specs.Prelude.{length, Ok, Err}
+use Rattle.std.specs.Prelude.{ℕ, List, length, Ok, Err}
 use Rattle.bplist_objects.specs.Value.{null, boolean, int, real, date, bytes, text, uid, Value, leaf, array, set, dict, keys}
 use Rattle.bplist_cursor.specs.declared.faces.Face.{Face}
 use Rattle.bplist_cursor.specs.declared.faces.Face.TheVariants as faces
@@ -11,7 +11,7 @@ use Rattle.bplist_cursor.specs.Look.{look}
 use Rattle.bplist_cursor.specs.Members.{members}
 use Rattle.bplist_cursor.specs.Nodes.{cap, nodes}
 
--- a leaf itself, or a container's kind and count
+-- the value of a leaf, or the kind and count of a container
 abbrev pub face : Value → Face
 face (leaf null) = faces.Null
 face (leaf (boolean b)) = faces.Bool b
@@ -29,8 +29,13 @@ face (dict ps) = faces.Dict (length (keys ps))
 abbrev pub keys_reply : Value → Reply
 keys_reply v = elim v [ dict ps ↦ replies.Keys (keys ps) | _ ↦ replies.NoKeys ]
 
+-- what is told of the value that these steps lead to, or why they lead nowhere
+abbrev pub told_of : (Value → Reply) → Value → List (List ℕ) → Reply
+told_of tell v steps =
+    elim (look 0 v steps) [ Ok w ↦ tell w | Err (k, why) ↦ replies.Missing k why ]
+
 -- a value's reply to a query
 abbrev pub reply : Value → Query → Reply
-reply v (queries.Get steps) = elim (look 0 v steps) [ Ok w ↦ replies.Face (face w) | Err (k, why) ↦ replies.Missing k why ]
-reply v (queries.Keys steps) = elim (look 0 v steps) [ Ok w ↦ keys_reply w | Err (k, why) ↦ replies.Missing k why ]
-reply v (queries.Size steps) = elim (look 0 v steps) [ Ok w ↦ replies.Size (cap (nodes w)) | Err (k, why) ↦ replies.Missing k why ]
+reply v (queries.Get steps) = told_of (λ w. replies.Face (face w)) v steps
+reply v (queries.Keys steps) = told_of keys_reply v steps
+reply v (queries.Size steps) = told_of (λ w. replies.Size (cap (nodes w))) v steps

@@ -13,6 +13,6 @@ content_face (array ms) = faces.Array (length ms)
 content_face (set ms) = faces.Set (length ms)
 content_face (dict ks ms) = faces.Dict (length ks)
 
--- fewer references than so many bytes
+-- the container has fewer references than `len`
 abbrev pub HasRoom : ℕ → Face → Type 0
 HasRoom len shown = (n : ℕ) → (shown ≡ faces.Array n → n < len) × (shown ≡ faces.Set n → n < len) × (shown ≡ faces.Dict n → 2 * n < len)

@@ -1,4 +1,4 @@
--- The sizes of values' trees and of their texts, and tables of them by the number of the object. Source: profile.
+-- The sizes of values' trees and texts, and tables of them by the number of the object. Source: profile.
 use Rattle.std.specs.Prelude.{◌≡◌, ℕ, ◌+◌, List, [], ◌∷◌, slice_index_or, Option, Some, None, option_map, option_and_then}
 use Rattle.bplist_objects.specs.declared.frame.Frame.{Frame}
 use Rattle.bplist_objects.specs.Value.{text, Value, leaf, Values, no_values, value, Pairs, no_pairs, pair}
@@ -14,7 +14,7 @@ use Rattle.bplist_cursor.specs.declared.measures.Size.{Size}
 abbrev pub size_of : Value → Size
 size_of v = record { nodes = cap (nodes v); form = form_of v }
 
--- the size of two together
+-- the size of two values together
 abbrev pub both : Size → Size → Size
 both a b = record { nodes = cap (a.nodes + b.nodes); form = joined a.form b.form }
 
@@ -34,12 +34,12 @@ nodes_in sizes n = option_map (λ s. s.nodes) (slice_index_or sizes n None)
 abbrev pub form_in : Table → ℕ → Option Form
 form_in sizes n = option_map (λ s. s.form) (slice_index_or sizes n None)
 
--- the total with the sizes of these objects added, if the table has them all
+-- the total plus the sizes of these objects, if the table has them all
 abbrev pub added : Table → Size → List ℕ → Option Size
 added sizes total [] = Some total
 added sizes total (m ∷ ms) = option_and_then (λ s. added sizes (both total s) ms) (size_in sizes m)
 
--- no size: no nodes, and the empty text
+-- the size of nothing: no nodes, and the empty text
 abbrev pub no_size : Size
 no_size = record { nodes = 0; form = Length 0 }
 
@@ -53,7 +53,7 @@ abbrev pub size_of_keys : Pairs → Size
 size_of_keys no_pairs = no_size
 size_of_keys (pair u v ps) = both (size_of (leaf (text u))) (size_of_keys ps)
 
--- the sizes of the values of pairs together
+-- the sizes of the pairs' values together
 abbrev pub size_of_values : Pairs → Size
 size_of_values no_pairs = no_size
 size_of_values (pair u v ps) = both (size_of v) (size_of_values ps)
@@ -63,7 +63,7 @@ module _ (f : List ℕ) (F : Frame) where
   abbrev pub IsSized : Table → ℕ → Type 0
   IsSized sizes n = (v : Value) → Holds f F n v → size_in sizes n ≡ Some (size_of v)
 
-  -- the table has nodes and form of each vouched object's value, and no others
+  -- the table has nodes and form of each vouched object's value, and nothing else
   pub record AreMeasures (heights : List ℕ) (sizes : Table) : Type 0 where
     pub nodes : (n : ℕ) (v : Value) → IsVouchedBy heights n → Holds f F n v → nodes_in sizes n ≡ Some (cap (nodes v))
     pub form : (n : ℕ) (v : Value) → IsVouchedBy heights n → Holds f F n v → form_in sizes n ≡ Some (form_of v)

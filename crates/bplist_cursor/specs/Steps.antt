@@ -12,18 +12,18 @@ use Rattle.bplist_cursor.specs.declared.path_step.RefIndex.TheVariants as ref_in
 use Rattle.bplist_cursor.specs.declared.path_step.Step.{Step}
 use Rattle.bplist_cursor.specs.declared.path_step.Step.TheVariants as step
 
--- the step goes to one of so many objects, if it goes
+-- if the step goes on, it goes to one of this many objects
 abbrev pub IsInside : ℕ → Step → Type 0
 IsInside objects (step.On m) = m.0 < objects
 IsInside objects (step.Not _) = ⊤
 
--- the step takes one of so many references, if it takes one
+-- if the step takes a reference, it takes one of this many
 abbrev pub IsRefIndexBelow : ℕ → RefIndex → Type 0
 IsRefIndexBelow count (ref_index.Of i) = i < count
 IsRefIndexBelow count (ref_index.Nowhere _) = ⊤
 
 module _ (f : List ℕ) (F : Frame) where
-  -- these are objects that spell texts
+  -- all of these objects spell texts
   abbrev pub SpellTexts : List ℕ → Type 0
   SpellTexts ks = (i : ℕ) → i < length ks → (u : List ℕ) × Spells f F (slice_index ks i) (leaf (text u))
 
@@ -32,17 +32,17 @@ module _ (f : List ℕ) (F : Frame) where
   IsKeyIndex ks s o = MatchOption o ((i : ℕ) → i < length ks → Spells f F (slice_index ks i) (leaf (text s)) → ⊥)
       (λ i. (i < length ks) × Spells f F (slice_index ks i) (leaf (text s)))
 
-  -- where the step s goes from object n, which holds v
+  -- the step s leads from object n, which holds v, to this object; or this is why it can't be taken
   abbrev pub IsStep : ℕ → Value → List ℕ → Step → Type 0
   IsStep n v s (step.On m) = LeadTo f F n (s ∷ []) m.0
   IsStep n v s (step.Not y) = stepped v s ≡ Err y
 
-  -- the reference that is taken for the step s at an object with this content, or none is
+  -- the step s takes this reference from this content; or it takes none, and this is why
   abbrev pub IsRefIndex : Content → List ℕ → RefIndex → Type 0
   IsRefIndex h s (ref_index.Of i) = IsTaken f F h s (slice_index (refs h) i)
   IsRefIndex h s (ref_index.Nowhere y) = ((m : ℕ) → IsTaken f F h s m → ⊥) × (y ≡ why_of h)
 
--- P holds of the keys of a dictionary with this head, if the source is honest and they are texts
+-- if the source is honest, P holds of the keys of a dictionary with this head; the keys are texts
 abbrev pub HonestlyKeyed : CheckedFile → Head → (List ℕ → Frame → List ℕ → Type 0) → Type 0
 HonestlyKeyed checked head P =
     HonestlyChecked checked (λ f F. (n : ℕ) (ks ms : List ℕ) → Spells f F n (dict ks ms) → dict ks ms ≡ content_at f F head

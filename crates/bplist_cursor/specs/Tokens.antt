@@ -9,7 +9,7 @@ use Rattle.bplist_cursor.specs.Path.{IsLoose}
 abbrev pub left : CharIndices → List ℕ
 left s = chars (char_indices_rest s)
 
--- what is still to be read is text, and its end can be counted
+-- what is still to be read is UTF-8, and its end can be counted
 pub record IsReadable (s : CharIndices) : Type 0 where
   pub utf8 : IsUtf8 (char_indices_rest s)
   pub fits : char_indices_offset s + length (char_indices_rest s) < 2 ^ 64

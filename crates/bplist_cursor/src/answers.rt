@@ -1,4 +1,4 @@
-//! Replies to queries.
+//! Answers queries about the value of a checked file.
 
 ghost use Rattle.std.specs.Prelude.{⊤, ◌≡◌, ◌<◌, map, IsTrue, IfSome};
 ghost use Rattle.bplist_cursor.specs.Prelude.{HonestlyChecked, Value, Holds, GivesCursor, cursor_read, OnlyReadsFile, IsHeld, AreMeasuresOf, cap, nodes, reply, keys_reply, steps_in, reply_at};
@@ -18,7 +18,7 @@ use bplist_objects::Kind;
 use bplist_octets::Source;
 use std::alloc::Global;
 
-/// The reply of a node to a query for its keys.
+/// Returns the keys of a dictionary, or `NoKeys` if the node holds another value.
 fn keys_at<S: Source>(
     alloc: Global,
     checked: &mut Checked<S>,
@@ -35,7 +35,7 @@ fn keys_at<S: Source>(
     }
 }
 
-/// The measures that there are, or else those of the file.
+/// Returns the given measures, or measures the file if there are none.
 fn measures_of<S: Source>(
     alloc: Global,
     checked: &mut Checked<S>,
@@ -51,7 +51,7 @@ fn measures_of<S: Source>(
     }
 }
 
-/// How many nodes the tree of a node's value has, by the measures if there are any yet, which come back.
+/// Returns how many nodes the tree of the node's value has, together with the measures for the next query.
 fn nodes_at<S: Source>(
     alloc: Global,
     checked: &mut Checked<S>,
@@ -70,7 +70,6 @@ fn nodes_at<S: Source>(
     }
 }
 
-/// The path that a query asks about.
 fn path_of(query: &Query) -> &Path
     ensures { result.now ≡ steps_in query.now }
 {
@@ -79,8 +78,8 @@ fn path_of(query: &Query) -> &Path
     }
 }
 
-/// The reply to a query whose path leads to this node. The file is measured where a size is asked for and
-/// there are no measures yet.
+/// Returns the reply to a query whose path leads to this node. Measures the file at the first query for a size, and
+/// keeps the measures for later ones.
 fn answer_at<S: Source>(
     alloc: Global,
     checked: &mut Checked<S>,
@@ -104,7 +103,7 @@ fn answer_at<S: Source>(
     }
 }
 
-/// The reply of the file's value to a query, by the measures if there are any yet.
+/// Returns the reply to a query whose path begins at the top. Uses the measures of an earlier query, if there are any.
 fn answer_by<S: Source>(
     alloc: Global,
     checked: &mut Checked<S>,
@@ -122,10 +121,10 @@ fn answer_by<S: Source>(
     }
 }
 
-/// The reply of the file's value to a query.
+/// Returns the reply of the file's value to a query. A path that leads nowhere is no error: the reply is `Missing`.
 ///
-/// `Changed` is answered where an object is not what the check has found, and never while the source is
-/// honest. `Read` is answered where a read of the source failed, and `Memory` where a growth was refused.
+/// Errors: `Read` if a read of the source failed; `Memory` if an allocation was refused; `Changed` if an object is not
+/// what the check found, which never happens while the source is honest.
 pub fn answer<S: Source>(
     alloc: Global,
     checked: &mut Checked<S>,
@@ -140,11 +139,11 @@ pub fn answer<S: Source>(
     answer_by(alloc, checked, query, &mut None)
 }
 
-/// The replies of the file's value to these queries: one for each, in their order.
+/// Returns the replies of the file's value to these queries, one for each and in their order.
 ///
-/// The file is measured once at most, where a query asks for a size. `Changed` is answered where an object is
-/// not what the check has found, and never while the source is honest. `Read` is answered where a read of the
-/// source failed, and `Memory` where a growth was refused. These come in place of all replies.
+/// The file is measured at most once, and only if a query asks for a size. Errors: `Read` if a read of the source
+/// failed; `Memory` if an allocation was refused; `Changed` if an object is not what the check found, which never
+/// happens while the source is honest. After an error there are no replies at all.
 pub fn answer_all<S: Source>(
     alloc: Global,
     checked: &mut Checked<S>,

@@ -1,4 +1,4 @@
-//! Bodies of objects, read in parts.
+//! Reads the body of an object in parts, without taking memory.
 
 ghost use Rattle.std.specs.Prelude.{◌≡◌, ◌+◌, ◌*◌, ◌≤◌, length};
 ghost use Rattle.bplist_cursor.specs.Prelude.{part, HonestlyChecked, item_size, IsLeafKind, IsSafeBody, IsTextKind, GivesRead, read_failed, OnlyReadsFile};
@@ -9,10 +9,10 @@ use bplist_cert::Checked;
 use bplist_objects::{Head, octets_at, read_units};
 use bplist_octets::Source;
 
-/// Fills `into` with the bytes of the body of a leaf with this head, as [`node_head`](crate::node_head) answers it, from its
-/// byte `from` on. `into` ends within the body.
+/// Fills `into` with bytes of a leaf's body, starting at byte `from` of the body. `head` is what
+/// [`node_head`](crate::node_head) returned for the leaf, and `into` may not reach past the end of the body.
 ///
-/// `Read`: a read of the source failed, and then nothing is said of `into`. There is no other fault.
+/// Returns `Read` if a read of the source failed, and no other error. The contents of `into` are unspecified then.
 pub fn body_bytes<S: Source>(
     checked: &mut Checked<S>,
     head: &Head,
@@ -29,10 +29,10 @@ pub fn body_bytes<S: Source>(
     Ok(octets_at(checked, head, from, into)?)
 }
 
-/// Fills `into` with the units of the text with this head, as [`node_head`](crate::node_head) answers it, from its unit
-/// `from` on. `into` ends within the text.
+/// Fills `into` with 16-bit units of a text, starting at unit `from` of the text. `head` is what
+/// [`node_head`](crate::node_head) returned for the text, and `into` may not reach past the end of the text.
 ///
-/// `Read`: a read of the source failed, and then nothing is said of `into`. There is no other fault.
+/// Returns `Read` if a read of the source failed, and no other error. The contents of `into` are unspecified then.
 pub fn body_units<S: Source>(
     checked: &mut Checked<S>,
     head: &Head,

@@ -1,4 +1,4 @@
-//! Bodies lent from the caller's own slice.
+//! Borrows the bodies of objects from a slice in memory, without copying them.
 
 ghost use Rattle.std.specs.Prelude.{ℕ, List, IfSome, MatchOption};
 ghost use Rattle.bplist_cursor.specs.Prelude.{IsVouchedBy, SpellsBytes, StandsAtBody};
@@ -8,8 +8,8 @@ use bplist_cert::Checked;
 use bplist_objects::{Kind, shape_of};
 use bplist_octets::SliceSource;
 
-/// The body of a node's object where it is data or a text of one byte a unit, as a part of the slice that was checked.
-/// None for every other object, and for one that the certificate does not vouch for. Nothing is copied.
+/// Returns the body of a node's object as a part of the checked slice, if the object is data or a text of one byte per
+/// unit. Returns None for any other object, and if the certificate does not vouch for the object. Nothing is copied.
 pub fn bytes_of<'a>(checked: &Checked<SliceSource<'a>>, node: Node) -> Option<&'a [u8]>
     ensures bytes { MatchOption result
         ((bytes : List ℕ) → IsVouchedBy checked.now.certificate.heights node.object.0

@@ -1,4 +1,4 @@
-//! Replies to queries about a file that comes with a certificate: the theorem of the library.
+//! Checks a file with its certificate and answers queries about it: the theorem of the library.
 
 ghost use Rattle.std.specs.Prelude.{◌≡◌, IfOk, IfErr};
 ghost use Rattle.bplist_cursor.specs.Prelude.{Honestly, OnlyReads, Frame as frame, IsAccepted, IsPairFault, Never, IsAnswered, RefusesBy, answer_read};
@@ -14,16 +14,16 @@ use bplist_objects::Fault;
 use bplist_octets::{ReadFault, Source};
 use std::alloc::Global;
 
-/// Why no replies come for a file and a certificate.
+/// Why a file and a certificate get no replies.
 #[derive(Clone, Copy, Debug, PartialEq, Eq, Drop)]
 pub enum AnswerFault {
-    /// File or certificate breaks a rule, so the certificate is not accepted.
+    /// The file or the certificate breaks a rule, so the check refuses them.
     Fault(Fault),
     /// A read of the source failed.
     Read(ReadFault),
-    /// The source gives other bytes than those that were checked.
+    /// The source now gives other bytes than those that were checked.
     Changed,
-    /// A growth was refused.
+    /// An allocation was refused.
     Memory,
 }
 
@@ -53,15 +53,17 @@ impl From<CursorFault> for AnswerFault {
     }
 }
 
-/// Checks a file and a certificate, whoever made them, and answers queries about the file's value: one reply a query, in the
-/// order of the queries. Source and certificate are handed back in each case; the source was only read, inside the file.
+/// Checks a file and a certificate, whoever made them, and answers queries about the file's value: one reply for each
+/// query, in the order of the queries. Always hands back the source and the certificate. The source is only read, and
+/// only inside the file.
 ///
-/// Its contract is the theorem of the library, over an honest source. If replies come, the file holds exactly one value by
-/// the grammar, references from its top stay inside the table and never run in a circle, and the replies are those of the
-/// value's tree (`theorem`); the certificate is accepted then (`yes`), and an accepted one gets replies (`accepted`).
+/// The contract of this call is the theorem of the library. It holds over an honest source. If replies come, then the
+/// file holds exactly one value by the grammar, no reference that the top reaches leaves the table or closes a circle,
+/// and the replies are those of the value's tree (`theorem`). Replies come only if the certificate is accepted (`yes`),
+/// and an accepted certificate always gets replies (`accepted`), unless a read fails or memory is refused.
 ///
-/// `Fault` names the first fault of file and certificate. `Read` comes if a read of the source failed, and `Memory` if memory
-/// was refused. `Changed` comes only over a source that is not honest.
+/// Errors: `Fault` is the first fault of file and certificate; `Read` if a read of the source failed; `Memory` if an
+/// allocation was refused; `Changed` only over a source that is not honest.
 pub fn answer_certified<S: Source>(
     alloc: Global,
     src: S,

@@ -1,4 +1,4 @@
-//! Objects of a checked file: their heads and references.
+//! Reads heads and references of a checked file's objects.
 
 ghost use Rattle.std.specs.Prelude.{◌≡◌, ℕ, ◌<◌, IfOk, length, slice_index};
 ghost use Rattle.bplist_cursor.specs.Prelude.{HonestlyChecked, Content, Spells, content_at, refs, IsSafeHead, IsSafeBody, ref_count, GivesRead, read_failed, OnlyReadsFile};
@@ -8,7 +8,7 @@ use bplist_cert::Checked;
 use bplist_objects::{Head, ObjectNo, ref_at, shape_of};
 use bplist_octets::Source;
 
-/// The head of object `n`, by its marker and count: the check has read the rest.
+/// Returns the head of object `n`. Reads only marker and count, because the check has already read the rest.
 pub(crate) fn head_in<S: Source>(checked: &mut Checked<S>, n: ObjectNo) -> Result<Head, Unread>
     requires within { n.0 < checked.old.frame.objects }
     ensures reads { OnlyReadsFile (read_failed result) checked.old checked.new }
@@ -21,7 +21,8 @@ pub(crate) fn head_in<S: Source>(checked: &mut Checked<S>, n: ObjectNo) -> Resul
     Ok(shape_of(checked, &frame, n)?)
 }
 
-/// The object that reference `i` of an object with this head names.
+/// Returns the object that reference `i` names, counted from 0 in an object with this head. Returns `Changed` if the
+/// number is not one of the file's objects.
 pub(crate) fn reference_in<S: Source>(
     checked: &mut Checked<S>,
     head: &Head,

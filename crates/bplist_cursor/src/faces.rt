@@ -1,19 +1,19 @@
-//! What a value shows of itself.
+//! The face of a value: what a value shows without its members.
 
 use crate::list::List;
 
-/// The value of a leaf, or the kind of a container with its count.
+/// The value of a leaf, or the kind and count of a container.
 #[derive(Debug, Drop)]
 pub enum Face {
-    /// The null.
+    /// Null.
     Null,
-    /// A truth value.
+    /// A boolean.
     Bool(bool),
-    /// The number that an integer is.
+    /// The value of an integer.
     Int(i128),
-    /// The 4 or 8 bytes of a real.
+    /// The 4 or 8 bytes of a real, in the order of the file.
     Real(List<u8>),
-    /// The 8 bytes of a date.
+    /// The 8 bytes of a date, in the order of the file.
     Date(List<u8>),
     /// The bytes of data.
     Bytes(List<u8>),
@@ -21,10 +21,10 @@ pub enum Face {
     Text(List<u16>),
     /// The number of a UID.
     Uid(u32),
-    /// How many members the array has.
+    /// The number of members of an array.
     Array(u64),
-    /// How many members the set has.
+    /// The number of members of a set.
     Set(u64),
-    /// How many pairs the dictionary has.
+    /// The number of pairs of a dictionary.
     Dict(u64),
 }

@@ -1,4 +1,4 @@
-//! Why there is no answer.
+//! The errors of the cursor's calls.
 
 ghost use Rattle.std.specs.Prelude.{◌≡◌};
 ghost use Rattle.bplist_objects.specs.declared.fault.ObjectFault.TheVariants.{Read as object_read};
@@ -10,25 +10,25 @@ use bplist_objects::ObjectFault;
 use bplist_octets::ReadFault;
 use std::alloc::{AllocError, AllocFailed};
 
-/// Why a call gave no answer.
+/// Why a call returned no answer.
 #[derive(Clone, Copy, Debug, PartialEq, Eq, Drop)]
 pub enum CursorFault {
     /// A read of the source failed.
     Read(ReadFault),
-    /// The node is none of this file that the certificate vouches for, or the source gives other bytes than
-    /// those that were checked.
+    /// The certificate does not vouch for the node's object, or the source gives other bytes than those that were
+    /// checked.
     Changed,
-    /// A growth was refused.
+    /// An allocation was refused.
     Memory,
 }
 
-/// Why an object could not be read, where nothing grows.
+/// Why an object could not be read, from calls that take no memory.
 #[derive(Clone, Copy, Debug, PartialEq, Eq, Drop)]
 pub enum Unread {
     /// A read of the source failed.
     Read(ReadFault),
-    /// The node is none of this file that the certificate vouches for, or the source gives other bytes than
-    /// those that were checked.
+    /// The certificate does not vouch for the node's object, or the source gives other bytes than those that were
+    /// checked.
     Changed,
 }
 

@@ -1,19 +1,19 @@
-//! Whether a value has an old-style text.
+//! The form of a value: whether it can be written as old-style text, and how long that text is.
 
 ghost use Rattle.std.specs.Prelude.{◌≡◌};
 ghost use Rattle.bplist_cursor.specs.Prelude.{joined};
 
-/// Whether a value has an old-style text, and how long it is.
+/// Whether a value can be written as old-style text, and how long that text is.
 #[derive(Clone, Copy, Debug, PartialEq, Eq)]
 pub enum Form {
-    /// The value or a part of it has no form.
+    /// The value or a part of it cannot be written as old-style text.
     NoForm,
-    /// The length in bytes, or 18446744073709551615 where it is greater.
+    /// The length of the text in bytes, or 18446744073709551615 if it is greater.
     Length(u64),
 }
 
 impl Form {
-    /// The form of two texts, one behind the other.
+    /// Returns the form of two texts written one after the other.
     pub(crate) fn and(self, other: Form) -> Form
         ensures { result ≡ joined self other }
     {

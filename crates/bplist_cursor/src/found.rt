@@ -1,4 +1,4 @@
-//! Where a path leads to.
+//! What a path leads to: a node, or the step that could not be taken.
 
 use bplist_objects::ObjectNo;
 
@@ -20,12 +20,12 @@ pub enum Why {
     NotSteppable,
 }
 
-/// Where a path leads to.
+/// What a path leads to.
 #[derive(Clone, Copy, Debug, PartialEq, Eq)]
 pub enum Found {
-    /// To the value that this node holds.
+    /// A value: this node holds it.
     At(Node),
-    /// To no value.
+    /// No value.
     Missing {
         /// The number of the first step that can't be taken, counted from 0.
         step: u64,

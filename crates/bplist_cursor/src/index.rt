@@ -1,4 +1,4 @@
-//! Steps that are indices.
+//! Reads a step as an index into an array.
 
 ghost use Rattle.std.specs.Prelude.{◌≡◌, ◌≢◌, ◌<◌, ◌↔◌, ℕ, MatchOption, IsTrue, length, slice_index};
 ghost use Rattle.std.specs.Fmt.{decimal};
@@ -7,7 +7,7 @@ const ZERO: u16 = 0x30;
 
 const NINE: u16 = 0x39;
 
-/// The index below `count` that a step spells in decimal, without leading zeros.
+/// Returns the index below `count` that a step spells in decimal, without leading zeros (RFC 6901, section 4).
 pub(crate) fn index_of(step: &[u16], count: u64) -> Option<u64>
     ensures { MatchOption result ((i : ℕ) → i < count → decimal i ≢ step.now)
         (λ i. (i < count) × (decimal i ≡ step.now)) }

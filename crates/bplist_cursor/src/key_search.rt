@@ -1,4 +1,5 @@
-//! Looking up a key of a dictionary: by its sorted key list where the certificate has one, else one by one.
+//! Finds a key of a dictionary: by binary search if the certificate has key lists, else by comparing one key after the
+//! other.
 
 ghost use Rattle.std.specs.Prelude.{◌≡◌, ℕ, ◌+◌, ◌^◌, ◌<◌, ◌≤◌, List, length, slice_index, IfOk, IfSome, MatchResult, Option, Some, None};
 ghost use Rattle.std.specs.Int.Digits.{digits_of};
@@ -11,7 +12,7 @@ use bplist_objects::{Head, Kind, ObjectNo, key_cmp};
 use bplist_octets::Source;
 use std::cmp::Ordering;
 
-/// Compares the text of object `k` with these units.
+/// Compares the text of object `k` with these units. Returns `Changed` if the object is not a text.
 fn compare_key<S: Source>(
     checked: &mut Checked<S>,
     k: ObjectNo,
@@ -31,7 +32,7 @@ fn compare_key<S: Source>(
     }
 }
 
-/// The index of the key with these units, by a walk over all keys.
+/// Returns the index of the key with these units, found by comparing all keys in turn.
 fn walk_keys<S: Source>(
     checked: &mut Checked<S>,
     head: &Head,
@@ -53,7 +54,6 @@ fn walk_keys<S: Source>(
     Ok(None)
 }
 
-/// Number `at` of all positions of the certificate.
 fn position_of<S: Source>(checked: &Checked<S>, at: u64) -> Option<u32>
     ensures { (keyed : Keyed) → checked.now.certificate.keys ≡ Some keyed → at < length keyed.positions
         → result ≡ Some (slice_index keyed.positions at) }
@@ -62,7 +62,8 @@ fn position_of<S: Source>(checked: &Checked<S>, at: u64) -> Option<u32>
     lists.positions.get(at as usize).copied()
 }
 
-/// The index that number `at` of the positions gives, and how the key there compares with these units.
+/// Returns the key index that is number `at` of the certificate's positions, and how that key compares with these
+/// units.
 fn compare_listed<S: Source>(
     checked: &mut Checked<S>,
     head: &Head,
@@ -90,7 +91,8 @@ fn compare_listed<S: Source>(
     Ok((i, compare_key(checked, k, units, comparisons)?))
 }
 
-/// The index of the key with these units, by halving the key list that begins at this number of the positions.
+/// Returns the index of the key with these units, found by binary search in the key list that begins at `start` of the
+/// certificate's positions.
 fn search_keys<S: Source>(
     checked: &mut Checked<S>,
     head: &Head,
@@ -122,8 +124,8 @@ fn search_keys<S: Source>(
     Ok(None)
 }
 
-/// Where the key list of dictionary `n` of so many pairs begins among the positions. None: the certificate
-/// has no key lists.
+/// Returns the index in the certificate's positions at which the key list of dictionary `n`, with `count` pairs,
+/// begins. Returns None if the certificate has no key lists, and `Changed` if the list is incomplete.
 fn list_start<S: Source>(
     checked: &Checked<S>,
     n: ObjectNo,
@@ -146,7 +148,8 @@ fn list_start<S: Source>(
     Ok(Some(start))
 }
 
-/// The index of the key with these units in dictionary `n` with this head.
+/// Returns the index of the key with these units in dictionary `n`, which has this head. Adds to `comparisons` one for
+/// each key that was compared.
 pub(crate) fn key_index<S: Source>(
     checked: &mut Checked<S>,
     n: ObjectNo,

@@ -1,4 +1,4 @@
-//! The keys of a dictionary.
+//! Reads the keys of a dictionary.
 
 ghost use Rattle.std.specs.Prelude.{◌≡◌, ◌<◌, ℕ, List as list};
 ghost use Rattle.bplist_cursor.specs.Prelude.{HonestlyChecked, text, Spells, leaf, dict, content_at, IsSafeHead, Dict, SpellsText, GivesCursor, cursor_read, OnlyReadsFile};
@@ -13,7 +13,7 @@ use bplist_objects::{Head, Kind, ObjectNo};
 use bplist_octets::Source;
 use std::alloc::Global;
 
-/// The units of the text that object `k` is.
+/// Returns the units of text `k`, or `Changed` if object `k` is not a text.
 fn key_text<S: Source>(
     alloc: Global,
     checked: &mut Checked<S>,
@@ -31,7 +31,7 @@ fn key_text<S: Source>(
     }
 }
 
-/// The units of the keys of a dictionary with this head, in written order.
+/// Returns the units of a dictionary's keys, in written order.
 pub(crate) fn key_texts<S: Source>(
     alloc: Global,
     checked: &mut Checked<S>,

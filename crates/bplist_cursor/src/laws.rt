@@ -1,21 +1,21 @@
-//! Laws of the definitions: each is the contract of a function that does nothing. Those of the crate alone say what its bodies
-//! rest on: tables by object, and the text of a value in two parts.
+//! Laws about the definitions in specs/. Each law is the contract of a function that does nothing. The bodies of this
+//! crate rest on those that are private to it: about tables by object, and about the text of a value in two parts.
 
 ghost use Rattle.std.specs.Prelude.{◌≡◌, ◌≤◌, ◌↔◌, ℕ, ◌<◌, List, [], ◌∷◌, Ok, Err, Some, None, Contains, slice_index};
 ghost use Rattle.bplist_cursor.specs.Prelude.{Frame as frame, IsFrame, Value, Content, Spells, refs, Holds, Refs, IsNoPath, IsPathOf, stepped, IsTaken, LeadTo, HasTextKeys, why_of, cap, nodes, Measured, value_text, IsFormed, plain, IsFormless, Formed, form_at, form_of, Form};
 
-/// A path text spells one list of steps.
+/// A path text spells exactly one list of steps.
 pub fn one_path()
     ensures { (text : List ℕ) (a b : List (List ℕ)) → IsPathOf text a → IsPathOf text b → a ≡ b }
 {}
 
-/// A text that is no path text is wrong at one byte.
+/// A text that is not a path text is wrong at exactly one byte.
 pub fn one_place()
     ensures { (text : List ℕ) (p q : ℕ) → IsNoPath text p → IsNoPath text q → p ≡ q }
 {}
 
-/// A step goes on exactly where a reference is taken for it, and the object of that reference holds what the step leads
-/// to.
+/// A step of a value can be taken exactly if it takes a reference of the object that holds the value. The object of
+/// that reference holds what the step leads to.
 pub fn steps_follow_references()
     ensures taken { (f : List ℕ) (F : frame) → IsFrame f F → (n : ℕ) (v : Value) (step : List ℕ) (m : ℕ) → Holds f F n v
         → LeadTo f F n (step ∷ []) m → (w : Value) × (stepped v step ≡ Ok w) × Holds f F m w }
@@ -23,8 +23,8 @@ pub fn steps_follow_references()
         → stepped v step ≡ Ok w → (m : ℕ) × LeadTo f F n (step ∷ []) m × Holds f F m w }
 {}
 
-/// An object that holds a value spells something, and where no reference of that is taken for a step, the step can't be
-/// taken. One that is taken is a reference of the object.
+/// An object that holds a value spells a content. If a step takes none of its references, the step can't be taken; if
+/// it takes one, that is a reference of the object.
 pub(crate) fn references_decide_steps()
     ensures content { (f : List ℕ) (F : frame) (n : ℕ) (v : Value) → Holds f F n v → (c : Content) × Spells f F n c × HasTextKeys f F c }
     ensures not_taken { (f : List ℕ) (F : frame) (n : ℕ) (v : Value) (step : List ℕ) (c : Content) → Holds f F n v → Spells f F n c
@@ -33,28 +33,28 @@ pub(crate) fn references_decide_steps()
         → IsTaken f F c step m → Contains (refs c) m × (m < F.objects) }
 {}
 
-/// A table over the objects of a height of 1 or more, where these refer to such objects only and each is one more than its
-/// references together, has the sizes of the trees.
+/// Let vouched objects refer to vouched ones only, and let a table give each of them one more than the sum of its
+/// references' entries. Then the table holds the number of nodes of each value's tree.
 pub(crate) fn measured_is_nodes()
     ensures { (f : List ℕ) (F : frame) (H M : List ℕ) → ((n : ℕ) → 1 ≤ slice_index H n → Measured f F M n)
         → ((n m : ℕ) → 1 ≤ slice_index H n → Refs f F n m → 1 ≤ slice_index H m)
         → (n : ℕ) (v : Value) → 1 ≤ slice_index H n → Holds f F n v → slice_index M n ≡ cap (nodes v) }
 {}
 
-/// A value has a text exactly where it is formed, and then it is its plain text.
+/// A value has a text exactly if it is formed, and then the text is its plain text.
 pub(crate) fn text_in_parts()
     ensures { (v : Value) (t : List ℕ) → (value_text v ≡ Some t) ↔ (IsFormed v × (plain v ≡ t)) }
 {}
 
-/// Of an object that holds a value without text one object is the first whose kind has no form, and of no other.
+/// If an object holds a value without a text, exactly one object is the first whose kind has no form.
 pub fn one_formless()
     ensures found { (f : List ℕ) (F : frame) (n : ℕ) (v : Value) → Holds f F n v → value_text v ≡ None → (x : ℕ) × IsFormless f F n v x }
     ensures only { (f : List ℕ) (F : frame) (n : ℕ) (v : Value) (x : ℕ) → IsFormless f F n v x → value_text v ≡ None }
     ensures one { (f : List ℕ) (F : frame) (n : ℕ) (v : Value) (x y : ℕ) → IsFormless f F n v x → IsFormless f F n v y → x ≡ y }
 {}
 
-/// A table over the objects of a height of 1 or more, where these refer to such objects only and each has the form that
-/// those of its references make, has the forms of the values.
+/// Let vouched objects refer to vouched ones only, and let a table give each of them the form that its references'
+/// forms make. Then the table holds the form of each value.
 pub(crate) fn formed_is_form()
     ensures { (f : List ℕ) (F : frame) (H : List ℕ) (T : List Form) → ((n : ℕ) → 1 ≤ slice_index H n → Formed f F T n)
         → ((n m : ℕ) → 1 ≤ slice_index H n → Refs f F n m → 1 ≤ slice_index H m)

@@ -1,4 +1,5 @@
-//! Key paths, and answers about the value of a checked file, without its tree.
+//! Answers about the value of a checked file: follows paths, shows values, lists members and counts nodes, without
+//! building the tree. Checking a file is in `bplist_cert`; writing a value as text is in `bplist_ascii`.
 //!
 //! ```
 //! let path = Path::parse(alloc, "/WindowSize/width")?;
@@ -8,22 +9,40 @@
 //! }
 //! ```
 //!
-//! | what | calls |
-//! |---|---|
-//! | a path, from its text or its steps | [`Path::parse`], [`Path::from_steps`], [`PathFault`] |
-//! | where it leads | [`locate`], [`locate_in_slice`], [`locate_counted`], [`Found`], [`Node`], [`Why`] |
-//! | one step from a node | [`step_from`] |
-//! | what a node is: a leaf, or a container's kind and count | [`face`], [`Face`] |
-//! | its members and bytes | [`member`], [`bytes_of`] |
-//! | the same by its head, part by part | [`node_head`], [`member_by_head`], [`body_bytes`], [`body_units`] |
-//! | replies to many queries | [`answer`], [`answer_all`], [`Query`], [`Reply`], [`List`] |
-//! | the same from a file and a certificate, which carries the theorem | [`answer_certified`], [`AnswerFault`] |
-//! | numbers of nodes and lengths of texts | [`measure`], [`Measures`], [`Form`] |
-//! | the number of nodes of one value, without a look at a leaf | [`count_nodes`] |
-//! | units that need no quotes | [`is_plain`], [`are_plain`] |
+//! Every answer is that of the one value that the file holds. `CursorFault::Changed` means that the certificate does
+//! not vouch for the node's object, or that the source gives other bytes than those that were checked.
 //!
-//! Every answer is that of the one value that the file holds. `CursorFault::Changed` says that the node's object has no height,
-//! or that the source gives other bytes than those that were checked.
+//! The modules, in reading order:
+//!
+//! | module | what it is about | public items |
+//! |---|---|---|
+//! | path | a path, from its text or its steps | [`Path`], [`PathFault`] |
+//! | found | what a path leads to: a node, or why not | [`Found`], [`Node`], [`Why`] |
+//! | lookup | following a path from the top | [`locate`], [`locate_in_slice`], [`locate_counted`] |
+//! | one_step | one step from a node | [`step_from`] |
+//! | path_step | the reference that a step takes | |
+//! | index | a step as an index into an array | |
+//! | key_search | a step as a key of a dictionary | |
+//! | faces | a leaf's value, or a container's kind and count | [`Face`] |
+//! | node_face | reading the face of a node | [`face`] |
+//! | list | the lists in faces and replies | [`List`] |
+//! | members | the members of a node | [`member`], [`member_by_head`] |
+//! | node_object | the head of a node's object, for reading it in parts | [`node_head`] |
+//! | bodies | a body, part by part | [`body_bytes`], [`body_units`] |
+//! | bytes | a body borrowed from a slice | [`bytes_of`] |
+//! | reply | queries and replies | [`Query`], [`Reply`] |
+//! | answers | replies to queries about a checked file | [`answer`], [`answer_all`] |
+//! | certified_answers | the same from a file and a certificate: the theorem | [`answer_certified`], [`AnswerFault`] |
+//! | key_texts | the keys of a dictionary | |
+//! | form | whether a value has an old-style text, and its length | [`Form`] |
+//! | measures | the table of node counts and forms | [`Measures`] |
+//! | object_sizes | filling that table | [`measure`] |
+//! | height_order | the objects in the order of their heights | |
+//! | node_counts | the number of nodes of one value, by its containers alone | [`count_nodes`] |
+//! | text_length | the length of a text's old-style form | [`is_plain`], [`are_plain`] |
+//! | checked_objects | heads and references of a checked file | |
+//! | faults | the errors of the calls above | [`CursorFault`], [`Unread`] |
+//! | laws | laws about specs/ | [`one_path`], [`one_place`], [`one_formless`], [`steps_follow_references`] |
 #![tactic(auto)]
 
 mod answers;

@@ -1,12 +1,10 @@
-//! Lists in answers.
+//! The lists in faces and replies.
 
 ghost use Rattle.std.specs.Prelude.{◌≡◌, List as list};
 
 use std::marker::Model;
 
-/// Items in order. Made from a Vec, lent as a slice and given back as the Vec, all without taking memory.
-///
-/// Contracts see the list of the items.
+/// Items in order: a Vec in a type that contracts see as the list of its items. No call takes memory.
 #[derive(Debug, Drop)]
 pub struct List<T> {
     items: Vec<T>,
@@ -19,21 +17,21 @@ impl<T> Model for List<T> {
 }
 
 impl<T> List<T> {
-    /// The list of these items.
+    /// Returns the list of these items.
     pub fn new(items: Vec<T>) -> List<T>
         ensures { result ≡ items.items }
     {
         List { items }
     }
 
-    /// The items.
+    /// Returns the items as a slice.
     pub fn as_slice(&self) -> &[T]
         ensures { result.now ≡ self.now }
     {
         &self.items
     }
 
-    /// Gives the Vec back.
+    /// Returns the Vec that the list was made from.
     pub fn into_vec(self) -> Vec<T>
         ensures { result.items ≡ self }
     {

@@ -1,4 +1,4 @@
-//! Where a path leads.
+//! Follows a path from the top of a checked file.
 
 ghost use Rattle.std.specs.Prelude.{⊤, ◌≡◌, ◌≢◌, ◌<◌, IsTrue, IsOk, IfOk, OnOk, Err, Vec};
 ghost use Rattle.bplist_cursor.specs.Prelude.{HonestlyChecked, Value, Holds, GivesRead, GivesCursor, read_failed, cursor_read, OnlyReadsFile, halvings, RisesAtMost, IsFound, Memory};
@@ -11,7 +11,7 @@ use crate::path_step::{Step, step_at};
 use bplist_cert::Checked;
 use bplist_octets::{SliceSource, Source};
 
-/// Where these steps lead from the top.
+/// Returns what these steps lead to from the top.
 fn lead<S: Source>(
     checked: &mut Checked<S>,
     steps: &[Vec<u16>],
@@ -38,11 +38,11 @@ fn lead<S: Source>(
     Ok(Found::At(Node { object }))
 }
 
-/// Where a path leads, and how many comparisons of keys that took, counted up to the last number of a `u64`.
+/// Returns what a path leads to, and how many comparisons of keys that took, counted up to the greatest `u64`.
 ///
-/// A key is looked for by halving where the certificate has key lists, else by a walk over the keys of the
-/// dictionary. The call takes no memory. `Read` is answered where a read of the source failed. `Changed` is
-/// answered where an object is not what the check has found, and never while the source is honest.
+/// If the certificate has key lists, a key is found by binary search, else by comparing the dictionary's keys in turn.
+/// The call takes no memory. Errors: `Read` if a read of the source failed; `Changed` if an object is not what the
+/// check found, which never happens while the source is honest.
 pub fn locate_counted<S: Source>(
     checked: &mut Checked<S>,
     path: &Path,
@@ -62,11 +62,10 @@ pub fn locate_counted<S: Source>(
     Ok((found, comparisons))
 }
 
-/// Where a path leads: the node that it leads to, or the first step that can't be taken.
+/// Returns the node that a path leads to, or the first step that can't be taken.
 ///
-/// The call takes no memory. `Read` is answered where a read of the source failed, so never over a slice.
-/// `Changed` is answered where an object is not what the check has found, and never while the source is
-/// honest.
+/// The call takes no memory. Errors: `Read` if a read of the source failed, so never over a slice; `Changed` if an
+/// object is not what the check found, which never happens while the source is honest.
 pub fn locate<S: Source>(checked: &mut Checked<S>, path: &Path) -> Result<Found, CursorFault>
     ensures reads { OnlyReadsFile (cursor_read result) checked.old checked.new }
     ensures exact { HonestlyChecked checked.old (λ f F. (v : Value) → Holds f F F.top.0 v
@@ -79,7 +78,7 @@ pub fn locate<S: Source>(checked: &mut Checked<S>, path: &Path) -> Result<Found,
     Ok(found)
 }
 
-/// Where a path leads in a file that lies in a slice: [`locate`], which has no other answer there.
+/// Returns what a path leads to in a file in memory. Same as [`locate`], without errors: over a slice there are none.
 pub fn locate_in_slice(checked: &mut Checked<SliceSource<'_>>, path: &Path) -> Found
     ensures same { checked.new ≡ checked.old }
     ensures exact { (v : Value) → Holds checked.old.source.octets checked.old.frame checked.old.frame.top.0 v

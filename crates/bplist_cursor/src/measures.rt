@@ -1,4 +1,4 @@
-//! The sizes of values, by the numbers of the objects that hold them.
+//! The table of sizes: for each object, how many nodes its value has and how long its text is.
 
 ghost use Rattle.std.specs.Prelude.{◌≡◌};
 ghost use Rattle.bplist_cursor.specs.Sizes.{both, nodes_in, form_in};
@@ -7,16 +7,16 @@ use crate::form::Form;
 use bplist_objects::ObjectNo;
 use std::marker::Model;
 
-/// The size of a value's tree, and that of its text.
+/// How many nodes a value's tree has, and how long its text is.
 #[derive(Clone, Copy, Debug, PartialEq, Eq)]
 pub(crate) struct Size {
-    /// How many nodes, or 18446744073709551615 where there are more.
+    /// The number of nodes, or 18446744073709551615 if it is greater.
     pub(crate) nodes: u64,
     pub(crate) form: Form,
 }
 
 impl Size {
-    /// The size of two values together.
+    /// Returns the size of two values together.
     pub(crate) fn and(self, other: Size) -> Size
         ensures { result ≡ both self other }
     {
@@ -27,7 +27,7 @@ impl Size {
     }
 }
 
-/// The sizes of the values that the objects of a checked file hold.
+/// The sizes of the values that the objects of a checked file hold. [`crate::measure`] makes it.
 ///
 /// Contracts see a table by the number of the object, which [`Measures::nodes`] and [`Measures::form`] read.
 #[derive(Debug, Drop)]
@@ -44,15 +44,14 @@ impl Model for Measures {
 }
 
 impl Measures {
-    /// A table of sizes.
     pub(crate) fn new(sizes: Vec<Option<Size>>) -> Measures
         ensures { result ≡ sizes.items }
     {
         Measures { sizes }
     }
 
-    /// How many nodes the tree of the value of object `n` has, or 18446744073709551615 where there are more; None
-    /// for an object that is not vouched for.
+    /// Returns the number of nodes of the value of object `n`, or 18446744073709551615 if it is greater. Returns None
+    /// if the certificate does not vouch for the object.
     pub fn nodes(&self, n: ObjectNo) -> Option<u64>
         ensures { result ≡ nodes_in self.now n.0 }
     {
@@ -62,8 +61,8 @@ impl Measures {
         }
     }
 
-    /// Whether the value of object `n` has an old-style text, and how long it is; None for an object that is not
-    /// vouched for.
+    /// Returns whether the value of object `n` can be written as old-style text, and how long that text is. Returns
+    /// None if the certificate does not vouch for the object.
     pub fn form(&self, n: ObjectNo) -> Option<Form>
         ensures { result ≡ form_in self.now n.0 }
     {

@@ -1,4 +1,4 @@
-//! The members of nodes.
+//! Finds the members of a node.
 
 ghost use Rattle.std.specs.Prelude.{◌≡◌, ◌≢◌, ℕ, ◌+◌, ◌*◌, ◌^◌, ◌<◌, ◌≤◌, List, length, slice_index, false, IsTrue, IfOk, IfErr, IfSome, MatchOption, option_map, Some, None, Err};
 ghost use Rattle.bplist_cursor.specs.Prelude.{HonestlyChecked, Value, Content, Spells, array, content_at, set, dict, refs, Holds, IsSafeHead, ref_count, IsVouchedBy, GivesCursor, GivesRead, cursor_read, read_failed, OnlyReadsFile, IsNumberOf, HoldsMember, member_of, member_reference, named, node_of, Memory};
@@ -12,7 +12,8 @@ use bplist_cert::Checked;
 use bplist_objects::{Head, Kind};
 use bplist_octets::Source;
 
-/// Which reference of an object with this head is the one for member `i`.
+/// Returns the number of the reference for member `i`. A dictionary's references are all its keys, then all its values;
+/// its members are key, value, key, value.
 fn number_of(head: &Head, i: u64) -> Option<u64>
     requires { ref_count head.now.kind head.now.count < 2 ^ 64 }
     ensures number { MatchOption result (ref_count head.now.kind head.now.count ≤ i)
@@ -27,10 +28,10 @@ fn number_of(head: &Head, i: u64) -> Option<u64>
     }
 }
 
-/// The node of member `i` of an object with this head, as [`node_head`] answers it. The members are numbered as in
+/// Returns the node of member `i` of an object with this head, as [`node_head`] returned it. Members are numbered as in
 /// [`member`].
 ///
-/// This is for a caller who asks for many members of one object, and reads its head once.
+/// Use this for many members of one object: its head is read once.
 pub fn member_by_head<S: Source>(
     checked: &mut Checked<S>,
     head: &Head,
@@ -55,7 +56,6 @@ pub fn member_by_head<S: Source>(
     Ok(Some(Node { object }))
 }
 
-/// The node of member `i`, by the reference for it.
 fn member_by_reference<S: Source>(
     checked: &mut Checked<S>,
     node: Node,
@@ -73,12 +73,13 @@ fn member_by_reference<S: Source>(
     Ok(member_by_head(checked, &head, i)?)
 }
 
-/// The node of member `i` of a node's object: member `i` of an array or a set; of a dictionary number `2 * j` is key
-/// `j`, and `2 * j + 1` is value `j`. None from the end on, and for a leaf.
+/// Returns the node of member `i` of a node's object, counted from 0. For an array or a set that is its member `i`. For
+/// a dictionary, number `2 * j` is key `j` and number `2 * j + 1` is value `j`. Returns None for a number past the last
+/// member, and for a leaf.
 ///
-/// The member is vouched for too. The call takes no memory. `Changed`: the certificate does not vouch for the object, or
-/// the source gives other bytes than those that were checked. `Read`: a read failed, which over a slice none does. A
-/// refusal leaves the `Checked` as it was, save the count of failures of its source.
+/// The certificate vouches for the returned node too. The call takes no memory. Errors: `Changed` if the certificate
+/// does not vouch for the object, or the source gives other bytes than those that were checked; `Read` if a read
+/// failed, so never over a slice. After an error the `Checked` is as before, except for its source's count of failures.
 pub fn member<S: Source>(
     checked: &mut Checked<S>,
     node: Node,

@@ -1,4 +1,4 @@
-//! The faces of nodes.
+//! Reads the face of a node.
 
 ghost use Rattle.std.specs.Prelude.{◌≡◌, ◌≢◌, ℕ, IsTrue, IfOk, IfErr, length, Err};
 ghost use Rattle.bplist_cursor.specs.Prelude.{part, HonestlyChecked, Value, item_size, Content, Spells, content_at, Holds, IsLeafKind, IsTextKind, IsSafeHead, IsSafeBody, IsVouchedBy, GivesCursor, cursor_read, OnlyReadsFile, face as face_of, content_face, HasRoom};
@@ -16,7 +16,7 @@ use bplist_objects::{Head, Kind, int_of, uid_of};
 use bplist_octets::Source;
 use std::alloc::Global;
 
-/// The bytes of a leaf whose body takes one byte for each of its count.
+/// Returns the body of a leaf that takes one byte for each unit of its count.
 fn leaf_bytes<S: Source>(
     alloc: Global,
     checked: &mut Checked<S>,
@@ -34,7 +34,7 @@ fn leaf_bytes<S: Source>(
     Ok(List::new(bytes))
 }
 
-/// The units of a text.
+/// Returns the units of a text.
 pub(crate) fn text_units<S: Source>(
     alloc: Global,
     checked: &mut Checked<S>,
@@ -50,7 +50,6 @@ pub(crate) fn text_units<S: Source>(
     Ok(List::new(units))
 }
 
-/// The face of an object with this head.
 fn face_by_head<S: Source>(
     alloc: Global,
     checked: &mut Checked<S>,
@@ -80,14 +79,14 @@ fn face_by_head<S: Source>(
     }
 }
 
-/// The face of the value that a node's object holds: the leaf itself, or the kind of the container with its count.
+/// Returns the face of the value that a node's object holds: a leaf's value, or a container's kind and count.
 ///
-/// The body of a leaf is read into one Vec of its count, which is asked for by one request. Over any source each
-/// reference that the face counts takes a byte of the source.
+/// The body of a leaf is read into one Vec of exactly its count. A count is safe to use for an allocation: over any
+/// source, honest or not, each reference that it counts takes at least one byte of the source.
 ///
-/// `Changed`: the certificate does not vouch for the object, or the source gives other bytes than those that were checked.
-/// `Read`: a read of the source failed. `Memory`: the one request was refused. A refusal leaves the `Checked` as it was,
-/// save the count of failures of its source.
+/// Errors: `Changed` if the certificate does not vouch for the object, or the source gives other bytes than those that
+/// were checked; `Read` if a read of the source failed; `Memory` if the allocation of that Vec was refused. After an
+/// error the `Checked` is as before, except for its source's count of failures.
 pub fn face<S: Source>(
     alloc: Global,
     checked: &mut Checked<S>,

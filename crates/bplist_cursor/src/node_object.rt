@@ -1,4 +1,4 @@
-//! The objects that nodes name.
+//! Reads the head of a node's object.
 
 ghost use Rattle.std.specs.Prelude.{◌≡◌, IfOk, length, Err};
 ghost use Rattle.bplist_cursor.specs.Prelude.{HonestlyChecked, Content, Spells, content_at, IsSafeHead, IsSafeBody, IsVouchedBy, GivesRead, read_failed, OnlyReadsFile};
@@ -11,11 +11,13 @@ use bplist_cert::Checked;
 use bplist_objects::Head;
 use bplist_octets::Source;
 
-/// The head of the object that a node names. `Changed`: the certificate does not vouch for that object, or the
-/// source gives other bytes than those that were checked.
+/// Returns the head of the object that a node names: its kind, its count, and where its body begins and ends.
 ///
-/// This is for a caller who reads a body in parts, by [`crate::body_bytes`] or [`crate::body_units`], or many members of one
-/// object, by [`crate::member_by_head`].
+/// Use it to read a body in parts, with [`crate::body_bytes`] or [`crate::body_units`], or many members of one object,
+/// with [`crate::member_by_head`].
+///
+/// Errors: `Changed` if the certificate does not vouch for the object, or the source gives other bytes than those that
+/// were checked; `Read` if a read of the source failed.
 pub fn node_head<S: Source>(checked: &mut Checked<S>, node: Node) -> Result<Head, Unread>
     ensures reads { OnlyReadsFile (read_failed result) checked.old checked.new }
     ensures exact { HonestlyChecked checked.old (λ f F. IsVouchedBy checked.old.certificate.heights node.object.0

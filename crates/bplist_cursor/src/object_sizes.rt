@@ -1,4 +1,4 @@
-//! The sizes of all values of a checked file, by one pass over its objects.
+//! Measures all values of a checked file in one pass over its objects.
 
 ghost use Rattle.std.specs.Prelude.{◌≡◌, ◌<◌, ℕ, Option, Some, List, length};
 ghost use Rattle.std.specs.List.{AllByRecursion};
@@ -15,10 +15,10 @@ use bplist_objects::{Head, Kind, ObjectNo, read_refs_in, refs_of};
 use bplist_octets::Source;
 use std::alloc::Global;
 
-/// How many references are read at once at most.
+/// The most references that are read at once.
 const BLOCK: usize = 128;
 
-/// What the table says of an object, None outside.
+/// Returns the table's entry for an object, or None if the table has none.
 fn size_at(sizes: &[Option<Size>], n: u64) -> Option<Size>
     ensures { result ≡ size_in sizes.now n }
 {
@@ -29,7 +29,7 @@ fn size_at(sizes: &[Option<Size>], n: u64) -> Option<Size>
     }
 }
 
-/// The total with the sizes of these objects added, where the table has them all.
+/// Adds the sizes of these objects to `start`. Returns None if the table lacks one of them.
 fn add_sizes(sizes: &[Option<Size>], refs: &[u64], start: Size) -> Option<Size>
     ensures { result ≡ added sizes.now start refs.now }
 {
@@ -40,7 +40,8 @@ fn add_sizes(sizes: &[Option<Size>], refs: &[u64], start: Size) -> Option<Size>
     Some(total)
 }
 
-/// The total with the sizes of the objects that the references of this head name added.
+/// Adds the sizes of all objects that an object with this head refers to. Returns `Changed` if the table lacks one of
+/// them.
 fn add_refs<S: Source>(
     checked: &mut Checked<S>,
     head: &Head,
@@ -70,7 +71,7 @@ fn add_refs<S: Source>(
     Ok(total)
 }
 
-/// The length of a container's brackets and separators, where it has a text.
+/// Returns the length of a container's brackets and separators. A set has no old-style text.
 fn punctuation(head: &Head) -> Form
     ensures { result ≡ punctuation_of head.now.kind head.now.count }
 {
@@ -81,7 +82,7 @@ fn punctuation(head: &Head) -> Form
     }
 }
 
-/// The form of the leaf with this head.
+/// Returns the form of a leaf.
 fn leaf_form<S: Source>(checked: &mut Checked<S>, head: &Head) -> Result<Form, Unread>
     requires { IsSafeBody (length checked.old.source.octets) head.now }
     ensures reads { OnlyReadsFile (read_failed result) checked.old checked.new }
@@ -95,7 +96,7 @@ fn leaf_form<S: Source>(checked: &mut Checked<S>, head: &Head) -> Result<Form, U
     }
 }
 
-/// The size of the value of an object, where the table has the sizes of its references.
+/// Returns the size of the value of an object. The table must already have the sizes of the objects that it refers to.
 fn size_of_object<S: Source>(
     checked: &mut Checked<S>,
     n: ObjectNo,
@@ -123,8 +124,7 @@ fn size_of_object<S: Source>(
     }
 }
 
-/// Gives the table the sizes of these objects, one after the other. The order is one in which each object stands
-/// behind those to which it refers.
+/// Fills the table for these objects, in this order. Each object must come after those that it refers to.
 fn measure_in_order<S: Source>(
     checked: &mut Checked<S>,
     order: &[u32],
@@ -143,13 +143,13 @@ fn measure_in_order<S: Source>(
     Ok(())
 }
 
-/// The sizes of the values of all objects that the certificate vouches for: how many nodes their trees have, and how
-/// long their texts are.
+/// Returns the sizes of the values of all objects that the certificate vouches for: how many nodes each has, and how
+/// long its old-style text is.
 ///
-/// Each object is looked at once, after those to which it refers, so that shared objects cost no more than others.
-/// The call takes memory by the number of objects. `Read` is answered where a read of the source failed, `Memory`
-/// where a growth was refused. `Changed` is answered where an object is not what the check has found, and never while
-/// the source is honest.
+/// Each object is measured once, after those that it refers to, so shared objects cost no more than others. The call
+/// takes memory in proportion to the number of objects. Errors: `Read` if a read of the source failed; `Memory` if an
+/// allocation was refused; `Changed` if an object is not what the check found, which never happens while the source is
+/// honest.
 pub fn measure<S: Source>(alloc: Global, checked: &mut Checked<S>) -> Result<Measures, CursorFault>
     ensures reads { OnlyReadsFile (cursor_read result) checked.old checked.new }
     ensures exact { HonestlyChecked checked.old

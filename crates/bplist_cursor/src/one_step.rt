@@ -1,4 +1,4 @@
-//! One step from a node.
+//! Takes one step from a node.
 
 ghost use Rattle.std.specs.Prelude.{◌≡◌, ◌≢◌, ◌∷◌, [], IsTrue, Err};
 ghost use Rattle.bplist_cursor.specs.Prelude.{Value, Holds, IsVouchedBy, GivesCursor, cursor_read, OnlyReadsFile, IsFound, Memory};
@@ -10,12 +10,12 @@ use crate::path_step::{Step, step_at};
 use bplist_cert::Checked;
 use bplist_octets::Source;
 
-/// Where one step leads from a node: to the value for the key with these units, or to the member whose index they spell.
-/// It is for keys that no path text can name; `step` of `Missing` is 0.
+/// Returns what one step leads to from a node: the value of the key with these units, or the member whose index they
+/// spell. In `Missing`, `step` is 0. Use it for keys that no path text can name.
 ///
-/// A key is looked for as by [`locate`](crate::locate). The call takes no memory. `Changed`: the certificate does not vouch
-/// for the object, or the source gives other bytes than those that were checked. `Read`: a read of the source failed. A
-/// refusal leaves the `Checked` as it was, save the count of failures of its source.
+/// A key is found as by [`locate`](crate::locate). The call takes no memory. Errors: `Changed` if the certificate does
+/// not vouch for the object, or the source gives other bytes than those that were checked; `Read` if a read of the
+/// source failed. After an error the `Checked` is as before, except for its source's count of failures.
 pub fn step_from<S: Source>(
     checked: &mut Checked<S>,
     node: Node,

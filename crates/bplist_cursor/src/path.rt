@@ -1,4 +1,4 @@
-//! Path texts, and the steps that they spell.
+//! Paths, and the texts that spell them (RFC 6901).
 
 ghost use Rattle.std.specs.Prelude.{◌≡◌, ◌≢◌, ◌⊎◌, ◌++◌, [], ◌∷◌, List, ℕ, map, flat_map, IfOk, IfErr, MatchOption, IsTrue};
 ghost use Rattle.bplist_cursor.specs.Path.{IsPathOf, IsNoPath, IsLoose, escaped, units};
@@ -23,25 +23,25 @@ impl Model for Path {
     ghost view = { λ p. map (λ s. s.items) p.steps.items };
 }
 
-/// Why a path text gave no path.
+/// Why a path text could not be parsed.
 #[derive(Clone, Copy, Debug, PartialEq, Eq)]
 pub enum PathFault {
-    /// The text spells no path.
+    /// The text does not spell a path.
     Text {
-        /// The byte at which the text is wrong, counted from the text's first.
+        /// The place of the wrong byte, from the start of the text.
         place: usize,
     },
-    /// A growth was refused.
+    /// An allocation was refused.
     Memory,
 }
 
 impl Path {
-    /// The path that a text spells by RFC 6901. The empty text has no steps; any other begins with `/`, and each `/`
-    /// begins a step. In a step `~0` stands for `~`, and `~1` for `/`.
+    /// Parses a path text by RFC 6901. The empty text has no steps. Any other begins with `/`, and each `/` begins a
+    /// step. In a step, `~0` means `~` and `~1` means `/`.
     ///
-    /// `Text` is answered for a text that spells no path. One that is not empty and does not begin with `/` is wrong at
-    /// byte 0. Any other is wrong at its first `~` that neither `0` nor `1` follows. `Memory` is answered where a growth
-    /// of the steps was refused.
+    /// Errors: `Text` if the text does not spell a path. The place is byte 0 if a non-empty text does not begin with
+    /// `/`, else that of the first `~` that is not followed by `0` or `1`. `Memory` if an allocation for the steps was
+    /// refused.
     pub fn parse(alloc: Global, text: &str) -> Result<Path, PathFault>
         ensures steps { IfOk result (IsPathOf text.now) }
         ensures wrong { IfErr result (OnText (IsNoPath text.now)) }
@@ -63,7 +63,7 @@ impl Path {
         Ok(Path { steps })
     }
 
-    /// The path of these steps.
+    /// Returns the path of these steps.
     pub fn from_steps(steps: Vec<Vec<u16>>) -> Path
         ensures { result ≡ map (λ s. s.items) steps.items }
     {
@@ -77,7 +77,7 @@ impl Path {
     }
 }
 
-/// Reads a token, and the `/` behind it. Says whether there was one.
+/// Appends the next token to `step` and consumes the `/` that follows it. Returns whether there was one.
 fn read_token(chars: &mut CharIndices<'_>, step: &mut Vec<u16>) -> Result<bool, PathFault>
     requires { IsReadable chars.old }
     ensures read { IfOk result (λ goes_on. (token : List ℕ) × Reads chars.old chars.new (flat_map escaped token ++ slash goes_on)
@@ -97,7 +97,8 @@ fn read_token(chars: &mut CharIndices<'_>, step: &mut Vec<u16>) -> Result<bool, 
     Ok(false)
 }
 
-/// The character that `c` stands for, with the digit behind it where `c` is `~`.
+/// Returns the character that `c` means: itself, or for `~` what `~` and the next character mean together. Returns None
+/// if that is neither `0` nor `1`.
 fn unescape(c: char, rest: &mut CharIndices<'_>) -> Option<char>
     requires readable { IsReadable rest.old }
     requires part { c ≢ 0x2F }

@@ -1,4 +1,4 @@
-//! One step of a path.
+//! Takes one step of a path: finds the reference that the step takes.
 
 ghost use Rattle.std.specs.Prelude.{◌≡◌, ◌<◌, ◌+◌, [], ◌∷◌, IfOk, OnOk};
 ghost use Rattle.bplist_cursor.specs.Prelude.{HonestlyChecked, Value, Spells, Content, content_at, Holds, IsSafeHead, ref_count, IsVouchedBy, GivesRead, read_failed, OnlyReadsFile, IsStep, IsInside, IsRefIndex, IsRefIndexBelow, HasTextKeys, halvings, halvings_of, RisesAtMost};
@@ -12,21 +12,21 @@ use bplist_cert::Checked;
 use bplist_objects::{Head, Kind, ObjectNo};
 use bplist_octets::Source;
 
-/// Where a step goes.
+/// The object that a step leads to, or why it leads to none.
 #[derive(Clone, Copy, Debug, PartialEq, Eq, Drop)]
 pub(crate) enum Step {
     On(ObjectNo),
     Not(Why),
 }
 
-/// Which reference a step takes.
+/// The index of the reference that a step takes, or why it takes none.
 #[derive(Clone, Copy, Debug, PartialEq, Eq, Drop)]
 enum RefIndex {
     Of(u64),
     Nowhere(Why),
 }
 
-/// Which reference of object `n` with this head the step with these units takes.
+/// Returns the reference that this step takes from object `n`, which has this head.
 fn ref_index<S: Source>(
     checked: &mut Checked<S>,
     n: ObjectNo,
@@ -59,7 +59,7 @@ fn ref_index<S: Source>(
     }
 }
 
-/// Where the step with these units goes from object `n`.
+/// Returns what this step leads to from object `n`.
 pub(crate) fn step_at<S: Source>(
     checked: &mut Checked<S>,
     n: ObjectNo,

@@ -1,11 +1,11 @@
-//! Queries, and the replies to them.
+//! Queries and their replies.
 
 use crate::faces::Face;
 use crate::found::Why;
 use crate::list::List;
 use crate::path::Path;
 
-/// What is asked about the value that a path leads to.
+/// What to ask about the value that a path leads to.
 #[derive(Debug, Drop)]
 pub enum Query {
     /// Its face.
@@ -19,15 +19,15 @@ pub enum Query {
 /// The reply to a query.
 #[derive(Debug, Drop)]
 pub enum Reply {
-    /// The face of the value, to `Get`.
+    /// To `Get`: the face of the value.
     Face(Face),
-    /// The units of each key of the dictionary, in written order, to `Keys`.
+    /// To `Keys`: the units of each key of the dictionary, in written order.
     Keys(List<List<u16>>),
-    /// The value is no dictionary and so has no keys, to `Keys`.
+    /// To `Keys`: the value is not a dictionary, so it has no keys.
     NoKeys,
-    /// The number of nodes of the value's tree, or 18446744073709551615 where it is greater, to `Size`.
+    /// To `Size`: the number of nodes of the value's tree, or 18446744073709551615 if it is greater.
     Size(u64),
-    /// The path leads to no value, to each query.
+    /// To any query: the path leads to no value.
     Missing {
         /// The number of the first step that can't be taken, counted from 0.
         step: u64,

@@ -1,4 +1,4 @@
-//! The length of a text's old-style form.
+//! Finds how long a text is as old-style text, without reading it into memory.
 
 ghost use Rattle.std.specs.Prelude.{◌≡◌, ◌≤◌, length, flat_map};
 ghost use Rattle.std.specs.Char.{is_ascii_alphanumeric};
@@ -13,25 +13,25 @@ use bplist_cert::Checked;
 use bplist_objects::Head;
 use bplist_octets::Source;
 
-/// How many units are read at once at most.
+/// The most units that are read at once.
 const BLOCK: usize = 128;
 
-/// Whether all of these 16-bit units are letters and digits of ASCII, so that a text of them that is not empty needs
-/// no quotes.
+/// Returns whether all these 16-bit units are ASCII letters and digits. A non-empty text of such units needs no quotes
+/// in old-style text.
 pub fn are_plain(units: &[u16]) -> bool
     ensures { result ≡ list_all is_ascii_alphanumeric units.now }
 {
     units.iter().all(|unit| is_plain(*unit))
 }
 
-/// Whether this 16-bit unit is a letter or a digit of ASCII: one of A-Z, a-z and 0-9.
+/// Returns whether this 16-bit unit is an ASCII letter or digit: one of A-Z, a-z and 0-9.
 pub fn is_plain(unit: u16) -> bool
     ensures { result ≡ is_ascii_alphanumeric unit }
 {
     matches!(unit, 0x30..=0x39 | 0x41..=0x5A | 0x61..=0x7A)
 }
 
-/// How many bytes a unit takes between quotes.
+/// Returns how many bytes a unit takes between quotes: `\"`, `\\` and `\n` take two, `\U` and four digits take six.
 #[tactic(auto, unfolding(hex::specs::Hex::encode_with))]
 fn quoted_unit_length(unit: u16) -> u64
     ensures { result ≡ length (texts.quoted_unit unit) }
@@ -43,7 +43,7 @@ fn quoted_unit_length(unit: u16) -> u64
     }
 }
 
-/// How many bytes a block of units takes between quotes.
+/// Returns how many bytes these units take between quotes.
 #[tactic(auto, unfolding(hex::specs::Hex::encode_with))]
 fn quoted_length(units: &[u16]) -> u64
     requires { length units.now ≤ 128 }
@@ -56,7 +56,7 @@ fn quoted_length(units: &[u16]) -> u64
     sum
 }
 
-/// The length of the old-style form of the text with this head, or 18446744073709551615 where it is longer.
+/// Returns the length in bytes of a text as old-style text, or 18446744073709551615 if it is greater.
 pub(crate) fn text_length<S: Source>(checked: &mut Checked<S>, head: &Head) -> Result<u64, Unread>
     requires kind { IsTextKind head.now.kind }
     requires head { IsSafeBody (length checked.old.source.octets) head.now }

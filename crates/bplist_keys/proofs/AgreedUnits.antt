@@ -1,4 +1,4 @@
--- Texts that agree in their first units.
+-- Texts that share their first units.
 use Rattle.std.proofs.Common.{◌≡◌, ℕ, zero, suc, ◌<◌, ◌≤◌, List, [], ◌∷◌, take, set, length, refl, sym, ap, ◌∙◌, inl, inr, subst, arith}
 use Rattle.std.proofs.lemmas.Bool.{cases_eq}
 use Rattle.std.proofs.lemmas.List.{get_or-set_same, get_or-set_other}
@@ -11,11 +11,11 @@ take_less (suc m) zero xs l = absurd (omega arith)
 take_less (suc m) (suc n) [] l = refl
 take_less (suc m) (suc n) (x ∷ xs) l = ap (λ ys. x ∷ ys) (take_less m n xs (omega arith))
 
--- what agrees in some units agrees in fewer
+-- texts that share some units share fewer
 pub agree_less : (m n : ℕ) (us vs : List ℕ) → m ≤ n → Agree n us vs → Agree m us vs
 agree_less m n us vs l e = sym (take_less m n us l) ∙ ap (take m) e ∙ take_less m n vs l
 
--- a note that is put
+-- a note is written
 pub true_put : (text : ℕ → List ℕ) (notes : List Note) (m : ℕ) (note : Note) → m < length notes → AreTrue text notes → Agree note.units (text m) (text note.other) → AreTrue text (set notes m note)
 true_put text notes m note within old new k = elim (cases_eq k m) [
   | inl e ↦ subst (λ j. Agree (note_at (set notes m note) j).units (text j) (text (note_at (set notes m note) j).other)) (sym e)

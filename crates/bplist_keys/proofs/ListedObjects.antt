@@ -6,7 +6,7 @@ use Rattle.bplist_objects.specs.declared.frame.Frame.{Frame}
 use Rattle.bplist_keys.specs.declared.weight.Weight.{Weight}
 use Rattle.bplist_keys.specs.Weights.{Weighs, AreWeighed}
 
--- those below n are weighed and listed
+-- the objects below n are weighed and listed
 pub record AreListed (n : ℕ) (named weights texts : List ℕ) : Type 0 where
   pub weighed : (k : ℕ) → k < length texts → (slice_index texts k < n) × (0 < slice_index weights (slice_index texts k))
   pub listed : (m : ℕ) → m < n → 0 < slice_index weights m → Contains texts m
@@ -59,7 +59,7 @@ module _ (n : ℕ) (named weights texts : List ℕ) (l : AreListed n named weigh
         let d : slice_index texts k ≢ n = omega (arith, t.0) in
         (omega (arith, t.0), rw (old w (slice_index texts k) d) t.1)
 
-    -- one that is no text
+    -- an object that is not a text
     pub listed_out : AreListed (n + 1) named (set weights n 0) texts
     listed_out = record {
       weighed = texts_too 0;
@@ -72,7 +72,7 @@ module _ (n : ℕ) (named weights texts : List ℕ) (l : AreListed n named weigh
       named_too = named_yet 0;
     }
 
-    -- one that is
+    -- an object that is a text
     pub listed_in : (w : ℕ) → 0 < w → AreListed (n + 1) named (set weights n w) (texts ++ n ∷ [])
     listed_in w some = record {
       weighed = λ k low. elim (cases_lt k (length texts)) [
@@ -92,7 +92,7 @@ module _ (n : ℕ) (named weights texts : List ℕ) (l : AreListed n named weigh
       named_too = named_yet w;
     }
 
-    -- either of them
+    -- either of the two
     pub listed_put : (w : ℕ) (after : List ℕ) → (w ≡ 0 → after ≡ texts) → (0 < w → after ≡ texts ++ n ∷ []) → AreListed (n + 1) named (set weights n w) after
     listed_put w after other text = elim (cases_lt 0 w) [
       | inl some ↦ subst (AreListed (n + 1) named (set weights n w)) (sym (text some)) (listed_in w some)
@@ -102,7 +102,7 @@ module _ (n : ℕ) (named weights texts : List ℕ) (l : AreListed n named weigh
     ]
 
 module _ (f : List ℕ) (F : Frame) (by : Weight) (named : List ℕ) where
-  -- those below n that are named have their weights
+  -- the named objects below n have their weights
   abbrev pub WeighBelow : ℕ → List ℕ → Type 0
   WeighBelow n weights = (m : ℕ) → m < n → 0 < slice_index named m → Weighs f F by m (slice_index weights m)
 

@@ -1,11 +1,11 @@
--- Steps of the reading of the offset table.
+-- Steps of reading the offset table.
 use Rattle.std.proofs.Common.{◌≡◌, ℕ, ◌+◌, ◌-◌, ◌<◌, min, inl, inr, List, length, slice_index, ap, ◌∙◌, subst, arith}
 use Rattle.std.proofs.lemmas.Bool.{cases_lt}
 use Rattle.bplist_objects.specs.declared.frame.Frame.{Frame}
 use Rattle.bplist_objects.specs.Frame.{off}
 use Rattle.bplist_keys.specs.Offsets.{AreOffsets32}
 
--- one block more was put into the table
+-- one more block was put into the table
 pub offsets_more : (f : List ℕ) (F : Frame) (from count : ℕ) (old new places : List ℕ) → length places ≡ count
     → ((k : ℕ) → k < from → slice_index new k ≡ slice_index old k)
     → ((k : ℕ) → k < length places → slice_index new (from + k) ≡ min (slice_index places k) 4294967295)

@@ -15,7 +15,7 @@ module _ (f : List ℕ) (F : Frame) (m : ℕ) (key : Head) (text : HasShape f F 
   pub text_units-head : text_units f F m ≡ units_of f key
   text_units-head = ap (λ found. option_map_or (units_of f) found []) (head_is_found f F m key text.0.has)
 
-  -- and they are such units
+  -- and they are UTF-16 units
   pub units_there : HasUnits f F m (text_units f F m)
   units_there = (key, text.0, text.1, text_units-head)
 
@@ -27,6 +27,6 @@ module _ (f : List ℕ) (F : Frame) (m : ℕ) (key : Head) (text : HasShape f F 
   weighs-prefix x is =
       (λ _. ((key, text), (ap (λ y. max y 1) (is.0 ∙ ap prefix (sym text_units-head)), subst (λ us. slice_index us 1 < 65536) (sym text_units-head) is.1)), λ _. omega arith)
 
--- the units of an object are those that are computed
+-- the units of an object are the computed ones
 pub units_are : (f : List ℕ) (F : Frame) (m : ℕ) (us : List ℕ) → HasUnits f F m us → text_units f F m ≡ us
 units_are f F m us (key, shape, kind, e) = text_units-head f F m key (shape, kind) ∙ sym e

@@ -14,16 +14,15 @@ use Rattle.bplist_keys.specs.declared.class_table.KeyDefect.{KeyDefect}
 use Rattle.bplist_keys.specs.declared.class_table.KeyDefect.TheVariants as defects
 
 module _ (f : List ℕ) (F : Frame) where
-  -- the keys of object n, if it is a dictionary, are named
+  -- if object n is a dictionary, its keys are named
   abbrev pub HasNamedKeys : List Bool → ℕ → Type 0
   HasNamedKeys named n = (head : Head) → HasHead f F n head → head.kind ≡ Dict → (k : ℕ) → k < head.count → IsMarked named (ref f F head k)
 
-  -- object m is one of the first so many references of this head: of a dictionary, one of so many keys
+  -- object m is one of the first `many` references of this head (of a dictionary, one of its first keys)
   abbrev pub IsNamedBy : Head → ℕ → ℕ → Type 0
   IsNamedBy head many m = (k : ℕ) × (k < many) × (m ≡ ref f F head k)
 
-  -- the keys of a dictionary with this head have these classes: those alone that are texts by marker and count, and two
-  -- have the same one exactly where their units are the same
+  -- this dictionary's keys have these classes: 0 if and only if no text, equal ones if and only if the units are
   pub record AreClassed (classes : List ℕ) (head : Head) : Type 0 where
     pub only : (k : ℕ) → k < head.count → 0 < slice_index classes (ref f F head k) → HasTextShape f F (ref f F head k)
     pub all : (k : ℕ) → k < head.count → HasTextShape f F (ref f F head k) → 0 < slice_index classes (ref f F head k)
@@ -31,7 +30,7 @@ module _ (f : List ℕ) (F : Frame) where
         → 0 < slice_index classes (ref f F head i) → 0 < slice_index classes (ref f F head j)
         → (slice_index classes (ref f F head i) ≡ slice_index classes (ref f F head j)) ↔ (text_units f F (ref f F head i) ≡ text_units f F (ref f F head j))
 
--- what is found of a key m of dictionary n, and what becomes of the numbers of the dictionaries that each class was seen in last
+-- what is found of key m of dictionary n, and the table of the dictionary in which each class was seen last, after that
 abbrev pub IsKeyLookup : List ℕ → ℕ → ℕ → List ℕ → KeyLookup → List ℕ → Type 0
 IsKeyLookup classes n m seen lookups.NotText seen' = (slice_index classes m ≡ 0) × (seen' ≡ seen)
 IsKeyLookup classes n m seen lookups.First seen' =
@@ -40,35 +39,35 @@ IsKeyLookup classes n m seen lookups.First seen' =
 IsKeyLookup classes n m seen lookups.Repeated seen' =
     (0 < slice_index classes m) × (slice_index seen (slice_index classes m - 1) ≡ n + 1) × (seen' ≡ seen)
 
--- each class was last seen in the dictionary that it was, or in n
+-- each class was last seen in dictionary n or where it was before
 abbrev pub IsStamped : ℕ → List ℕ → List ℕ → Type 0
 IsStamped n seen seen' = (x : ℕ) → (slice_index seen' x ≡ n + 1) ⊎ (slice_index seen' x ≡ slice_index seen x)
 
--- no class was seen in dictionary n yet
+-- no class has been seen in dictionary n
 abbrev pub IsNew : List ℕ → ℕ → Type 0
 IsNew seen n = (x : ℕ) → slice_index seen x ≢ n + 1
 
 module _ (key : ℕ → ℕ) (classes : List ℕ) where
-  -- the first so many keys are of different classes
+  -- the first `count` keys have different classes
   abbrev pub AreApart : ℕ → Type 0
   AreApart count = (i j : ℕ) → i < j → j < count → slice_index classes (key i) ≢ slice_index classes (key j)
 
-  -- the first so many keys have a class
+  -- the first `count` keys have a class
   abbrev pub HaveClasses : ℕ → Type 0
   HaveClasses count = (i : ℕ) → i < count → 0 < slice_index classes (key i)
 
-  -- the first so many keys of dictionary n have been looked at
+  -- the first `count` keys of dictionary n have been looked up
   pub record HaveSeenKeys (n : ℕ) (seen : List ℕ) (count : ℕ) (again : Option ℕ) : Type 0 where
     pub texts : HaveClasses count
     pub stamped : (i : ℕ) → i < count → slice_index seen (slice_index classes (key i) - 1) ≡ n + 1
     pub only : (x : ℕ) → slice_index seen x ≡ n + 1 → (i : ℕ) × (i < count) × (slice_index classes (key i) ≡ x + 1)
     pub first : MatchOption again (AreApart count) (FailsAt AreApart count)
 
-  -- what is wrong first with so many keys: one has no class, or else one has that of an earlier key
+  -- the first defect of `count` keys: one has no class, or all have one and one has that of an earlier key
   abbrev pub IsKeyDefect : ℕ → KeyDefect → Type 0
   IsKeyDefect count (defects.NotText i) = FailsAt HaveClasses count i
   IsKeyDefect count (defects.Repeated j) = HaveClasses count × FailsAt AreApart count j
 
--- the number of the key that is wrong
+-- the number of the wrong key
 abbrev pub defect_key : KeyDefect → ℕ
 defect_key defect = elim defect [ defects.NotText i ↦ i | defects.Repeated j ↦ j ]

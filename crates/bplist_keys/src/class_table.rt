@@ -1,4 +1,4 @@
-//! The classes of the texts that are named as keys, and in which dictionary each was seen last.
+//! Finds the first key of a dictionary that is not a text (rule 21) or that repeats an earlier key (rule 22).
 
 ghost use Rattle.std.specs.Prelude.{◌≡◌, ◌+◌, ◌-◌, ◌<◌, ◌^◌, ℕ, IfOk, IfSome, MatchOption, is_err, length, slice_index};
 ghost use Rattle.bplist_octets.specs.Meaning.{OnlyReads};
@@ -13,27 +13,27 @@ use bplist_objects::{Framed, Head, read_refs_in};
 use bplist_octets::ReadFault;
 use std::alloc::{AllocError, Global};
 
-/// What is found of a key of a dictionary.
+/// What `look_up` finds of a key.
 #[derive(Clone, Copy, Debug)]
 pub(crate) enum KeyLookup {
-    /// It is no text.
+    /// The key is not a text.
     NotText,
-    /// It is a text whose units no key before it has.
+    /// The key is a text, and no earlier key has its units.
     First,
-    /// It is a text with the units of a key before it.
+    /// The key is a text with the units of an earlier key.
     Repeated,
 }
 
-/// What is wrong with the keys of a dictionary first.
+/// The first defect of a dictionary's keys.
 #[derive(Clone, Copy, Debug)]
 pub enum KeyDefect {
-    /// The key of this number is the first that is no text.
+    /// The key of this number, from 0, is the first that is not a text.
     NotText(u64),
-    /// All are texts, and the key of this number is the first with the units of an earlier one.
+    /// All keys are texts, and the key of this number, from 0, is the first with the units of an earlier one.
     Repeated(u64),
 }
 
-/// The classes of keys, and for each the dictionary that it was seen in last: its number and 1, or 0 for none.
+/// The classes of keys, and for each class the dictionary that last had a key of it: its number plus 1, or 0 for none.
 #[derive(Drop)]
 pub struct ClassTable {
     pub classes: Ranks,
@@ -41,7 +41,7 @@ pub struct ClassTable {
     pub ghost all: { length seen.items ≡ classes.greatest },
 }
 
-/// The number that was found before, or this one where there is none.
+/// Returns the number found before, or `k` if there is none.
 fn earlier(found: Option<u64>, k: u64) -> u64
     ensures { MatchOption found (result ≡ k) (λ j. result ≡ j) }
 {
@@ -55,7 +55,7 @@ impl ClassTable {
     ghost use Rattle.bplist_keys.specs.declared.class_table.KeyDefect.TheVariants.{NotText};
     ghost use Rattle.bplist_keys.specs.Classes.{IsKeyLookup, IsStamped, IsNew, HaveSeenKeys, HaveClasses, AreApart, IsKeyDefect, defect_key};
 
-    /// None of these classes was seen yet.
+    /// Returns a table in which no class has been seen.
     pub fn new(alloc: Global, classes: Ranks) -> Result<ClassTable, AllocError>
         ensures classes { IfOk result (λ table. table.classes.table.items ≡ classes.table.items) }
         ensures none { IfOk result (λ table. (x : ℕ) → slice_index table.seen.items x ≡ 0) }
@@ -64,7 +64,7 @@ impl ClassTable {
         Ok(ClassTable { classes, seen })
     }
 
-    /// Looks up a key of dictionary `n`: object `m`.
+    /// Looks up object `m` as a key of dictionary `n`.
     fn look_up(&mut self, n: u32, m: u64) -> KeyLookup
         requires { n < 2 ^ 32 - 1 }
         ensures same { self.new.classes.table.items ≡ self.old.classes.table.items }
@@ -85,8 +85,8 @@ impl ClassTable {
         KeyLookup::First
     }
 
-    /// Looks up a block of the keys of dictionary `n`, of which the first so many were looked up. The number of the first
-    /// that is no text. `again` is that of the first which has the units of an earlier one.
+    /// Looks up a block of keys of dictionary `n`, of which `done` were looked up before. Returns the number of the
+    /// first that is not a text. Sets `again` to that of the first that repeats an earlier key.
     fn look_up_block(
         &mut self,
         n: u32,
@@ -116,7 +116,8 @@ impl ClassTable {
         None
     }
 
-    /// What is wrong with the keys of dictionary `n` first.
+    /// Returns the first defect of the keys of dictionary `n` with this head, or None. Call it only once for each
+    /// dictionary: a second call would take its keys for repeated ones. An error is a failed read.
     pub fn first_wrong<P: Framed>(
         &mut self,
         src: &mut P,

@@ -1,4 +1,4 @@
-//! Why a call gives no answer that no rule decides.
+//! Why a call failed although no rule is broken.
 
 ghost use Rattle.std.specs.Prelude.{◌≡◌};
 ghost use Rattle.bplist_keys.specs.Prelude.{Read, Memory};
@@ -6,12 +6,12 @@ ghost use Rattle.bplist_keys.specs.Prelude.{Read, Memory};
 use bplist_octets::ReadFault;
 use std::alloc::{AllocError, AllocFailed};
 
-/// Why a call over a file ended without its answer, whatever the file says.
+/// Why a call over a file failed. This says nothing about the file.
 #[derive(Clone, Copy, Debug, PartialEq, Eq, Drop)]
 pub enum Failure {
     /// A read failed.
     Read(ReadFault),
-    /// Memory was refused.
+    /// An allocation failed.
     Memory,
 }
 

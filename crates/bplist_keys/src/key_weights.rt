@@ -8,19 +8,19 @@ use crate::offsets::Offsets;
 use crate::weight::{Weight, weigh};
 use bplist_objects::Framed;
 
-/// Objects that are named as keys, and those among them that are known to be texts.
+/// The objects that are named as keys, and those of them that are known to be texts.
 #[derive(Drop)]
 pub(crate) struct Weighing {
     pub by: Weight,
-    /// A number for each object: 0 where it is not named, and else its weight as soon as it is known. It is 0 again
-    /// where the object is no text.
+    /// A number for each object: 0 if it is not named, and not 0 if it is. Once a named object has been weighed, its
+    /// number is its weight, which is 0 if the object is not a text.
     pub weights: Vec<u32>,
-    /// Those with a weight.
+    /// The objects that have been weighed and are texts.
     pub texts: Vec<u32>,
 }
 
 impl Weighing {
-    /// Object `m` has this weight. It is listed where the weight is not 0.
+    /// Stores the weight of object `m`, and lists the object if the weight is not 0.
     fn put(&mut self, m: u32, weight: u32) -> Result<(), Failure>
         requires { m < length self.old.weights.items }
         ensures by { self.new.by ≡ self.old.by }
@@ -37,7 +37,7 @@ impl Weighing {
     }
 }
 
-/// Weighs the objects that are named, and lists those that are texts by marker and count.
+/// Weighs the named objects, and lists those that are texts by marker and count.
 pub(crate) fn weigh_keys<P: Offsets>(src: &mut P, keys: &mut Weighing) -> Result<(), Failure>
     requires named { length keys.old.weights.items ≡ (frame_in (P.means src.old)).objects }
     requires none { length keys.old.texts.items ≡ 0 }

@@ -1,4 +1,4 @@
-//! The objects that are named as keys.
+//! The objects that dictionaries name as keys.
 
 ghost use Rattle.std.specs.Prelude.{◌≡◌, ◌⊎◌, Contains, ◌≤◌, ◌<◌, ◌^◌, ℕ, IfOk, OnOk, is_err, false, true, count_by, length, map, set, replicate, slice_index};
 ghost use Rattle.std.specs.Int.{from_bool};
@@ -8,11 +8,11 @@ use bplist_objects::{Framed, Head, read_refs_in};
 use bplist_octets::ReadFault;
 use std::alloc::{AllocError, Global};
 
-/// How many references are read at once at most. They are few, since most dictionaries are small, and the block
-/// is set up for each of them.
+/// The largest number of references in one read. It is small because most dictionaries are, and the buffer is cleared
+/// for each.
 pub(crate) const BLOCK: usize = 32;
 
-/// A number for each mark: 1 where it is set, else 0. Memory is asked for once.
+/// Returns a number for each mark: 1 if it is set, otherwise 0. Allocates once.
 pub fn numbers_of(alloc: Global, marks: &[bool]) -> Result<Vec<u32>, AllocError>
     ensures { IfOk result (λ numbers. numbers.items ≡ map from_bool marks.now) }
 {
@@ -23,14 +23,14 @@ pub fn numbers_of(alloc: Global, marks: &[bool]) -> Result<Vec<u32>, AllocError>
     Ok(numbers)
 }
 
-/// The objects of a file that are named as keys: exactly these are marked.
+/// A mark for each object of a file: set if and only if the object is named as a key.
 #[derive(Drop)]
 pub struct NamedKeys {
     pub marks: Vec<bool>,
 }
 
 impl NamedKeys {
-    /// Of so many objects none is named yet.
+    /// Returns a mark for each of `objects` objects, none of them set.
     pub fn new(alloc: Global, objects: u32) -> Result<NamedKeys, AllocError>
         ensures { IfOk result (λ named. named.marks.items ≡ replicate objects false) }
     {
@@ -39,11 +39,11 @@ impl NamedKeys {
         })
     }
 
-    /// How many objects are named.
+    /// Returns the number of marks that are set.
     pub fn count(&self) -> usize
         ensures { result ≡ count_by (λ marked. marked) self.now.marks.items }
     {
-        // Nothing but a sum is made in the loop, so that it takes several at a time.
+        // The loop only adds, so that it is vectorized.
         let mut count = 0usize;
         for i in 0..self.marks.len() {
             if self.marks[i] {
@@ -53,7 +53,7 @@ impl NamedKeys {
         count
     }
 
-    /// Object `m` is named as a key.
+    /// Marks object `m`.
     pub fn insert(&mut self, m: u32)
         requires { m < length self.old.marks.items }
         ensures { self.new.marks.items ≡ set self.old.marks.items m true }
@@ -61,7 +61,7 @@ impl NamedKeys {
         self.marks[m as usize] = true;
     }
 
-    /// Those of the numbers that have a mark are named as keys.
+    /// Marks the objects with these numbers. A number that is no object's is ignored.
     pub fn insert_all(&mut self, numbers: &[u64])
         ensures all { length self.new.marks.items ≡ length self.old.marks.items }
         ensures keeps { (m : ℕ) → IsMarked self.old.marks.items m → IsMarked self.new.marks.items m }
@@ -79,7 +79,8 @@ impl NamedKeys {
     }
 }
 
-/// Names a block of the keys of a dictionary, from number `from` on, as far as there are marks. The number of the key after it.
+/// Marks a block of a dictionary's keys, from number `from` on. A reference that is no object's number is ignored.
+/// Returns the number of the key after the block.
 fn name_block<P: Framed>(
     src: &mut P,
     head: &Head,
@@ -106,7 +107,8 @@ fn name_block<P: Framed>(
     Ok(from + count)
 }
 
-/// Names the keys of a dictionary, as far as there are marks, and nothing else.
+/// Marks the keys of the dictionary with this head, and nothing else. A reference that is no object's number is
+/// ignored. An error is a failed read, after which some of the keys may be marked.
 pub fn name_keys<P: Framed>(
     src: &mut P,
     head: &Head,

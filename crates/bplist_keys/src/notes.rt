@@ -1,7 +1,7 @@
-//! Notes of texts that were compared: each says that a text agrees with another one in so many of its first units.
+//! Notes of compared texts: each says how many of its first units a text shares with another text.
 //!
-//! Of two texts the one that comes later takes the note. So in a merge sort the two that are compared next have agreed with
-//! the same text, the one that went before them, and what they share with it is not read again.
+//! The text that comes later takes the note. So in a merge sort, the two texts that are compared next have both been
+//! compared with the same text, the one that came before them, and what they share with it is not read again.
 
 ghost use Rattle.std.specs.Prelude.{◌≡◌, ◌≤◌, ℕ, List, IfOk, length, vec_len};
 ghost use Rattle.bplist_keys.specs.Prelude.{Agree, AreTrue, note_at, AreRuns};
@@ -10,14 +10,14 @@ use crate::runs::Runs;
 use std::alloc::{AllocError, Global};
 use std::cmp::Ordering;
 
-/// That a text agrees with the text `other` in so many of its first units.
+/// A text shares its first `units` units with the text `other`.
 #[derive(Clone, Copy, Debug)]
 pub(crate) struct Note {
     pub other: u32,
     pub units: u32,
 }
 
-/// What is known of texts that were compared: a note for each object, or none at all, and runs that texts have in common.
+/// What earlier comparisons found: a note for each object, or no notes at all, and the runs that texts share.
 #[derive(Drop)]
 pub(crate) struct Notes {
     pub notes: Vec<Note>,
@@ -25,7 +25,7 @@ pub(crate) struct Notes {
 }
 
 impl Notes {
-    /// Nothing will be noted.
+    /// Returns notes that keep nothing but runs.
     pub fn none(alloc: Global) -> Notes
         ensures notes { (text : ℕ → List ℕ) → AreTrue text result.notes.items }
         ensures runs { (f : List ℕ) → AreRuns f result.runs.slots }
@@ -36,7 +36,7 @@ impl Notes {
         }
     }
 
-    /// Of so many objects nothing is noted yet.
+    /// Returns empty notes for `objects` objects.
     pub fn new(alloc: Global, objects: u32) -> Result<Notes, AllocError>
         ensures notes { IfOk result (λ notes. (text : ℕ → List ℕ) → AreTrue text notes.notes.items) }
         ensures runs { IfOk result (λ notes. (f : List ℕ) → AreRuns f notes.runs.slots) }
@@ -48,7 +48,6 @@ impl Notes {
         })
     }
 
-    /// The note of text `m`.
     fn of(&self, m: u32) -> Note
         ensures { result ≡ note_at self.now.notes.items m }
     {
@@ -58,7 +57,7 @@ impl Notes {
         Note { other: 0, units: 0 }
     }
 
-    /// In how many of their first units two texts are known to agree.
+    /// Returns how many of their first units two texts are known to share.
     pub fn agreed(&self, a: u32, b: u32) -> u32
         ensures { (text : ℕ → List ℕ) → AreTrue text self.now.notes.items → Agree result (text a) (text b) }
     {
@@ -75,7 +74,7 @@ impl Notes {
         }
     }
 
-    /// Text `m` agrees with the one beside it in so many of its first units.
+    /// Notes that text `m` shares its first `units` units with the text `other`.
     fn put(&mut self, m: u32, other: u32, units: u64)
         ensures runs { self.new.runs.slots ≡ self.old.runs.slots }
         ensures notes { (text : ℕ → List ℕ) → AreTrue text self.old.notes.items → Agree units (text m) (text other)
@@ -87,7 +86,8 @@ impl Notes {
         }
     }
 
-    /// Texts `a` and `b`, which were compared, agree in so many of their first units: the greater one takes the note.
+    /// Notes that texts `a` and `b`, compared with this result, share their first `units` units. The one that comes
+    /// later takes the note.
     pub fn add(&mut self, a: u32, b: u32, found: Ordering, units: u64)
         ensures runs { self.new.runs.slots ≡ self.old.runs.slots }
         ensures notes { (text : ℕ → List ℕ) → AreTrue text self.old.notes.items → Agree units (text a) (text b)

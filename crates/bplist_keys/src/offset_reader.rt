@@ -1,4 +1,4 @@
-//! A source that tells the places of its objects from blocks of the offset table.
+//! A source that reads the places of its objects from the offset table, block by block.
 
 ghost use Rattle.std.specs.Prelude.{◌≡◌, ◌+◌, ◌≤◌, ◌<◌, IsTrue, OnOk, is_err, length};
 ghost use Rattle.bplist_octets.specs.Meaning.{OnlyReads};
@@ -12,13 +12,13 @@ use crate::offsets::Offsets;
 use bplist_objects::{Frame, Framed, read_offsets};
 use bplist_octets::{ReadFault, Source};
 
-/// How many entries are read at once where places are not asked for in the order of their objects.
+/// The number of entries in one read if they are not asked for in ascending order.
 const FEW: u32 = 16;
 
-/// How many entries are read at once at most.
+/// The largest number of entries in one read.
 const MOST: u32 = 256;
 
-/// Reads the places of `count` objects from number `first` on to the front of `into`.
+/// Reads the places of `count` objects from number `first` on into the first elements of `into`.
 fn read_front<S: Source>(
     src: &mut S,
     frame: &Frame,
@@ -36,16 +36,17 @@ fn read_front<S: Source>(
     read_offsets(src, frame, first, &mut into[..count as usize])
 }
 
-/// A source that is lent, with its frame and the entries of the offset table that were read last: it is read in blocks, and no
-/// more of it is kept. A block has 16 entries and begins at a multiple of 16, so that places may be asked for in descending order
-/// too; where they are asked for in ascending order it has twice as many as the block before, up to 256.
+/// A borrowed source with its frame and the block of the offset table that was read last.
+///
+/// A block has 16 entries and begins at a multiple of 16, so that places may also be asked for in descending order. If
+/// they are asked for in ascending order, each block has twice as many entries as the one before, up to 256.
 #[derive(Drop)]
 pub struct OffsetReader<'a, S: Source> {
     source: &'a mut S,
     frame: Frame,
-    /// The number of the first object whose entry is held.
+    /// The number of the first object in the block.
     first: u32,
-    /// How many entries are held.
+    /// The number of entries in the block.
     count: u32,
     places: [u64; MOST as usize],
     pub ghost safe: { IsSafeFrame (length (S.means source.now).octets) frame },
@@ -55,7 +56,7 @@ pub struct OffsetReader<'a, S: Source> {
 }
 
 impl<'a, S: Source> OffsetReader<'a, S> {
-    /// A source with its frame, as `frame_of` answers it. No entry was read yet.
+    /// Returns a source with its frame, as `frame_of` returns it. No entry is read yet.
     pub fn new(source: &'a mut S, frame: Frame) -> OffsetReader<'a, S>
         requires safe { IsSafeFrame (length (S.means source.old).octets) frame }
         requires framed { IsTrue (S.means source.old).honest → IsFrame (S.means source.old).octets frame }
@@ -72,7 +73,7 @@ impl<'a, S: Source> OffsetReader<'a, S> {
         }
     }
 
-    /// How many entries are read for that of object `n`, which is not held.
+    /// Returns how many entries to read for that of object `n`, which is not in the block.
     fn block_for(&self, n: u32) -> u32
         ensures few { 16 ≤ result }
         ensures fits { result ≤ 256 }
@@ -83,7 +84,7 @@ impl<'a, S: Source> OffsetReader<'a, S> {
         (2 * self.count).clamp(FEW, MOST)
     }
 
-    /// Reads a block of entries with that of object `n`.
+    /// Reads the block that has the entry of object `n`. After a failed read no entry is held.
     fn read(&mut self, n: u32) -> Result<(), ReadFault>
         requires { n < self.old.frame.objects }
         ensures same_source { self.new.source.ghost_name ≡ self.old.source.ghost_name }
@@ -109,7 +110,7 @@ impl<S: Source> Source for OffsetReader<'_, S> {
         self.source.len()
     }
 
-    // Inlined, so that a read costs what it costs the source.
+    // Inlined, so that a read costs no more than one of the source.
     #[inline(always)]
     fn read_at(&mut self, at: u64, into: &mut [u8]) -> Result<(), ReadFault> {
         self.source.read_at(at, into)

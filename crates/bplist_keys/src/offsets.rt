@@ -1,4 +1,4 @@
-//! The places of all objects, from the offset table, and sources that hold them.
+//! The places of all objects, and sources that have them.
 
 ghost use Rattle.std.specs.Prelude.{◌≡◌, ℕ, ◌+◌, ◌≤◌, ◌<◌, IsTrue, IfOk, is_err, min, length, slice_index, vec_len};
 ghost use Rattle.bplist_octets.specs.Meaning.{OnlyReads};
@@ -18,11 +18,11 @@ use bplist_objects::{Frame, Framed, Head, ObjectFault, ObjectNo, read_offsets, s
 use bplist_octets::{ReadFault, Source};
 use std::alloc::Global;
 
-/// How many entries of the table are read at once.
+/// The number of entries of the offset table in one read.
 const BLOCK: usize = 256;
 
-/// Puts places into the table from number `from` on. One that needs more than 32 bits is kept as their greatest number,
-/// which lies behind any offset table too.
+/// Puts places into the table from number `from` on. A place that needs more than 32 bits is stored as 4294967295,
+/// which is also after any offset table.
 fn put_offsets(places: &[u64], from: usize, table: &mut [u32])
     requires { from + length places.now ≤ length table.old }
     ensures length { length table.new ≡ length table.old }
@@ -35,7 +35,7 @@ fn put_offsets(places: &[u64], from: usize, table: &mut [u32])
     }
 }
 
-/// Reads a block of entries of the offset table from number `from` on. The number of the entry after it.
+/// Reads a block of entries of the offset table from number `from` on. Returns the number of the entry after it.
 fn read_entries<S: Source>(
     src: &mut S,
     frame: &Frame,
@@ -60,8 +60,9 @@ fn read_entries<S: Source>(
     Ok(from + count)
 }
 
-/// The place of each object, in the order of their numbers, as their entries say. One that needs more than 32 bits is
-/// answered as their greatest number.
+/// Returns the place of each object from the start of the file, as its entry gives it. A place that needs more than 32
+/// bits is returned as 4294967295. If a read fails, returns `Read`. If memory for 4 bytes an object is refused, returns
+/// `Memory`.
 pub fn offsets_of<S: Source>(alloc: Global, src: &mut S, frame: &Frame) -> Result<Vec<u32>, Failure>
     requires { IsSafe (length (S.means src.old).octets) frame.now }
     ensures reads { OnlyReads (failed_to_read result) (S.means src.old) (S.means src.new) }
@@ -77,19 +78,19 @@ pub fn offsets_of<S: Source>(alloc: Global, src: &mut S, frame: &Frame) -> Resul
     Ok(places)
 }
 
-/// A source that knows its frame and tells the places of its objects.
+/// A source that has its frame, and gives the places of its objects.
 ///
-/// What walks over the objects in any order keeps their places, 4 bytes an object (`OffsetTable`). Where memory is short, or few
-/// places are asked for, their entries are read instead (`OffsetReader`).
+/// A caller that visits objects in any order keeps their places, 4 bytes an object (`OffsetTable`). If memory is short
+/// or few places are needed, the entries are read when asked for (`OffsetReader`).
 pub trait Offsets: Framed {
-    /// The place of object `n`.
+    /// Returns the place of object `n`, from the start of the file. An error is a failed read.
     fn offset(&mut self, n: u32) -> Result<u64, ReadFault>
         requires { n < (frame_in (Self.means self.old)).objects }
         ensures reads { OnlyReads (is_err result) (Self.means self.old) (Self.means self.new) }
         ensures value { HonestlyIn (Self.means self.old) (λ f F. IfOk result (λ place. place ≡ off f F n)) };
 }
 
-/// The head of object `n` by marker and count alone, as `shape_in` answers it.
+/// Returns the head of object `n`, from marker and count only, as `shape_in` does.
 #[inline(always)]
 pub fn object_shape<P: Offsets>(src: &mut P, n: u32) -> Result<Head, ObjectFault>
     requires { n < (frame_in (P.means src.old)).objects }
@@ -103,7 +104,7 @@ pub fn object_shape<P: Offsets>(src: &mut P, n: u32) -> Result<Head, ObjectFault
     shape_in(src, ObjectNo(n), place)
 }
 
-/// A source that is lent, with its frame and its offset table as numbers, so that a place costs no read.
+/// A borrowed source with its frame and the places of all objects, so that a place costs no read.
 #[derive(Drop)]
 pub struct OffsetTable<'a, S: Source> {
     source: &'a mut S,
@@ -116,7 +117,8 @@ pub struct OffsetTable<'a, S: Source> {
 }
 
 impl<'a, S: Source> OffsetTable<'a, S> {
-    /// A source with its frame, as `frame_of` answers it, and the places of all objects, as `offsets_of` does.
+    /// Returns a source with its frame, as `frame_of` returns it, and the places of all objects, as `offsets_of`
+    /// returns them.
     pub fn new(source: &'a mut S, frame: Frame, places: &'a [u32]) -> OffsetTable<'a, S>
         requires safe { IsSafeFrame (length (S.means source.old).octets) frame }
         requires all { length places.now ≡ frame.objects }
@@ -141,7 +143,7 @@ impl<S: Source> Source for OffsetTable<'_, S> {
         self.source.len()
     }
 
-    // Inlined, so that a read costs what it costs the source.
+    // Inlined, so that a read costs no more than one of the source.
     #[inline(always)]
     fn read_at(&mut self, at: u64, into: &mut [u8]) -> Result<(), ReadFault> {
         self.source.read_at(at, into)

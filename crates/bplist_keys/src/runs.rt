@@ -1,33 +1,33 @@
-//! Runs of units that stand in a file a second time, so many bytes further on.
+//! Runs of units that a file has twice, at a known distance.
 //!
-//! Texts of a faulty file may lie in one another. Two of them that are compared agree in a run of units, and the next two
-//! that are as far from each other mostly begin inside that run: what is left of it is not read again.
+//! Texts of a faulty file may overlap. If two of them share a run of units, the next two texts at the same distance
+//! usually begin inside that run, and the rest of it need not be read again.
 
 ghost use Rattle.std.specs.Prelude.{◌≡◌, ◌+◌, ◌*◌, ◌≤◌, ◌<◌, ℕ, List, length, IfSome};
 ghost use Rattle.bplist_keys.specs.Prelude.{item_size, IsTextKind};
 
 use bplist_objects::{Head, Kind};
 
-/// How many runs are kept: a prime, so that near distances have slots of their own.
+/// The number of runs that are kept. It is a prime, so that near distances have different slots.
 const SLOTS: usize = 127;
 
-/// That so many units from one place on are the same as those so many bytes further on.
+/// The `units` units from place `from` on are the same as those `apart` bytes further on.
 #[derive(Clone, Copy, Debug)]
 pub struct Run {
-    /// How many bytes a unit has.
+    /// The size of a unit, in bytes.
     pub size: u64,
     pub apart: u64,
     pub from: u64,
     pub units: u64,
 }
 
-/// The last run found at a distance, in a table in which a distance takes the slot of another.
+/// The last run found for each distance. A distance may overwrite the slot of another.
 #[derive(Drop)]
 pub struct Runs {
     pub slots: [Run; SLOTS],
 }
 
-/// How many bytes a unit of a text of this kind has.
+/// Returns the size in bytes of a unit of a text of this kind.
 fn size_of(kind: Kind) -> u64
     requires { IsTextKind kind }
     ensures unit { result ≡ item_size 1 kind }
@@ -39,14 +39,13 @@ fn size_of(kind: Kind) -> u64
     }
 }
 
-/// The slot of a distance.
 fn slot_of(apart: u64) -> usize
     ensures { result < 127 }
 {
     (apart % SLOTS as u64) as usize
 }
 
-/// How many units of `size` bytes lie from `from` to `to`, where it is a whole number of them.
+/// Returns how many units of `size` bytes there are from `from` to `to`, or None if that is not a whole number.
 fn units_between(from: u64, to: u64, size: u64) -> Option<u64>
     requires { 1 ≤ size }
     ensures { IfSome result (λ n. from + n * size ≡ to) }
@@ -63,7 +62,7 @@ impl Runs {
     ghost use Rattle.bplist_keys.specs.Notes.{Agree};
     ghost use Rattle.bplist_keys.specs.Runs.{AreRuns};
 
-    /// No runs yet.
+    /// Returns a table without runs.
     pub fn new() -> Runs
         ensures { (f : List ℕ) → AreRuns f result.slots }
     {
@@ -78,7 +77,8 @@ impl Runs {
         }
     }
 
-    /// In how many of their first units two texts are known to agree, where the first does not stand behind the second.
+    /// Returns how many of their first units two texts are known to share. The body of `low` does not begin after that
+    /// of `high`.
     fn ahead(&self, low: &Head, high: &Head) -> u64
         requires low_kind { IsTextKind low.now.kind }
         requires high_kind { IsTextKind high.now.kind }
@@ -100,7 +100,7 @@ impl Runs {
         }
     }
 
-    /// In how many of their first units two texts are known to agree.
+    /// Returns how many of their first units two texts are known to share.
     pub(crate) fn known(&self, first: &Head, second: &Head) -> u64
         requires first_kind { IsTextKind first.now.kind }
         requires second_kind { IsTextKind second.now.kind }
@@ -114,7 +114,7 @@ impl Runs {
         }
     }
 
-    /// Two texts that agree in so many of their first units have a run, which takes the slot of their distance.
+    /// Adds the run of two texts that share their first `units` units. It takes the slot of their distance.
     pub(crate) fn add(&mut self, first: &Head, second: &Head, units: u64)
         requires first_kind { IsTextKind first.now.kind }
         requires second_kind { IsTextKind second.now.kind }

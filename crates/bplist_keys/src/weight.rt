@@ -1,6 +1,6 @@
-//! Weights of texts: numbers that are compared before the units are.
+//! Weights of texts: numbers that are compared before the units.
 //!
-//! Most texts that differ have different weights, so that few are read a second time.
+//! Most texts that differ have different weights, so few texts are read twice.
 
 ghost use Rattle.std.specs.Prelude.{◌≡◌, ◌<◌, IsTrue, IfOk, is_err, length, fold, slice_index};
 ghost use Rattle.bplist_keys.specs.Prelude.{OnlyReads, off, frame_in, HonestlyIn, IsSafeBody, IsTextKind, units_of, mix, fingerprint, prefix, Weighs};
@@ -9,19 +9,20 @@ use crate::text::{BLOCK, text_head};
 use bplist_objects::{Framed, Head, read_units};
 use bplist_octets::{ReadFault, Source};
 
-/// The odd factor by which a fingerprint is spread before a unit is added.
+/// The odd factor that multiplies a fingerprint before a unit is added.
 const FACTOR: u32 = 16_777_619;
 
 /// What texts are compared by before their units.
 #[derive(Clone, Copy, Debug, PartialEq, Eq)]
 pub(crate) enum Weight {
-    /// A number that all units go into. Texts with different ones differ, and nothing is said of which comes first.
+    /// A number computed from all units. Texts with different fingerprints differ, but fingerprints are not in the
+    /// order of texts.
     Fingerprint,
-    /// The first two units. Texts with different ones stand in their order.
+    /// The first two units. Texts with different prefixes have the order of these.
     Prefix,
 }
 
-/// A number with these units mixed in.
+/// Returns a fingerprint with these units added.
 fn mix_units(start: u32, units: &[u16]) -> u32
     ensures { result ≡ fold mix start units.now }
 {
@@ -32,7 +33,7 @@ fn mix_units(start: u32, units: &[u16]) -> u32
     mixed
 }
 
-/// The fingerprint of the text with this head, whose body lies in the source.
+/// Returns the fingerprint of the text with this head, whose body is inside the source.
 fn fingerprint_of<S: Source>(src: &mut S, key: &Head) -> Result<u32, ReadFault>
     requires kind { IsTextKind key.now.kind }
     requires head { IsSafeBody (length (S.means src.old).octets) key.now }
@@ -53,7 +54,7 @@ fn fingerprint_of<S: Source>(src: &mut S, key: &Head) -> Result<u32, ReadFault>
     Ok(mixed)
 }
 
-/// The first two units of the text with this head, whose body lies in the source, as one number.
+/// Returns the first two units of the text with this head as one number. The body is inside the source.
 fn prefix_of<S: Source>(src: &mut S, key: &Head) -> Result<u32, ReadFault>
     requires kind { IsTextKind key.now.kind }
     requires head { IsSafeBody (length (S.means src.old).octets) key.now }
@@ -68,7 +69,7 @@ fn prefix_of<S: Source>(src: &mut S, key: &Head) -> Result<u32, ReadFault>
     Ok(units[0] as u32 * 0x1_0000 + units[1] as u32)
 }
 
-/// The weight of object `m`, which stands at `place`: 0 where its marker and count are not those of a text.
+/// Returns the weight of object `m` at `place`, or 0 if it is not a text by marker and count.
 pub(crate) fn weigh<P: Framed>(
     src: &mut P,
     m: u32,

@@ -1,4 +1,4 @@
--- Which objects of a finite graph are reached and which are founded is decided, and where the top is not founded there is a circle.
+-- Each object of a finite graph is reached or not, and founded or not. If the top is not founded there is a circle.
 use Rattle.std.proofs.Common.{◌≡◌, ℕ, zero, suc, ◌+◌, ◌-◌, ◌<◌, ◌≤◌, ◌⊎◌, inl, inr, Bool, true, false, not, cond, List, length, get_or, set, map, replicate, count_by, Contains, refl, sym, ap, ◌∙◌, subst, arith}
 use Rattle.std.specs.List.{range_with_len}
 use Rattle.std.proofs.lemmas.Bool.{cases_eq, cases_Bool, false≢true, false_from_ne_true}
@@ -14,7 +14,7 @@ use Rattle.bplist_lint.specs.Graph.Ends.{ends}
 use Rattle.bplist_lint.proofs.FirstWithout.{first_at}
 use Rattle.bplist_lint.proofs.ListWrites.{at_set, count-set, unwritten}
 
--- there is one below a bound, or there is none
+-- there is a number below a bound with P, or there is none
 pub some_or_none : (Q : ℕ → Type 0) → ((k : ℕ) → Either (Q k)) → (bound : ℕ) → ((i : ℕ) × (i < bound) × Q i) ⊎ ((k : ℕ) → k < bound → Q k → ⊥)
 some_or_none Q each bound = elim (all_or_first (λ k. Q k → ⊥) Q (λ k. elim (each k) [ inl q ↦ inr q | inr n ↦ inl n ]) bound) [
   | inl none ↦ inr none
@@ -55,7 +55,7 @@ module _ (P : ℕ → Type 0) (size : ℕ) (Rule : List Bool → ℕ → Type 0)
   ]
 
   module _ (marks : List Bool) (all : length marks ≡ size) (right : (n : ℕ) → IsMarked marks n → P n) where
-    -- with one mark more
+    -- with one more mark
     with_one : (n : ℕ) → n < size → (m : ℕ) → IsMarked marks m → IsMarked (set marks n true) m
     with_one n lt m is = elim (at_set marks n true false m (omega (arith, lt, all))) [
       | inl same ↦ same.1

@@ -1,4 +1,4 @@
--- The first fault of a file is one, and where there is one the file holds no value.
+-- A file has at most one first fault, and a file that has one holds no value.
 use Rattle.std.proofs.Common.{◌≡◌, ◌⊎◌, ℕ, inl, inr, List, [], None, sym, ◌∙◌, subst}
 use Rattle.bplist_objects.specs.declared.fault.Fault.{Fault}
 use Rattle.bplist_objects.specs.declared.frame.Frame.{Frame}
@@ -35,7 +35,7 @@ module _ (f : List ℕ) (F : Frame) where
   one_keys_fault = one_least_fault f F (Reach f F) (lists [] None) (key_rules None)
 
   module _ (frame : IsFrame f F) where
-    -- where all reached objects keep their rules there is no fault of them
+    -- if all reached objects keep their rules, there is no fault by them
     reach_kept : (a : Fault) → KeepReached f F reach_rules F.objects → IsReachedFault f F reach_rules a → ⊥
     reach_kept = no_least_fault f F (Reach f F) (lists [] None) reach_rules F.objects (reach_within f F (numbered frame).top)
 

@@ -1,4 +1,4 @@
--- The first of some numbers of which something does not hold.
+-- The first of some numbers for which something is not true.
 use Rattle.std.proofs.Common.{◌≡◌, ℕ, ◌<◌, ◌≤◌, ◌↔◌, inl, inr, List, length, slice_index, sym, ap, ◌∙◌, subst, arith, Contains}
 use Rattle.std.proofs.lemmas.Bool.{cases_lt}
 use Rattle.std.proofs.lemmas.List.Elements.{Contains-get_or}
@@ -12,7 +12,7 @@ use Rattle.bplist_lint.specs.Graph.{IsFirstWithout}
 abbrev pub IsFirstUnfounded : List ℕ → Frame → ℕ → ℕ → Type 0
 IsFirstUnfounded f F n m = (c : Content) × Spells f F n c × IsFirstWithout (Founded f F) (refs c) m
 
--- P holds of the first so many
+-- P holds of the first ones
 abbrev Hold : (ℕ → Type 0) → List ℕ → ℕ → Type 0
 Hold P ns many = (k : ℕ) → k < many → P (slice_index ns k)
 
@@ -29,13 +29,13 @@ module _ (P : ℕ → Type 0) (ns : List ℕ) (m : ℕ) where
     | inr here ↦ let e : first.0 ≡ k = omega (arith, low, here) in subst P (sym first.2 ∙ ap (slice_index ns) e) on
   ])
 
-  -- it is one
+  -- there is only one such number
   pub one_first : (n : ℕ) → IsFirstWithout P ns m → IsFirstWithout P ns n → m ≡ n
   one_first n a b =
       let same = one_failure (Hold P ns) (λ i j few all k low. all k (omega (arith, few, low))) (length ns) a.0 b.0 a.1 b.1 in
       sym a.2 ∙ ap (slice_index ns) same ∙ b.2
 
--- what holds of the same numbers does not hold of the same one first
+-- if two claims are true of the same numbers, the same number is the first without them
 pub first_too : (P Q : ℕ → Type 0) (ns : List ℕ) → ((k : ℕ) → Contains ns k → P k ↔ Q k) → (m : ℕ) → IsFirstWithout P ns m → IsFirstWithout Q ns m
 first_too P Q ns same m first =
     let each : (n k : ℕ) → n ≤ length ns → k < n → P (slice_index ns k) ↔ Q (slice_index ns k) = λ n k few low. same (slice_index ns k) (Contains-get_or ns k 0 (omega (arith, few, low))) in

@@ -27,7 +27,7 @@ map-same g k [] a = refl
 map-same g k (x ∷ xs) a = ap₂ (λ y ys. y ∷ ys) a.0 (map-same g k xs a.1)
 
 module _ (f : List ℕ) (F : Frame) where
-  -- object n has height 1 without references, else one above their greatest
+  -- object n has height 1 if it has no references, else one more than the greatest of theirs
   abbrev pub StandsLeast : List ℕ → ℕ → Type 0
   StandsLeast H n = (c : Content) × Spells f F n c × (slice_index H n ≡ 1 + greatest (map (slice_index H) (refs c)))
 

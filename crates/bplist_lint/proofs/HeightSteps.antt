@@ -34,14 +34,14 @@ state_within states n known = elim (cases_lt n (length states)) [
   | inr high ↦ absurd (known (get_or-eq_default states New high))
 ]
 
--- what is known of an object stays known where another state is written, or its own
+-- what is known about an object stays known when a state is written, its own or another
 pub stays_known : (states : List State) (n : ℕ) (state : State) → n < length states → state ≢ New → (m : ℕ) → state_at states m ≢ New → state_at (set states n state) m ≢ New
 stays_known states n state within old m known e = elim (at_set states n state New m within) [
   | inl c ↦ old (sym c.1 ∙ e)
   | inr c ↦ known (sym c.1 ∙ e)
 ]
 
--- the states and heights before the first look
+-- the states and heights before the walk
 pub first_is : (childless : List Bool) (n : ℕ) → (IsMarked childless n × (state_at (map first_state childless) n ≡ Founded) × (get_or (map from_bool childless) n 0 ≡ 1)) ⊎ ((state_at (map first_state childless) n ≡ New) × (get_or (map from_bool childless) n 0 ≡ 0))
 first_is [] n = inr (refl, refl)
 first_is (true ∷ bs) zero = inl (refl, refl, refl)
@@ -76,7 +76,7 @@ standing_first size childless long = record {
 }
 
 module _ (size : ℕ) (states : List State) (heights stack : List ℕ) where
-  -- what lies on the stack is open
+  -- what is on the stack is open
   open_on : Standing size states heights stack → (n : ℕ) → Contains stack n → state_at states n ≡ Open
   open_on s n c = rw (sym (get_or_default stack c.0 n 0 c.1) ∙ c.2) at (s.are_open c.0 c.1)
 
@@ -122,7 +122,7 @@ module _ (size : ℕ) (states : List State) (heights stack : List ℕ) (n : ℕ)
   pub top_within : n < size
   top_within = let l = state_within states n (λ e. absurd (cc (sym top_open ∙ e))) in omega (arith, l, s.all_states)
 
-  -- it has no height yet, so that there is room for one more
+  -- the object on top has no height yet, so there is room for one more
   pub top_room : count_by is_founded states < size
   top_room =
       let within : n < length states = omega (arith, top_within, s.all_states) in
@@ -133,7 +133,7 @@ module _ (size : ℕ) (states : List State) (heights stack : List ℕ) (n : ℕ)
   front_other : (k : ℕ) → k < length stack → slice_index stack k ≢ n
   front_other k h = apart_last stack n (slice_index stack k) s.apart (Contains-get_or stack k 0 h)
 
-  -- it waits again, and where to look on is noted in place of its height
+  -- the object on top waits again; its height slot holds the index at which its scan resumes
   pub standing_back : (heights' : List ℕ) → length heights' ≡ length heights → ((m : ℕ) → m ≢ n → get_or heights' m 0 ≡ get_or heights m 0) → Standing size states heights' (stack ++ n ∷ [])
   standing_back heights' long same = record {
     all_states = s.all_states;
@@ -148,7 +148,7 @@ module _ (size : ℕ) (states : List State) (heights stack : List ℕ) (n : ℕ)
     ];
   }
 
-  -- it is settled
+  -- the object on top is settled
   pub standing_settle : (state : State) (h : ℕ) → state ≢ Open → is_new state ≡ false → (state ≡ Founded → h ≤ count_by is_founded states + 1) → (0 < h → state ≡ Founded) → Standing size (set states n state) (set heights n h) stack
   standing_settle state h closed old low high =
       let within : n < length states = omega (arith, top_within, s.all_states) in
@@ -189,7 +189,8 @@ module _ (size : ℕ) (states : List State) (heights stack : List ℕ) (n : ℕ)
       omega (arith, long, rw (top_open, old) at (count-set is_new states n state New within))
 
 -- ---- circles
--- nothing on a circle is founded: objects j from k to last, each with the next one among its references, and the last with that at k
+-- nothing on a circle is founded: objects j from k to last, each with the next one among its references, and the last
+-- with that at k
 pub no_circle : (refs : ℕ → List ℕ) (at : ℕ → ℕ) (k last : ℕ) → ((j : ℕ) → k ≤ j → j < last → Contains (refs (at j)) (at (suc j))) → Contains (refs (at last)) (at k) → (x : ℕ) → Ends refs x → (j : ℕ) → k ≤ j → j ≤ last → x ≡ at j → ⊥
 no_circle refs at k last next back _ (ends x f) j low high is =
     elim (cases_eq j last) [
@@ -213,7 +214,7 @@ height_over refs _ _ (above n heights long each) = omega arith
 pub among_at : (xs : List ℕ) (i m : ℕ) → i < length xs → m ≡ get_or xs i 0 → Contains xs m
 among_at xs i m in' is = rw is (Contains-get_or xs i 0 in')
 
--- the greatest height of the first of these objects, with one more
+-- the greatest height of the first objects, with one more
 pub greatest_more : (heights objects : List ℕ) (i best m : ℕ) → i < length objects → m ≡ get_or objects i 0 → best ≡ greatest (map (λ x. slice_index heights x) (take i objects)) → max best (slice_index heights m) ≡ greatest (map (λ x. slice_index heights x) (take (i + 1) objects))
 greatest_more heights objects i best m in' is so =
     let h : ℕ → ℕ = λ x. slice_index heights x in
@@ -280,7 +281,7 @@ module _ (refs : ℕ → List ℕ) (marks : List Bool) (size : ℕ) (states : Li
   pub top_marked : IsMarked marks n
   top_marked = w.marked n (λ e. absurd (cc (sym is_open ∙ e)))
 
-  -- what stands for an open object in place of its height says nothing of the references
+  -- the index in the height slot of an open object says nothing about the references
   pub walking_back : (heights' : List ℕ) → ((m : ℕ) → m ≢ n → get_or heights' m 0 ≡ get_or heights m 0) → IsHeightWalk refs marks states heights' (stack ++ n ∷ [])
   walking_back heights' same = record {
     marked = w.marked;
@@ -328,14 +329,14 @@ module _ (refs : ℕ → List ℕ) (marks : List Bool) (size : ℕ) (states : Li
     | inr circular ↦ w.circular m circular (ends_reference refs n m ends_n among)
   ]
 
-  -- where all references lead to founded objects
+  -- all references lead to founded objects
   pub least_height : (best : ℕ) → ((k : ℕ) → k < length (refs n) → state_at states (slice_index (refs n) k) ≡ Founded) → best ≡ greatest (map (λ m. slice_index heights m) (refs n)) → Least refs n (best + 1)
   least_height best founded is =
       let h : ℕ → ℕ = λ m. slice_index heights m in
       let least : Least refs n (suc (greatest (map h (refs n)))) = above n (map h (refs n)) (length-map (refs n) h) (λ i low. rw (get_or-map h (refs n) i 0 0 low) (w.measured _ (founded i low))) in
       rw (add-one, is) least
 
--- the stack is empty, and something is known of all that is marked
+-- the stack is empty, and every marked object is settled
 pub are_least : (refs : ℕ → List ℕ) (marks : List Bool) (size : ℕ) (states : List State) (heights : List ℕ) → Standing size states heights [] → IsHeightWalk refs marks states heights [] → ((n : ℕ) → IsMarked marks n → state_at states n ≢ New) → AreLeastOf refs marks heights
 are_least refs marks size states heights s w all = record {
   vouched = λ n h. elim (s.known n h) [

@@ -1,4 +1,4 @@
--- A file holds a value exactly where it is well formed.
+-- A file holds a value exactly if it is well formed.
 use Rattle.std.proofs.Common.{ℕ, List, [], ◌∷◌, ◌++◌, subst, Contains, ◌↔◌}
 use Rattle.std.specs.List.{AllByRecursion, AllZip}
 use Rattle.bplist_objects.specs.declared.frame.Frame.{Frame}
@@ -65,13 +65,13 @@ module _ (f : List ℕ) (F : Frame) where
   sound_content : (n : ℕ) → Sound n → (c : Content) × Spells f F n c × HasKeys f F c
   sound_content n (sound c s u each) = (c, s, u)
 
-  -- a founded object that is reached is sound, where the reached objects have keys
+  -- a founded object that is reached is sound, if the reached objects have good keys
   pub founded_sound : ((n : ℕ) → Reach f F n → (c : Content) × Spells f F n c × HasKeys f F c) → (n : ℕ) → Founded f F n → Reach f F n → Sound n
   founded_sound contents n (founded c s each) r =
       let p = contents n r in
       sound c s (subst (HasKeys f F) (one_head f F n p.0 c p.1 s) p.2) (λ m i. founded_sound contents m (each m i) (next r (c, s, i)))
 
--- a file holds a value exactly where it is well formed
+-- a file holds a value exactly if it is well formed
 pub holds_formed : (f : List ℕ) (v : Value) → FileHolds f v → (F : Frame) × IsWellFormed f F
 holds_formed f v h =
     let F = h.frame in

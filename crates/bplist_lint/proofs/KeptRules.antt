@@ -1,4 +1,4 @@
--- A file is well formed exactly where its reached objects keep their rules and its top is founded.
+-- A file is well formed exactly if its reached objects keep their rules and its top is founded.
 use Rattle.std.proofs.Common.{◌≡◌, ℕ, ◌<◌, ◌≤◌, ◌+◌, ◌++◌, inl, inr, true, false, List, [], ◌∷◌, None, replicate, subst, arith}
 use Rattle.std.specs.List.{AllByRecursion}
 use Rattle.std.proofs.lemmas.Bool.{cases_lt}
@@ -47,7 +47,7 @@ greatest_member S n (k ∷ ks) a = go (greatest_member S k ks a.1)
     ]
 
 module _ (f : List ℕ) (F : Frame) where
-  -- the rules of keys are kept besides the others
+  -- the rules of keys are kept in addition to the others
   pub kept_both : (n : ℕ) → KeepReached f F reach_rules n → KeepReached f F (key_rules None) n → KeepReached f F (reach_rules ++ key_rules None) n
   kept_both n kept keys m low r = kept_all_after (KeepsRule f F (Reach f F) (lists [] None) m) reach_rules (key_rules None) (kept m low r) (keys m low r)
 
@@ -57,7 +57,7 @@ module _ (f : List ℕ) (F : Frame) where
       λ m low r. kept_all_parts (KeepsRule f F (Reach f F) (lists [] None) m) reach_rules (key_rules None) (all m low r) in
       (λ m low r. (parts m low r).0, λ m low r. (parts m low r).1)
 
-  -- of the rules of a reached object, those of an object by itself, and rule 31
+  -- the rules of a reached object are those of an object by itself, and rule 31
   pub parted_rules : (n : ℕ) → KeepsAll (KeepsRule f F (Reach f F) (lists [] None) n) reach_rules → KeepsAll (KeepsByObject f F n) object_rules × ((IsOverfull f F (Reach f F) n → ⊥) × Unit {0})
   parted_rules n k = kept_all_parts (KeepsRule f F (Reach f F) (lists [] None) n) object_rules (rules.Overfull ∷ []) k
 
@@ -69,7 +69,7 @@ module _ (f : List ℕ) (F : Frame) where
     pub kept_spells : KeepReached f F reach_rules F.objects → (n : ℕ) → Reach f F n → (c : Content) × Spells f F n c
     kept_spells kept n r = let lt = reach_within f F (numbered frame).top n r in (keeps_iff f F n frame lt).0 (parted_rules n (kept n lt r)).0
 
-    -- where all objects are named, so are the keys of the reached ones
+    -- if all objects are named, so are the keys of the reached ones
     pub all_named : KeepReached f F reach_rules F.objects → AreNamed f F (replicate F.objects true)
     all_named kept n r head has dict k low =
         let lt = reach_within f F (numbered frame).top n r in
@@ -90,7 +90,7 @@ module _ (f : List ℕ) (F : Frame) where
         let k = keys n (reach_within f F (numbered frame).top n r) r in
         (s.0, s.1, keys_from_rules f F n head s.1.has s.0 s.1 (good_by_kept f F (Reach f F) [] n None k head there))
 
-    -- where all rules are kept and the top is founded, the file is well formed
+    -- if all rules are kept and the top is founded, the file is well formed
     pub kept_formed : KeepReached f F reach_rules F.objects → KeepReached f F (key_rules None) F.objects → Founded f F F.top.0 → IsWellFormed f F
     kept_formed kept keys ends = record { frame = frame; contents = kept_content kept keys; room = kept_room kept; founded = ends }
 

@@ -1,4 +1,4 @@
--- What the classes of the keys of a dictionary say of them.
+-- What the classes of the keys of a dictionary say about the keys.
 use Rattle.std.proofs.Common.{◌≡◌, ℕ, ◌<◌, ◌↔◌, inl, inr, Bool, List, None, length, subst, arith, Contains}
 use Rattle.bplist_objects.specs.declared.fault.Fault.{Fault}
 use Rattle.bplist_objects.specs.declared.frame.Frame.{Frame}
@@ -28,7 +28,7 @@ use Rattle.bplist_lint.proofs.KeptRules.{parted_rules}
 use Rattle.bplist_cert.proofs.KeyTies.{each_key}
 
 module _ (f : List ℕ) (F : Frame) where
-  -- where exactly the reached objects are marked, and keep the rules
+  -- exactly the reached objects are marked, and they keep the rules
   pub reached_sound : (marks : List Bool) → length marks ≡ F.objects → IsFrame f F → ((m : ℕ) → IsMarked marks m ↔ Reach f F m)
       → KeepReached f F reach_rules F.objects → AreSound f F marks
   reached_sound marks many framed reached kept = record {
@@ -54,7 +54,7 @@ module _ (f : List ℕ) (F : Frame) where
 
   module _ (framed : IsFrame f F) (head : Head) (classes : List ℕ) (classed : AreClassed f F classes head) (sound : KeysAreSound f F head)
       (inside : (k : ℕ) → k < head.count → ref f F head k < F.objects) where
-    -- what is wrong with them is the fault
+    -- what is wrong with the keys is the fault
     pub wrong_fault : (n : ObjectNo) → HasHead f F n.0 head → head.kind ≡ Dict → (wrong : KeyDefect) (fault : Fault) → IsKeyDefect (ref f F head) classes head.count wrong → IsWrongFault F n head wrong fault
         → BreaksKeys f F F.objects None n.0 fault
     wrong_fault n has dict (defects.NotText i) fault is told =

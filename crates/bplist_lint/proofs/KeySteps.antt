@@ -25,7 +25,7 @@ module _ (f : List ℕ) (F : Frame) where
   pub keys_fault : (n : ℕ) (fault : Fault) → Reach f F n → KeepReached f F (key_rules None) n → BreaksKeys f F F.objects None n fault → IsReachedFault f F (key_rules None) fault
   keys_fault n fault reached kept h = record { object = n; member = reached; first = first_of_keys f F (Reach f F) [] n None fault h; least = kept }
 
-  -- one object more
+  -- one more object
   pub keys_more : (n : ℕ) → HasGoodKeys f F None n → KeepReached f F (key_rules None) n → KeepReached f F (key_rules None) (n + 1)
   keys_more n good kept m low r = elim (cases_eq m n) [
     | inl e ↦ kept_by_good f F (Reach f F) [] m None (subst (HasGoodKeys f F None) (sym e) good)

@@ -1,4 +1,4 @@
--- What the linter's passes come to: a value with its least heights, or the first fault.
+-- What the linter's passes find: a value with its least heights, or the first fault.
 use Rattle.std.proofs.Common.{◌≡◌, ℕ, ◌<◌, ◌≤◌, ◌↔◌, inl, inr, List, length, slice_index, subst, sym, ◌∙◌, arith, None}
 use Rattle.std.proofs.lemmas.Bool.{cases_lt}
 use Rattle.std.proofs.lemmas.List.{ext_get_or}
@@ -53,7 +53,7 @@ module _ (f : List ℕ) (F : Frame) where
       least_valid f F heights w.frame l.count (room_weaker f F (Reach f F) (IsVouchedBy heights) l.only w.room) l.least l.only
       (λ n r c s. let k = w.contents n r in subst (HasKeys f F) (one_head f F n k.0 c k.1 s) k.2)
 
-  -- two tables that stand so agree on what is reached, and the lists of the least heights are one
+  -- two such tables agree on what is reached, so there is one list of the least heights
   pub stand_one : (heights others : List ℕ) → IsWellFormed f F → StandLeast f F heights → StandLeast f F others
       → (n : ℕ) → Reach f F n → slice_index heights n ≡ slice_index others n
   stand_one heights others w l m n r = same_least f F heights others l m n (reach_founded f F w.founded n r) r
@@ -95,7 +95,7 @@ module _ (f : List ℕ) (F : Frame) where
 
   module _ (frame : IsFrame f F) (reach : KeepReached f F reach_rules F.objects) where
     -- ---- what the walks find
-    -- where the top has a least height it is founded
+    -- if the top has a least height, it is founded
     pub height_founded : (heights : List ℕ) → AreLeast (refs_at f F) F.top.0 heights → 0 < slice_index heights F.top.0 → Founded f F F.top.0
     height_founded heights least has =
         (founded_iff f F (kept_spells f F frame reach) F.top.0 top).0 (Ends-from_least (refs_at f F) F.top.0 (slice_index heights F.top.0) (least.vouched F.top.0 has).1)

@@ -1,4 +1,4 @@
--- Steps of the making of key lists one behind the other.
+-- Steps of making key lists, one after the other.
 use Rattle.std.proofs.Common.{◌≡◌, ◌↔◌, Bool, ◌≢◌, inl, inr, ℕ, zero, suc, ◌+◌, ◌-◌, ◌*◌, ◌<◌, ◌≤◌, rules, true, false, List, [], ◌++◌, length, take, drop, set, slice_index, Option, Some, None, is_some, unwrap_or, nat_lt, cond, refl, sym, ◌∙◌, ap, subst, arith, lt-ltb}
 use Rattle.std.proofs.Math.Seq.{drop-append_seam, take-length}
 use Rattle.std.proofs.lemmas.Bool.{cases_eq, ltb-true}
@@ -98,7 +98,7 @@ module _ (f : List ℕ) (F : Frame) (heights : List ℕ) where
           let dict : o.content ≡ content_of f F kinds.Dict shape.count shape.body = o.spells.means ∙ ap (λ kind. content_of f F kind shape.count shape.body) is.0 in
           (v, (nums_at f shape.body F.ref_size shape.count, nums_at f (shape.body + shape.count * F.ref_size) F.ref_size shape.count, subst (Spells f F n) dict o.spells, length-nums_at f shape.body F.ref_size shape.count ∙ is.1))
 
-  -- and there are no others
+  -- there are no other pairs
   pub pairs_one : IsValid f F heights → (many : ℕ → Option ℕ) → ((n k : ℕ) → (many n ≡ Some k) ↔ HasPairs f F heights n k) → (n : ℕ) → many n ≡ pairs f F heights n
   pairs_one valid many are n = go (many n) (pairs f F heights n) refl refl
     where
@@ -124,7 +124,7 @@ module _ (f : List ℕ) (F : Frame) (heights : List ℕ) where
   }
 
   module _ (n : ℕ) (starts positions : List ℕ) (l : Listed f F heights n starts positions) where
-    -- an object that is not vouched for
+    -- the next object is not vouched for
     pub listed_over : slice_index heights n ≡ 0 → Listed f F heights (n + 1) starts positions
     listed_over none =
         let off_n : nat_lt 0 (slice_index heights n) ≡ false = rw none refl in
@@ -181,7 +181,7 @@ module _ (f : List ℕ) (F : Frame) (heights : List ℕ) where
       same_head : (other : Head) → HasHead f F n other → head ≡ other
       same_head other has = HasHead-unique f F n head other shape.has has
 
-      -- an object that is no dictionary
+      -- an object that is not a dictionary
       pub listed_other : (head.kind ≡ kinds.Dict → ⊥) → Listed f F heights (n + 1) (set starts n 0) positions
       listed_other no_dict =
           let o = other_pairs head no_dict in
@@ -204,7 +204,7 @@ module _ (f : List ℕ) (F : Frame) (heights : List ℕ) where
               let more : count * (2 * suc r) ≡ count * 2 + count * (2 * r) = omega arith in
               omega arith
 
-      -- a dictionary, with its key list behind the positions
+      -- a dictionary, with its key list after the positions
       pub listed_dict : head.kind ≡ kinds.Dict → 1 ≤ F.ref_size → (after : List ℕ) → IsListed f F head positions after → Listed f F heights (n + 1) (set starts n (length positions)) after
       listed_dict dict low after is =
           let d = dict_pairs head dict in

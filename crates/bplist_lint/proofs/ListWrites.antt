@@ -9,7 +9,7 @@ use Rattle.bplist_keys.specs.Marks.{IsMarked}
 pub count-set : {X : Type 0} (p : X → Bool) (xs : List X) (i : ℕ) (y d : X) → i < length xs → count_by p (set xs i y) + cond (p (get_or xs i d)) 1 0 ≡ count_by p xs + cond (p y) 1 0
 count-set p xs i y d in' = sum_by-set (λ x. cond (p x) 1 0) xs i y d in'
 
--- where item k lies after a push
+-- the place of item k after a push
 pub push_cases : {X : Type 0} (xs : List X) (x d : X) (k : ℕ) → k < length (xs ++ x ∷ []) → ((k < length xs) × (get_or (xs ++ x ∷ []) k d ≡ get_or xs k d)) ⊎ ((k ≡ length xs) × (get_or (xs ++ x ∷ []) k d ≡ x))
 push_cases xs x d k h =
     let long = length_push xs x in
@@ -18,7 +18,7 @@ push_cases xs x d k h =
       | inr ne ↦ let below : k < length xs = omega arith in inl (below, get_or_append_left xs (x ∷ []) d k below)
     ]
 
--- what stands at a place after a write
+-- the item at a place after a write
 pub at_set : {X : Type 0} (xs : List X) (x : ℕ) (v d : X) (n : ℕ) → x < length xs → ((n ≡ x) × (get_or (set xs x v) n d ≡ v)) ⊎ ((n ≢ x) × (get_or (set xs x v) n d ≡ get_or xs n d))
 at_set xs x v d n in' = elim (cases_eq n x) [
   | inl e ↦ inl (e, rw e (get_or-set_same xs x v d in'))
@@ -32,7 +32,7 @@ seen-set seen x n within h = elim (at_set seen x true false n within) [
   | inr c ↦ c.1 ∙ h
 ]
 
--- what stands in a list of one value, and outside it
+-- the items of a list of one value, and outside it
 pub unwritten : {X : Type 0} → (size n : ℕ) (x : X) → get_or (replicate size x) n x ≡ x
 unwritten zero n x = refl
 unwritten (suc size) zero x = refl

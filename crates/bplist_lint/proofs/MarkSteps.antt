@@ -8,7 +8,7 @@ use Rattle.bplist_keys.specs.Marks.{IsMarked}
 use Rattle.bplist_lint.specs.ReachWalk.{AreApart, Noted}
 use Rattle.bplist_lint.proofs.ListWrites.{seen-set, differ_push, differ_front, differ_last}
 
--- ---- a stack on which no object stands twice
+-- ---- a stack on which no object is twice
 pub apart_none : AreApart []
 apart_none j k less within = absurd (omega arith)
 
@@ -28,7 +28,7 @@ fresh-set marks m n h = elim (cases_eq n m) [
   | inr d ↦ inl (rw (get_or-set_other marks m n true false d) at h)
 ]
 
--- what waits is marked where it was marked before
+-- what waits is marked if it was marked before
 stack_marked : (references : List ℕ) (next i : ℕ) (marks : List Bool) (stack : List ℕ) (marks' : List Bool) (stack' : List ℕ) → Noted references next i marks stack marks' stack' → ((m : ℕ) → Contains stack m → IsMarked marks m) → (m : ℕ) → Contains stack' m → IsMarked marks' m
 stack_marked references next i marks stack marks' stack' s on m c = elim (s.waiting m c) [
   | inl old ↦ s.keeps_marks m (on m old)
@@ -65,7 +65,7 @@ module _ (references : List ℕ) (next : ℕ) (marks : List Bool) (stack : List 
       all_more : (k : ℕ) → k < i + 1 → IsMarked (set marks' m true) (get_or references k 0)
       all_more = below_more _ _ (λ k h. seen-set marks' m _ fits (s.all k h)) (rw (← is) (get_or-set_same marks' m true false fits))
 
-      -- a reference to an object that the walk comes to later
+      -- a reference to an object to which the walk comes later
       pub note_later : next ≤ m → Noted references next (i + 1) marks stack (set marks' m true) stack'
       note_later above = record {
         keeps_marks = λ n h. seen-set marks' m n fits (s.keeps_marks n h);
@@ -105,7 +105,7 @@ module _ (references : List ℕ) (next : ℕ) (marks : List Bool) (stack : List 
         all = all_more;
       }
 
-    -- a block of references more
+    -- one more block of references
     pub noted_more : (block : List ℕ) (count : ℕ) (marks2 : List Bool) (stack2 : List ℕ) → i + count ≤ length references → length block ≡ count → ((k : ℕ) → k < count → get_or block k 0 ≡ get_or references (i + k) 0)
         → Noted block next count marks' stack' marks2 stack2 → Noted references next (i + count) marks stack marks2 stack2
     noted_more block count marks2 stack2 within long same t =

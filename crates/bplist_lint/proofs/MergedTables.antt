@@ -131,7 +131,7 @@ module _ (f : List ℕ) (F : Frame) where
       let H = a.0.0 in
       (merge H r.0, merged H r.0 a.0.1 r.1, ((let e = merge_at H r.0 m in omega (arith, a.0.2)), all_weaker _ _ (λ x v. let e = merge_at H r.0 x in omega arith) ms r.2))
 
-  -- one object more, over a table that has its references
+  -- one more object, over a table that has its references
   with_object : (H : List ℕ) → Table H → (n : ℕ) (h : Content) → n < F.objects → Reach f F n → Spells f F n h → HasKeys f F h → AllByRecursion (λ m. 1 ≤ slice_index H m) (refs h) → (slice_index H n ≡ 0) → Tabled n
   with_object H t n h lt q s u a z = (K, record { length = length-set H n g ∙ t.length; vouched = λ m v. (by m v (n_or m)).0; least = λ m v. (by m v (n_or m)).1; only = λ m v. met m v (n_or m) }, omega (arith, at_n))
     where

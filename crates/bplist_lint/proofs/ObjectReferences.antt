@@ -34,11 +34,11 @@ module _ (f : List ℕ) (F : Frame) (n : ℕ) where
       go None e = ap (λ found. option_map_or refs found []) e
       go (Some c) e = absurd (never c ((spells_iff f F n c).1 e))
 
-  -- and so does one that has no shape
+  -- an object without a shape refers to nothing
   pub no_refs_shape : ((h : Head) → HasShape f F n h → ⊥) → refs_at f F n ≡ []
   no_refs_shape never = no_refs (λ c s. never s.shape s.has)
 
-  -- and one whose shape has no references
+  -- an object whose shape has no references refers to nothing
   pub no_refs_leaf : (h : Head) → HasShape f F n h → ref_count h.kind h.count ≡ 0 → refs_at f F n ≡ []
   no_refs_leaf h has none = go (spelled_at f F n) refl
     where
@@ -56,7 +56,7 @@ module _ (f : List ℕ) (F : Frame) (n : ℕ) where
   pub found_as : (h : Head) → HasShape f F n h → head_found f F n ≡ Some h
   found_as h has = head_is_found f F n h has.has
 
-  -- the references of an object with a shape: there are as many as the shape says, and they are the numbers that stand there
+  -- the references of an object with a shape: as many as the shape says, and the numbers at those places
   pub record IsAs (h : Head) : Type 0 where
     pub count : length (refs_at f F n) ≡ ref_count h.kind h.count
     pub each : (i : ℕ) → i < ref_count h.kind h.count → slice_index (refs_at f F n) i ≡ nth_number f h.body F.ref_size i
@@ -81,11 +81,11 @@ module _ (f : List ℕ) (F : Frame) (n : ℕ) where
 
   -- ---- the references in a view
   module _ (view : View) where
-    -- what a view shows stands behind what it leaves out
+    -- what a view shows comes after what it leaves out
     in_view : (i : ℕ) → i < length (refs_in view f F n) → hidden view (head_found f F n) + i < length (refs_at f F n)
     in_view i within = let long = length-drop (hidden view (head_found f F n)) (refs_at f F n) in omega (arith, long, within)
 
-    -- where there are none it shows none
+    -- if an object has no references, a view shows none
     pub none_in_view : refs_at f F n ≡ [] → refs_in view f F n ≡ []
     none_in_view e = ap (drop (hidden view (head_found f F n))) e ∙ drop_all (hidden view (head_found f F n)) [] (omega arith)
 
@@ -117,17 +117,17 @@ module _ (f : List ℕ) (F : Frame) (n : ℕ) where
               same k low (a.low j l) ∙ sym (get_or-drop (hidden view (head_found f F n)) (refs_at f F n) (i + k) 0 ∙ ap (slice_index (refs_at f F n)) at ∙ a.each j l),
         )
 
-    -- no reference where there is no shape
+    -- without a shape there is no reference
     pub part_none : ((h : Head) → HasShape f F n h → ⊥) → (i : ℕ) (block : List ℕ) → IsPart (refs_in view f F n) i block 0
     part_none never i block = let none = ap length (none_in_view (no_refs_shape never)) in (omega (arith, none), λ k low. absurd (omega (arith, low)))
 
-  -- what has references is no text and no UID
+  -- what has references is neither a text nor a UID
   proper_container : (kind : Kind) (count body : ℕ) → 0 < ref_count kind count → IsTrue (is_proper f kind count body)
   proper_container kinds.Ascii count body some = absurd (omega (arith, some))
   proper_container kinds.Uid count body some = absurd (omega (arith, some))
   proper_container _ count body some = refl
 
-  -- where all numbers of a body are those of objects, they are the references
+  -- if all numbers of a body are those of objects, they are the references
   pub refs_as_shape : (h : Head) → HasShape f F n h → AreBelow f h.body F.ref_size (ref_count h.kind h.count) F.objects → refs_at f F n ≡ refs (content_at f F h)
   refs_as_shape h has below = elim (cases_lt 0 (ref_count h.kind h.count)) [
     | inl some ↦
@@ -139,7 +139,7 @@ module _ (f : List ℕ) (F : Frame) (n : ℕ) where
         no_refs_leaf h has zero ∙ sym (nil_from_length (refs (content_at f F h)) (length-refs f F h.kind h.count h.body ∙ zero))
   ]
 
-  -- and where one is not, there is none
+  -- if one of them is not, there are no references
   pub broken_count : (h : Head) → HasShape f F n h → (AreBelow f h.body F.ref_size (ref_count h.kind h.count) F.objects → ⊥) → length (refs_at f F n) ≡ 0
   broken_count h has never = elim (cases_lt 0 (length (refs_at f F n))) [
     | inl some ↦ absurd (never (as_shape h has 0 some).low)

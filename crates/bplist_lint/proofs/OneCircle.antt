@@ -1,4 +1,4 @@
--- The circle that a walk meets is one, and where there is one its beginning is not founded.
+-- A walk meets at most one circle, and if it meets one, it began at an object that is not founded.
 use Rattle.std.proofs.Common.{◌≡◌, ℕ, zero, suc, ◌<◌, ◌≤◌, ◌+◌, List, length, sym, ap, ◌∙◌, subst, arith}
 use Rattle.std.proofs.lemmas.List.{ext_get_or}
 use Rattle.bplist_objects.specs.declared.frame.Frame.{Frame}
@@ -11,7 +11,7 @@ use Rattle.bplist_lint.specs.Graph.{IsFirstWithout, IsCircleBy}
 use Rattle.bplist_lint.specs.FileFault.{IsCircle}
 use Rattle.bplist_lint.proofs.FirstWithout.{IsFirstUnfounded, first_among, first_off, one_first}
 
--- where each object leads on to one alone
+-- each object leads on to one object only
 module _ (next : ℕ → ℕ → Type 0) (one : (n m k : ℕ) → next n m → next n k → m ≡ k) (top : ℕ) where
   module _ (circle other : List ℕ) (c : IsCircleBy next top circle) (d : IsCircleBy next top other) where
     same_walk : (k : ℕ) → k ≤ c.i + length circle → k ≤ d.i + length other → c.x k ≡ d.x k
@@ -52,7 +52,7 @@ module _ (next : ℕ → ℕ → Type 0) (one : (n m k : ℕ) → next n m → n
         ∙ sym (d.listed k (omega (arith, l, e, s))))
 
 module _ (f : List ℕ) (F : Frame) where
-  -- the first reference that is not founded is one
+  -- there is at most one first reference that is not founded
   leads_one : (n m k : ℕ) → IsFirstUnfounded f F n m → IsFirstUnfounded f F n k → m ≡ k
   leads_one n m k a b =
       let e = one_head f F n a.0 b.0 a.1 b.1 in
@@ -62,7 +62,7 @@ module _ (f : List ℕ) (F : Frame) where
   pub one_circle : (circle other : List ℕ) → IsCircle f F circle → IsCircle f F other → circle ≡ other
   one_circle = one_circle_by (IsFirstUnfounded f F) leads_one F.top.0
 
-  -- where there is one the top is not founded
+  -- if there is a circle, the top is not founded
   pub circle_not_founded : (circle : List ℕ) → IsCircle f F circle → Founded f F F.top.0 → ⊥
   circle_not_founded circle c founded_top =
       let a = c.leads 0 (omega (arith, c.some)) in

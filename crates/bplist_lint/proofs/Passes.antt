@@ -1,4 +1,4 @@
--- What the linter's passes come to, one behind the other.
+-- What the linter's passes find, one after the other.
 use Rattle.std.proofs.Common.{◌≡◌, ℕ, zero, suc, ◌+◌, ◌<◌, ◌≤◌, inl, cond, nat_lt, Bool, List, length, take, slice_index, count_by, filter, map, IsTrue, None, refl, sym, ap, subst, ◌∙◌, arith, lt-ltb}
 use Rattle.std.specs.List.{range_with_len}
 use Rattle.std.proofs.Math.Numerals.{add-one}
@@ -63,7 +63,7 @@ refusal_means P Q R T (refusals.Circle circle) faults circles h = circles _ h
 refusal_means P Q R T (refusals.Read _) faults circles h = tt
 refusal_means P Q R T refusals.Memory faults circles h = tt
 
--- where no rule is broken, what is said of the circle is said of the file, by what the source means
+-- if no rule is broken, a claim about the circle is one about the file, by what the source means
 pub circle_passed : (m n : Meaning) → m ≡ n → (e : LintRefusal) → (IsTrue m.honest → Refuses Never (IsFileCircle m.octets) e)
     → IsTrue n.honest → Refuses (IsFileFault n.octets) (IsFileCircle n.octets) e
 circle_passed m n same e told = subst (λ (k : Meaning). IsTrue k.honest → Refuses (IsFileFault k.octets) (IsFileCircle k.octets) e) same (λ honest.
@@ -146,7 +146,7 @@ fault_never f v holds fault h = let w = holds_formed f v holds in fault_not_form
 pub circle_never : (f : List ℕ) (v : Value) → FileHolds f v → (circle : List ℕ) → IsFileCircle f circle → no_circle circle
 circle_never f v holds circle h = let w = holds_formed f v holds in circle_not_formed f w.0 circle h w.1
 
--- ---- the trailer, and then the table as it is kept, decide rules 1 to 13
+-- ---- the trailer, and then the table in memory, decide rules 1 to 13
 pub trailer_fault_of_file : (f : List ℕ) (fault : Fault) → IsTrailerFault f fault → IsFileFault f fault
 trailer_fault_of_file f fault h = inl (trailer_fault f fault h)
 

@@ -23,7 +23,7 @@ range_more : (a n : ℕ) → range_with_len a (suc n) ≡ range_with_len a n ++ 
 range_more a zero = let e : a ≡ a + 0 = omega arith in ap (λ k. k ∷ []) e
 range_more a (suc n) = let e : a + 1 + n ≡ a + suc n = omega arith in ap (λ l. a ∷ l) (range_more (a + 1) n ∙ ap (λ k. range_with_len (a + 1) n ++ k ∷ []) e)
 
--- one number more
+-- one more number
 pub sum_next : (g : ℕ → ℕ) (n : ℕ) → sum_below g (suc n) ≡ sum_below g n + g n
 sum_next g n = let e : 0 + n ≡ n = omega arith in ap (sum_by g) (range_more 0 n) ∙ sum_by_push g (range_with_len 0 n) (0 + n) ∙ ap (λ k. sum_below g n + g k) e
 
@@ -45,7 +45,7 @@ sum_found g h (x ∷ xs) = one (h x) ∙ ap (λ k. option_map_or g (h x) 0 + k) 
     one None = omega arith
     one (Some y) = sum_by-cons g y (filter_map h xs)
 
--- one number more, for which h may find one
+-- one more number, for which h may find one
 pub found_next : (h : ℕ → Option ℕ) (n : ℕ) → sum (filter_map h (range_with_len 0 (suc n))) ≡ sum (filter_map h (range_with_len 0 n)) + unwrap_or (h n) 0
 found_next h n =
     let whole = sum_found (λ k. k) h (range_with_len 0 (suc n)) in

@@ -57,7 +57,7 @@ module _ (F : Frame) (some : 1 ≤ F.ref_size) (place k : ℕ) (within : place +
   number_is : place_index F place + k ≡ place % F.ref_size * row_length F + (place / F.ref_size + k)
   number_is = omega arith
 
-  -- the numbers of the references of a body follow one another
+  -- the numbers of the references of a body are consecutive
   pub place_back : (place_index F place + k) % row_length F * F.ref_size + (place_index F place + k) / row_length F ≡ place + k * F.ref_size
   place_back =
       let low = ap (λ x. x % row_length F) number_is ∙ mod-mul-add (place % F.ref_size) (row_length F) (place / F.ref_size + k) column in
@@ -69,7 +69,7 @@ module _ (F : Frame) (some : 1 ≤ F.ref_size) (place k : ℕ) (within : place +
   pub reference_back : (f : List ℕ) → reference_at f F (place_index F place + k) ≡ nth_number f place F.ref_size k
   reference_back f = ap (λ p. num_at f p F.ref_size) place_back
 
-  -- and each is a number of the set
+  -- each of them is a number of the set
   pub number_fits : place_index F place + k < index_count F
   number_fits =
       let fit = mul-add-lt (place % F.ref_size) (row_length F) (place / F.ref_size + k) F.ref_size (mod-lt place some) column in
@@ -109,7 +109,7 @@ module _ (references : List ℕ) (marks : List Bool) (stack : List ℕ) where
     ];
   }
 
--- object m is marked, and went onto the stack where it was not marked before
+-- object m is marked, and went onto the stack if it was not marked before
 pub record Takes (m : ℕ) (marks : List Bool) (stack : List ℕ) (marks' : List Bool) (stack' : List ℕ) : Type 0 where
   pub all : length marks' ≡ length marks
   pub marked : IsMarked marks' m
@@ -162,7 +162,7 @@ module _ (f : List ℕ) (F : Frame) where
         known_followed = known_followed;
       }
 
-  -- an object without references was
+  -- an object without references was looked at
   pub searching_none : (n : ℕ) (stack : List ℕ) (marks : List Bool) (good followed good' : List ℕ) → IsSearching f F (stack ++ n ∷ []) marks good followed → refs_at f F n ≡ [] → AreGood f F good' → IsSearching f F stack marks good' followed
   searching_none n stack marks good followed good' w none known_good =
       searching_step n stack marks good followed stack marks good' followed w (looked_none (refs_at f F n) marks stack) (λ i low. absurd (let z = ap length none in omega (arith, low, z))) known_good w.known_followed
@@ -197,9 +197,9 @@ module _ (f : List ℕ) (F : Frame) where
     pub searching_end : (n : ℕ) → IsMarked marks n ↔ Reach f F n
     searching_end n = (w.sound n, reach_marked n)
 
-  -- ---- what follows of a body whose places were all followed
+  -- ---- what follows from a body whose places were all followed
   module _ (head : Head) (some : 1 ≤ F.ref_size) (safe : IsSafeHead F head) where
-    -- reference k stands at this number
+    -- reference k is at this number
     pub reference_at_k : (k : ℕ) → k < ref_count head.kind head.count → reference_at f F (place_index F head.body + k) ≡ nth_number f head.body F.ref_size k
     reference_at_k k low = reference_back F some head.body k (place_fits F head safe k low) f
 

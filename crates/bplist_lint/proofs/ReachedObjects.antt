@@ -28,7 +28,7 @@ use Rattle.bplist_lint.proofs.ObjectReferences.{no_refs_leaf}
 use Rattle.bplist_lint.proofs.Walks.{walking_visit}
 
 module _ (f : List ℕ) (F : Frame) (n : ℕ) (head : Head) (has : HasHead f F n head) (kept : KeepsAll (KeepsByObject f F n) shape_rules) where
-  -- what is said of this head is said of any that the object has
+  -- a claim about this head is one about any head that the object has
   body_kept : (head.kind ≡ kinds.Ascii → AreBelow f head.body 1 head.count 128) → (head.kind ≡ kinds.Uid → num_at f head.body head.count ≤ 4294967295)
       → AreBelow f head.body F.ref_size (ref_count head.kind head.count) F.objects → KeepsAll (KeepsByObject f F n) object_rules
   body_kept ascii uid below = kept_all_after (KeepsByObject f F n) shape_rules body_rules kept (

@@ -1,4 +1,4 @@
--- References that are read part by part.
+-- References, part by part.
 use Rattle.std.proofs.Common.{◌≡◌, ℕ, ◌+◌, ◌-◌, ◌<◌, ◌≤◌, inl, inr, List, ◌++◌, length, take, slice_index, Contains, refl, sym, ◌∙◌, arith}
 use Rattle.std.proofs.lemmas.Bool.{cases_lt}
 use Rattle.std.proofs.lemmas.List.{length-append, length-take-le, get_or-take, get_or_append_left, get_or-append_right, get_or_default, ext_get_or}
@@ -21,7 +21,7 @@ module _ (references block : List ℕ) (i count : ℕ) (part : IsPart references
       let is : slice_index references (i + c.0) ≡ m = sym (part_at c.0 under) ∙ sym (get_or_default (take count block) c.0 m 0 c.1) ∙ c.2 in
       rw is at (Contains-get_or references (i + c.0) 0 (omega (arith, part.0, under)))
 
-  -- the references up to one behind the part are those before it and the part
+  -- the references up to the end of the part are those before it and the part
   pub take_part : i ≤ length references → take (i + count) references ≡ take i references ++ take count block
   take_part low =
       let room : i + count ≤ length references = omega (arith, part.0, low) in
@@ -37,7 +37,7 @@ module _ (references block : List ℕ) (i count : ℕ) (part : IsPart references
             (rw there at (sym (part_at (k - i) under)))
       ])
 
-  -- what holds of the references before the part and of those in it
+  -- what is true of the references before the part and of those in it
   pub part_all : (P : ℕ → Type 0) → ((k : ℕ) → k < i → P (slice_index references k)) → ((k : ℕ) → k < length (take count block) → P (slice_index (take count block) k)) → (k : ℕ) → k < i + count → P (slice_index references k)
   part_all P before here k low = elim (cases_lt k i) [
     | inl first ↦ before k first
@@ -47,7 +47,7 @@ module _ (references block : List ℕ) (i count : ℕ) (part : IsPart references
         rw (part_at (k - i) under, there) at (here (k - i) (omega (arith, long, under)))
   ]
 
-  -- the first without something in the part, where all before it have it
+  -- the first without something in the part, if all before it have it
   pub first_in_part : (P : ℕ → Type 0) (m : ℕ) → i ≤ length references → ((k : ℕ) → k < i → P (slice_index references k)) → IsFirstWithout P (take count block) m → IsFirstWithout P references m
   first_in_part P m low before first =
       let place = first.0 in

@@ -20,7 +20,7 @@ pub Ends-from_least : (refs : ℕ → List ℕ) (n h : ℕ) → Least refs n h �
 Ends-from_least refs _ _ (above n hs long each) =
     ends n (λ m c. rw (← c.2, get_or_default (refs n) c.0 m 0 c.1) (Ends-from_least refs (get_or (refs n) c.0 0) (get_or hs c.0 0) (each c.0 c.1)))
 
--- an object is founded where each of its references has a height
+-- an object is founded if each of its references has a height
 pub founded_all : (refs : ℕ → List ℕ) (top : ℕ) (heights : List ℕ) (n : ℕ) → AreLeast refs top heights → AllHave heights (refs n) (length (refs n)) → Ends refs n
 founded_all refs top heights n a have =
     ends n (λ m c. rw (← c.2, get_or_default (refs n) c.0 m 0 c.1) (Ends-from_least refs _ _ (a.vouched _ (have c.0 c.1)).1))
@@ -32,7 +32,7 @@ is_next refs top heights n m a reached f = (
   first_too (λ k. 0 < get_or heights k 0) (Ends refs) (refs n) (λ k c. (λ h. Ends-from_least refs _ _ (a.vouched k h).1, λ is. a.all k (onward n k reached c) is)) m f,
 )
 
--- nothing is met
+-- nothing is met yet
 pub trail_none : (size : ℕ) → IsTrail size (replicate size false) []
 trail_none size = record {
   all_met = length-replicate size false;
@@ -41,7 +41,7 @@ trail_none size = record {
   differ = λ j k less h. absurd (omega arith);
 }
 
--- one object more is met
+-- one more object is met
 pub trail_more : (size : ℕ) (met : List Bool) (trail : List ℕ) (x : ℕ) → IsTrail size met trail → x < size → get_or met x false ≡ false → IsTrail size (set met x true) (trail ++ x ∷ [])
 trail_more size met trail x p in' new =
     let within : x < length met = omega (arith, p.all_met) in

@@ -1,4 +1,4 @@
--- What an upgrade answers, in other words.
+-- What an upgrade returns, in other words.
 use Rattle.std.proofs.Common.{◌≡◌, ◌≢◌, ℕ, List, length, Some}
 use Rattle.std.proofs.Math.Logic.{∥∥₁_map}
 use Rattle.std.proofs.lemmas.Grind.{not_there}
@@ -24,7 +24,7 @@ check_no_change (cert_refusals.Fault fault) h = absurd h
 check_no_change (cert_refusals.Read _) h = λ e. cc
 check_no_change cert_refusals.Memory h = λ e. cc
 
--- what follows from something that is there for no change
+-- if something is known to exist, what follows from it about `Changed`
 pub open_no_change : {P : Type 0} → ∥ P ∥₁ → (e : UpgradeFault) → (P → e ≢ faults.Changed) → e ≢ faults.Changed
 open_no_change t e from = λ is. not_there t (λ p. from p is)
 

@@ -1,4 +1,4 @@
--- Where keys are texts, the least heights over the values alone are those over all references.
+-- If keys are texts, the least heights over the values only are those over all references.
 use Rattle.std.proofs.Common.{◌≡◌, ℕ, zero, suc, ◌+◌, ◌-◌, ◌<◌, ◌≤◌, ◌↔◌, inl, inr, Bool, List, [], ◌∷◌, ◌++◌, drop, length, slice_index, replicate, length-append, Contains, None, refl, sym, ap, ◌∙◌, arith}
 use Rattle.std.proofs.lemmas.Bool.{cases_lt}
 use Rattle.std.proofs.lemmas.List.{length-drop, get_or-drop, length-replicate, get_or-replicate, get_or_append_left, get_or-append_right}
@@ -31,7 +31,7 @@ use Rattle.bplist_lint.proofs.KeptRules.{kept_spells}
 use Rattle.bplist_lint.proofs.ObjectReferences.{found_as, as_spelled, all_announced, no_refs_leaf}
 use Rattle.bplist_lint.proofs.ReferenceGraph.{reach_iff}
 
--- heights of 1 change no greatest height, where there is another one
+-- heights of 1 do not change the greatest height, if there is another one
 greatest-ones : (k : ℕ) (hs : List ℕ) → (0 < k → 0 < greatest hs) → greatest (replicate k 1 ++ hs) ≡ greatest hs
 greatest-ones zero hs some = refl
 greatest-ones (suc k) hs some =
@@ -44,7 +44,7 @@ greatest_first (h ∷ hs) = omega arith
 
 -- ---- in a graph
 module _ (refs : ℕ → List ℕ) (out : ℕ → ℕ) where
-  -- the references without so many first ones
+  -- the references without the first ones
   abbrev others : ℕ → List ℕ
   others n = drop (out n) (refs n)
 
@@ -57,7 +57,7 @@ module _ (refs : ℕ → List ℕ) (out : ℕ → ℕ) where
   least_some : (n h : ℕ) → Least others n h → 0 < h
   least_some _ _ (above n hs long each) = omega arith
 
-  -- where the first ones have no references, and others follow them, the others have the greatest height
+  -- if the first ones have no references and others follow, the others have the greatest height
   module _ (top : ℕ) (childless : (n i : ℕ) → Reaches refs top n → i < out n → (refs (slice_index (refs n) i) ≡ []) × (out n < length (refs n))) where
     pub least_all : (n h : ℕ) → Reaches refs top n → Least others n h → Least refs n h
     least_all _ _ r (above n hs long each) =
@@ -94,7 +94,7 @@ of_text kinds.Wide count is = refl
 of_text _ count is = absurd is
 
 module _ (f : List ℕ) (F : Frame) (frame : IsFrame f F) (kept : KeepReached f F reach_rules F.objects) where
-  -- each has all references that it announces, whatever the view
+  -- each object has all references that it announces, whatever the view
   pub all_whole : (view : View) (n : ℕ) → Reach f F n → IsWhole (graph_of 0 view f F) n
   all_whole view n r = let s = kept_spells f F frame kept n r in all_announced f F n view s.0 s.1
 

@@ -49,7 +49,7 @@ sum_grows g n (suc m) low = elim (cases_eq n (suc m)) [
   | inr ne ↦ let before = sum_grows g n m (omega arith) in omega (arith, sum_next g m)
 ]
 
--- one number more of which something is added
+-- one more number, with what is added for it
 sum_turned : (g k : ℕ → ℕ) (n i : ℕ) → i < n → ((m : ℕ) → m ≢ i → g m ≡ k m) → k i ≡ 0 → sum_below g n ≡ sum_below k n + g i
 sum_turned g k zero i low same none = absurd (omega arith)
 sum_turned g k (suc n) i low same none = elim (cases_eq i n) [
@@ -63,7 +63,7 @@ sum_turned g k (suc n) i low same none = elim (cases_eq i n) [
       omega (arith, sum_next g n, sum_next k n)
 ]
 
--- the sum over what is marked, with one mark more
+-- the sum over what is marked, with one more mark
 sum_marked : (g : ℕ → ℕ) (marks : List Bool) (n i : ℕ) → i < n → i < length marks → (IsMarked marks i → ⊥) → sum_below (λ m. cond (is_marked (set marks i true) m) (g m) 0) n ≡ sum_below (λ m. cond (is_marked marks m) (g m) 0) n + g i
 sum_marked g marks n i low within new =
     let here : get_or (set marks i true) i false ≡ true = get_or-set_same marks i true false within in
@@ -78,7 +78,7 @@ same_mark true b to from = sym (to refl)
 same_mark false true to from = absurd (false≢true (from refl))
 same_mark false false to from = refl
 
--- where both mark the same the sums are the same
+-- if both mark the same, the sums are the same
 sum_as_marked : (g : ℕ → ℕ) (marks visited : List Bool) (n : ℕ) → ((m : ℕ) → IsMarked marks m ↔ IsMarked visited m) → sum_below (λ m. cond (is_marked visited m) (g m) 0) n ≡ sum_below (λ m. cond (is_marked marks m) (g m) 0) n
 sum_as_marked g marks visited n same = sum_alike _ _ n (λ m low. ap (λ b. cond b (g m) 0) (same_mark (is_marked visited m) (is_marked marks m) (same m).1 (same m).0))
 
@@ -238,7 +238,7 @@ module _ (f : List ℕ) (F : Frame) where
     number_next : (n : ℕ) → number_below (is_marked reached.marks.items) (suc n) ≡ number_below (is_marked reached.marks.items) n + cond (is_marked reached.marks.items n) 1 0
     number_next n = sum_next (λ m. cond (is_marked reached.marks.items m) 1 0) n
 
-    -- one object more of those in their order
+    -- one more object in their order
     tallied_next : (n : ℕ) → n < F.objects → (before t : Tally) → before.reached ≡ number_below (is_marked reached.marks.items) n → before.used ≡ extents_below f F (is_marked reached.marks.items) n
         → before.references ≡ references_below f F (is_marked reached.marks.items) n → t.reached ≡ number_below (is_marked reached.marks.items) (suc n) → t.used ≡ extents_below f F (is_marked reached.marks.items) (suc n)
         → t.references ≡ references_below f F (is_marked reached.marks.items) (suc n) → Tallied f F reached.marks.items n before → (b : Bool) → is_marked reached.marks.items n ≡ b → Tallied f F reached.marks.items (n + 1) t

@@ -10,7 +10,7 @@ use Rattle.bplist_cert.specs.CheckRules.{key_rules}
 use Rattle.bplist_lint.specs.Graph.{IsFirstWithout, IsCircleBy}
 use Rattle.bplist_lint.specs.ReachRules.{KeepReached, IsReachedFault, reach_rules}
 
--- the circle of first references that are not founded, from the top on
+-- the circle that first unfounded references lead to from the top
 abbrev pub IsCircle : List ℕ → Frame → List ℕ → Type 0
 IsCircle f F circle = IsCircleBy (λ n m. (c : Content) × Spells f F n c × IsFirstWithout (Founded f F) (refs c) m) F.top.0 circle
 

@@ -1,10 +1,10 @@
--- Objects with references, whatever they are read from: what is reached, what is founded, and with which least height.
+-- Objects with references, whatever they are read from: which are reached, which are founded, and their least heights.
 -- Source: the reader of CFBinaryPList.c, which refuses circles; heights and circles as lists are profile.
 use Rattle.std.specs.Prelude.{◌≡◌, ℕ, suc, ◌+◌, ◌-◌, ◌<◌, min, max, List, [], ◌∷◌, length, slice_index, Contains}
 use Rattle.bplist_objects.specs.Claims.{FailsAt}
 
--- how many objects there are, the references of each in written order, and how many of them it announces. Where they are
--- read through a borrow, through is its ghost name
+-- the number of objects, the references of each in written order, and how many of them each announces; if the graph is
+-- read through a borrow, `through` is the ghost name of the borrow
 pub record Graph : Type 0 where
   pub through : ℕ
   pub size : ℕ
@@ -15,38 +15,38 @@ pub record Graph : Type 0 where
 abbrev pub IsWhole : Graph → ℕ → Type 0
 IsWhole graph n = graph.announced n ≡ length (graph.refs n)
 
--- the first so many of these are numbers of objects
+-- the first `count` of these are numbers of objects
 abbrev pub AreObjects : ℕ → ℕ → List ℕ → Type 0
 AreObjects size count block = (k : ℕ) → k < count → slice_index block k < size
 
--- the first so many of the block are the references from number i on: all that there are, or as many as there is room for
+-- the first `count` numbers of the block are the references from number i on: all that there are, or as many as fit
 abbrev pub IsPart : List ℕ → ℕ → List ℕ → ℕ → Type 0
 IsPart references i block count =
     (count ≡ min (length block) (length references - i)) × ((k : ℕ) → k < count → slice_index block k ≡ slice_index references (i + k))
 
--- top, and what reached objects refer to
+-- a reached object is the top, or what a reached object refers to
 pub data Reaches (refs : ℕ → List ℕ) (top : ℕ) : ℕ → Type 0 where
   start : Reaches refs top top
   onward : (n m : ℕ) → Reaches refs top n → Contains (refs n) m → Reaches refs top m
 
--- so has each object that top reaches
+-- each object that top reaches has as many references as it announces
 abbrev pub AreWhole : Graph → ℕ → Type 0
 AreWhole graph top = (n : ℕ) → Reaches graph.refs top n → IsWhole graph n
 
--- every chain of references from the object ends
+-- the object is founded: every chain of references from it ends
 pub data Ends (refs : ℕ → List ℕ) : ℕ → Type 0 where
   ends : (n : ℕ) → ((m : ℕ) → Contains (refs n) m → Ends refs m) → Ends refs n
 
--- the greatest height, 0 of none
+-- the greatest of these heights, or 0 if there are none
 abbrev pub greatest : List ℕ → ℕ
 greatest [] = 0
 greatest (h ∷ hs) = max h (greatest hs)
 
--- the height of n is one above the greatest of its references' heights
+-- the least height of n is one more than the greatest of its references' least heights
 pub data Least (refs : ℕ → List ℕ) : ℕ → ℕ → Type 0 where
   above : (n : ℕ) (heights : List ℕ) → length heights ≡ length (refs n) → ((i : ℕ) → i < length (refs n) → Least refs (slice_index (refs n) i) (slice_index heights i)) → Least refs n (suc (greatest heights))
 
--- m is the first of these numbers of which P does not hold
+-- m is the first of these numbers for which P does not hold
 abbrev pub IsFirstWithout : (ℕ → Type 0) → List ℕ → ℕ → Type 0
 IsFirstWithout P ns m =
     (i : ℕ) × FailsAt (λ many. (k : ℕ) → k < many → P (slice_index ns k)) (length ns) i × (slice_index ns i ≡ m)
@@ -55,7 +55,7 @@ IsFirstWithout P ns m =
 abbrev pub IsFirstUnfoundedIn : (ℕ → List ℕ) → ℕ → ℕ → Type 0
 IsFirstUnfoundedIn refs n m = IsFirstWithout (Ends refs) (refs n) m
 
--- the circle that next leads to from top: from the first object met twice up to its second meeting
+-- the circle that following `next` from top leads to: from the first object met twice up to its second meeting
 pub record IsCircleBy (next : ℕ → ℕ → Type 0) (top : ℕ) (circle : List ℕ) : Type 0 where
   pub x : ℕ → ℕ
   pub i : ℕ
@@ -66,11 +66,11 @@ pub record IsCircleBy (next : ℕ → ℕ → Type 0) (top : ℕ) (circle : List
   pub least : (k l : ℕ) → k < l → l < i + length circle → x k ≡ x l → ⊥
   pub listed : (k : ℕ) → k < length circle → slice_index circle k ≡ x (i + k)
 
--- the circle of first references that are not founded
+-- the circle that first unfounded references lead to
 abbrev pub IsCircleOf : (ℕ → List ℕ) → ℕ → List ℕ → Type 0
 IsCircleOf refs top circle = IsCircleBy (IsFirstUnfoundedIn refs) top circle
 
--- the least heights of the objects that are reached and founded, 0 of the others
+-- the least heights of the objects that are reached and founded, and 0 for all others
 pub record AreLeast (refs : ℕ → List ℕ) (top : ℕ) (heights : List ℕ) : Type 0 where
   pub vouched : (n : ℕ) → 0 < slice_index heights n → Reaches refs top n × Least refs n (slice_index heights n)
   pub all : (n : ℕ) → Reaches refs top n → Ends refs n → 0 < slice_index heights n

@@ -1,4 +1,5 @@
--- The states, the heights and the stack of the walk that finds the least heights, and what it keeps true of them. Source: profile.
+-- The states, heights and stack of the walk that finds the least heights, and what is true of them throughout.
+-- Source: profile.
 use Rattle.std.specs.Prelude.{◌≡◌, ◌≢◌, ◌⊎◌, ℕ, suc, ◌<◌, ◌≤◌, Bool, true, false, List, length, map, slice_index_or, slice_index, count_by, Contains, ⊤}
 use Rattle.bplist_lint.specs.Graph.{Graph, IsWhole, Ends, Least, greatest}
 use Rattle.bplist_keys.specs.Marks.{IsMarked}
@@ -18,12 +19,12 @@ abbrev pub is_founded : State → Bool
 is_founded Founded = true
 is_founded _ = false
 
--- the state of an object before the first look: founded where it is known to have no references
+-- the state of an object before the walk: founded if it is known to have no references
 abbrev pub first_state : Bool → State
 first_state true = Founded
 first_state false = New
 
--- the states, the heights and the stack agree, whatever the references are
+-- states, heights and stack agree, whatever the references are
 pub record Standing (size : ℕ) (states : List State) (heights stack : List ℕ) : Type 0 where
   pub all_states : length states ≡ size
   pub all_heights : length heights ≡ size
@@ -33,22 +34,22 @@ pub record Standing (size : ℕ) (states : List State) (heights stack : List ℕ
   pub low : (n : ℕ) → state_at states n ≡ Founded → slice_index heights n ≤ count_by is_founded states
   pub known : (n : ℕ) → 0 < slice_index heights n → (state_at states n ≡ Founded) ⊎ (state_at states n ≡ Open)
 
--- what the states, the heights and the stack say of the references
+-- what states, heights and stack say about the references
 pub record IsHeightWalk (refs : ℕ → List ℕ) (marks : List Bool) (states : List State) (heights stack : List ℕ) : Type 0 where
   pub marked : (n : ℕ) → state_at states n ≢ New → IsMarked marks n
   pub linked : (k : ℕ) → suc k < length stack → Contains (refs (slice_index stack k)) (slice_index stack (suc k))
   pub measured : (n : ℕ) → state_at states n ≡ Founded → Least refs n (slice_index heights n)
   pub circular : (n : ℕ) → state_at states n ≡ Circular → Ends refs n → ⊥
 
--- what a look finds, whatever the references are: an object of which nothing is known, or a height that is not above all
--- heights of founded objects
+-- what a scan finds, whatever the references are: an object about which nothing is known, or a height that is at most
+-- the greatest of founded objects
 abbrev pub Finds : ℕ → List State → List ℕ → Finding → Type 0
 Finds size states heights (looks.New i m) = (m < size) × (state_at states m ≡ New)
 Finds size states heights looks.Circular = ⊤
 Finds size states heights (looks.Founded best) =
     (bound : ℕ) → ((n : ℕ) → state_at states n ≡ Founded → slice_index heights n ≤ bound) → best ≤ bound
 
--- what it shows of the references it looked at, from number from on: the height is the greatest of all where it began at 0
+-- what a scan shows about the references from number `from` on; if it began at 0, the height is the greatest of all
 abbrev pub Shows : List ℕ → List State → List ℕ → ℕ → Finding → Type 0
 Shows references states heights from (looks.New i m) = (i < length references) × (m ≡ slice_index references i)
 Shows references states heights from looks.Circular =
@@ -61,7 +62,7 @@ Shows references states heights from (looks.Founded best) = from ≡ 0
 abbrev pub AreClosed : Graph → List Bool → Type 0
 AreClosed graph marks = (n : ℕ) → IsMarked marks n → IsWhole graph n × HasMarks marks (graph.refs n)
 
--- the least heights of the objects that are marked and founded, 0 of the others
+-- the least heights of the objects that are marked and founded, and 0 for all others
 pub record AreLeastOf (refs : ℕ → List ℕ) (marks : List Bool) (heights : List ℕ) : Type 0 where
   pub vouched : (n : ℕ) → 0 < slice_index heights n → IsMarked marks n × Least refs n (slice_index heights n)
   pub all : (n : ℕ) → IsMarked marks n → Ends refs n → 0 < slice_index heights n

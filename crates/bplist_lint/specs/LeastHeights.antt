@@ -6,13 +6,13 @@ use Rattle.bplist_objects.specs.Reach.{Reach}
 use Rattle.bplist_cert.specs.Valid.{IsVouchedBy}
 use Rattle.bplist_lint.specs.Graph.{greatest}
 
--- each reached object has height 1 without references, else one above their greatest
+-- each reached object without references has height 1; every other has one more than the greatest of theirs
 abbrev pub StandLeast : List ℕ → Frame → List ℕ → Type 0
 StandLeast f F heights =
     (n : ℕ) → Reach f F n
     → (c : Content) × Spells f F n c × (slice_index heights n ≡ 1 + greatest (map (slice_index heights) (refs c)))
 
--- each reached object has its least height, each other 0
+-- each reached object has its least height, and every other object 0
 pub record AreLeastHeights (f : List ℕ) (F : Frame) (heights : List ℕ) : Type 0 where
   pub count : length heights ≡ F.objects
   pub least : StandLeast f F heights

@@ -1,4 +1,4 @@
--- What the linter says of a file that holds a value. Source: profile.
+-- What the linter says about a file that holds a value. Source: profile.
 use Rattle.std.specs.Prelude.{◌≡◌, ℕ, ◌+◌, ◌≤◌, nat_lt, List, [], ◌∷◌, length, slice_index, count_by, filter, None}
 use Rattle.std.specs.List.{range_with_len}
 use Rattle.bplist_objects.specs.declared.frame.Frame.{Frame}
@@ -17,12 +17,12 @@ use Rattle.bplist_lint.specs.LeastHeights.{AreLeastHeights}
 use Rattle.bplist_lint.specs.ReachRules.{KeepReached}
 use Rattle.bplist_lint.specs.ReachWalk.{IsWalked}
 
--- these objects have t references together, each those of what it spells
+-- these objects have t references together; those of each are those of what it spells
 abbrev pub HaveReferences : List ℕ → Frame → List ℕ → ℕ → Type 0
 HaveReferences f F [] t = t ≡ 0
 HaveReferences f F (n ∷ ns) t = (c : Content) × (r : ℕ) × Spells f F n c × HaveReferences f F ns r × (t ≡ length (refs c) + r)
 
--- the file holds a value; the certificate has the least valid heights, and the numbers are those of reached objects
+-- the file holds a value; the certificate has the least valid heights, and the figures are those of the reached objects
 pub record IsLintedBy (f : List ℕ) (F : Frame) (lint : Lint) : Type 0 where
   pub value : Value
   pub holds : FileHolds f value
@@ -35,11 +35,11 @@ pub record IsLintedBy (f : List ℕ) (F : Frame) (lint : Lint) : Type 0 where
   pub references : HaveReferences f F (filter (λ n. nat_lt 0 (slice_index lint.certificate.heights n)) (range_with_len 0 F.objects)) lint.references
   pub few : lint.references + 8 ≤ F.table
 
--- the same, with the file's frame
+-- the file has a frame, and the linter's answer is right for it
 abbrev pub IsLinted : List ℕ → Lint → Type 0
 IsLinted f lint = (F : Frame) × IsFrame f F × IsLintedBy f F lint
 
--- the same, with the kind of the top
+-- the linter's answer is right for the file, and this is the kind of the top
 abbrev pub IsLintedWithKind : List ℕ → Lint → Kind → Type 0
 IsLintedWithKind f lint kind =
     (F : Frame) × IsFrame f F × IsLintedBy f F lint × ((head : Head) × IsHeadOf f F F.top.0 head × (kind ≡ head.kind))
@@ -48,7 +48,7 @@ IsLintedWithKind f lint kind =
 abbrev pub HasNoHeights : List ℕ → Type 0
 HasNoHeights f = (F : Frame) (heights : List ℕ) → IsValid f F heights → ⊥
 
--- the reached objects keep all rules but 23
+-- the reached objects keep all rules except 23
 pub record KeepsRules (f : List ℕ) (F : Frame) (reached : Reached) : Type 0 where
   pub walked : IsWalked f F reached
   pub keys : KeepReached f F (key_rules None) F.objects

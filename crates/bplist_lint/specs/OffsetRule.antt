@@ -1,4 +1,4 @@
--- Rule 13 of the places of the objects, as they are kept. Source: profile.
+-- Rule 13, for the places of all objects in memory. Source: profile.
 use Rattle.std.specs.Prelude.{◌≡◌, ℕ, ◌+◌, ◌*◌, ◌<◌, ◌≤◌, List, slice_index, Some}
 use Rattle.bplist_objects.specs.declared.fault.Fault.{Fault}
 use Rattle.bplist_objects.specs.declared.frame.Frame.{Frame}
@@ -8,7 +8,7 @@ use Rattle.bplist_objects.specs.declared.rule.Rule.TheVariants.{OffsetHigh}
 abbrev pub AreBelowTable : Frame → List ℕ → Type 0
 AreBelowTable F places = (n : ℕ) → n < F.objects → slice_index places n < F.table
 
--- the fault is that of the first of these places that is not, and stands at its entry
+-- the fault is that of the first place that is not, at its entry of the table
 pub record IsOffsetFault (F : Frame) (places : List ℕ) (fault : Fault) : Type 0 where
   pub n : ℕ
   pub within : n < F.objects

@@ -1,4 +1,5 @@
--- The rules of the objects that the top reaches, which are kept and broken as in the check, and the first fault of them. Source: profile.
+-- The rules of the objects that the top reaches, kept and broken as in the check, and the first fault by them.
+-- Source: profile.
 use Rattle.std.specs.Prelude.{◌≡◌, ℕ, Bool, false, List, [], ◌∷◌, ◌++◌, slice_index_or, None, sum_by, count_by, filter, filter_map}
 use Rattle.std.specs.List.{range_with_len}
 use Rattle.bplist_objects.specs.declared.rule.Rule.{Rule}
@@ -31,15 +32,15 @@ module _ (f : List ℕ) (F : Frame) where
   abbrev pub KeepReached : List Rule → ℕ → Type 0
   KeepReached listed n = KeepBelow f F (Reach f F) (lists [] None) listed n
 
-  -- the first fault by these rules of the least reached object that has one
+  -- the first of these rules that the least reached object that breaks one breaks
   abbrev pub IsReachedFault : List Rule → Fault → Type 0
   IsReachedFault listed fault = IsLeastFault f F (Reach f F) (lists [] None) listed fault
 
-  -- how many references the heads of the objects below n that satisfy p announce
+  -- how many references the objects below n that satisfy p announce together, by their heads
   abbrev pub references_below : (ℕ → Bool) → ℕ → ℕ
   references_below p n = sum_by (λ head. ref_count head.kind head.count) (filter_map (head_found f F) (filter p (range_with_len 0 n)))
 
-  -- so far the reached objects, which are marked, keep the rules, and this is their tally
+  -- the reached objects before n, which are marked, keep the rules, and this is their tally
   pub record Tallied (marks : List Bool) (n : ℕ) (tally : Tally) : Type 0 where
     pub kept : KeepReached reach_rules n
     pub sums : Sums f F (Reach f F) n tally.used

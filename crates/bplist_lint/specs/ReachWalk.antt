@@ -26,7 +26,7 @@ use Rattle.bplist_lint.specs.ReachRules.{number_below, references_below, is_mark
 use Rattle.bplist_lint.specs.Tallies.{IsRoomy}
 
 -- ---- why the walk ended
--- the reason for a fault of an object or a failed read
+-- the reason, from a fault of an object or a failed read
 abbrev pub of_object : ObjectFault → Stop
 of_object (object_faults.Fault _) = stops.Trouble
 of_object (object_faults.Read error) = stops.Read error
@@ -36,36 +36,37 @@ abbrev pub stopped_by_read : Stop → Bool
 stopped_by_read (stops.Read _) = true
 stopped_by_read _ = false
 
--- the answer says that a read has failed
+-- a read has failed
 abbrev pub stop_failed : {X : Type 0} → Result X Stop → Bool
 stop_failed (Ok x) = false
 stop_failed (Err stop) = stopped_by_read stop
 
 -- ---- whatever the source gives
--- there is a mark for each of so many objects, and objects are on the stack
+-- each object has a mark, and the stack has objects only
 pub record IsSteady (size : ℕ) (w : Worklist) : Type 0 where
   pub all_marks : vec_len w.marks ≡ size
   pub stack_in : All (λ m. m < size) w.stack.items
 
--- besides, there is room for what was visited
+-- each object has its marks, the stack has objects only, and there is room for what was visited
 pub record IsSteadyWalk (F : Frame) (p : Progress) : Type 0 where
   pub worklist : IsSteady F.objects p.worklist
   pub all_childless : vec_len p.childless ≡ F.objects
   pub all_named : length p.named.marks.items ≡ F.objects
   pub roomy : IsRoomy F p.tally
 
--- there is a mark of either kind for each object, and there is room for the reached ones
+-- each object has both marks, and there is room for the reached objects
 pub record HasRoomFor (F : Frame) (reached : Reached) : Type 0 where
   pub all_marks : vec_len reached.marks ≡ F.objects
   pub all_childless : vec_len reached.childless ≡ F.objects
   pub roomy : IsRoomy F reached.tally
 
 -- ---- one visit
--- no object stands on the stack twice
+-- no object is on the stack twice
 abbrev pub AreApart : List ℕ → Type 0
 AreApart stack = (j k : ℕ) → j < k → k < length stack → slice_index stack j ≢ slice_index stack k
 
--- the first i of these references are marked, and those that were not are from next on or on the stack, each once
+-- the first i of these references are marked; those that were not marked before are from `next` on, or on the stack,
+-- once
 pub record Noted (references : List ℕ) (next i : ℕ) (marks : List Bool) (stack : List ℕ) (marks' : List Bool) (stack' : List ℕ) : Type 0 where
   pub keeps_marks : (m : ℕ) → IsMarked marks m → IsMarked marks' m
   pub keeps_stack : (m : ℕ) → Contains stack m → Contains stack' m
@@ -74,17 +75,17 @@ pub record Noted (references : List ℕ) (next i : ℕ) (marks : List Bool) (sta
   pub apart : ((m : ℕ) → Contains stack m → IsMarked marks m) → AreApart stack → AreApart stack'
   pub all : (k : ℕ) → k < i → IsMarked marks' (slice_index references k)
 
--- how many bytes an object at this place takes, by its head
+-- the bytes that an object at this place takes, by its head
 abbrev pub extent_by : ℕ → Option Head → ℕ
 extent_by place None = 0
 extent_by place (Some head) = head.end - place
 
 module _ (f : List ℕ) (F : Frame) where
-  -- how many bytes object n takes
+  -- the bytes that object n takes
   abbrev pub extent : ℕ → ℕ
   extent n = extent_by (off f F n) (head_found f F n)
 
-  -- how many bytes the objects that p holds of take together among those below n
+  -- the bytes that the objects below n that satisfy p take together
   abbrev pub extents_below : (ℕ → Bool) → ℕ → ℕ
   extents_below p n = sum_by extent (filter p (range_with_len 0 n))
 
@@ -96,7 +97,7 @@ module _ (f : List ℕ) (F : Frame) where
     pub all : HasMarks marks (refs_at f F n)
     pub named : HasNamedKeys f F keys n
 
-  -- between two visits: what is marked is reached; it is from next on, on the stack, or was visited once; and the tally
+  -- between two visits: what is marked is reached; it is from `next` on, on the stack, or was visited once; the tally
   -- is that of what was visited
   pub record IsWalkState (next : ℕ) (stack : List ℕ) (marks childless keys : List Bool) (tally : Tally) : Type 0 where
     pub visited : List Bool
@@ -112,7 +113,7 @@ module _ (f : List ℕ) (F : Frame) where
     pub used : tally.used ≡ extents_below (is_marked visited) F.objects
     pub references : tally.references ≡ references_below f F (is_marked visited) F.objects
 
-  -- the same of the walk's progress, with this stack
+  -- the state of the walk between two visits, with this stack
   abbrev pub IsWalking : ℕ → List ℕ → Progress → Type 0
   IsWalking next stack p = IsWalkState next stack p.worklist.marks.items p.childless.items p.named.marks.items p.tally
 

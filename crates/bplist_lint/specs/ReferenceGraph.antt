@@ -23,7 +23,7 @@ abbrev pub key_count : Kind → ℕ → ℕ
 key_count kinds.Dict count = count
 key_count _ count = 0
 
--- how many references a view leaves out, the first ones: that of values those to the keys of a dictionary
+-- how many of the first references a view leaves out: those to the keys of a dictionary, in the view of values
 abbrev pub hidden : View → Option Head → ℕ
 hidden views.All head = 0
 hidden views.Values None = 0
@@ -33,7 +33,7 @@ hidden views.Values (Some head) = key_count head.kind head.count
 abbrev pub refs_in : View → List ℕ → Frame → ℕ → List ℕ
 refs_in view f F n = drop (hidden view (head_found f F n)) (refs_at f F n)
 
--- the objects of a file with this frame in this view. The file is read through a borrow with this ghost name
+-- the objects of a file with this frame in this view; the file is read through a borrow with this ghost name
 abbrev pub graph_of : ℕ → View → List ℕ → Frame → Graph
 graph_of through view f F = record {
   through = through;

@@ -14,6 +14,6 @@ abbrev pub Lints : {X : Type 0} → (X → Type 0) → (Fault → Type 0) → (L
 Lints P Q R answer = MatchResult answer P (λ refusal.
     elim refusal [ refusals.Fault fault ↦ Q fault | refusals.Circle circle ↦ R (map number circle) | _ ↦ Unit {0} ])
 
--- no circle is answered
+-- the answer is not a circle
 abbrev pub no_circle : List ℕ → Type 0
 no_circle circle = ⊥

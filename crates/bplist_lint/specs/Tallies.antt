@@ -5,13 +5,13 @@ use Rattle.bplist_objects.specs.declared.head.Head.{Head}
 use Rattle.bplist_objects.specs.Safe.{ref_count}
 use Rattle.bplist_lint.specs.declared.tally.Tally.{Tally}
 
--- what is tallied has room before the table, and each object and each reference takes a byte
+-- what is tallied has room before the table; each object and each reference takes at least a byte
 pub record IsRoomy (F : Frame) (tally : Tally) : Type 0 where
   pub room : tally.used + 8 ≤ F.table
   pub reached : tally.reached ≤ tally.used
   pub references : tally.references ≤ tally.used
 
--- now is the tally with an object more that stands at this place and has this head
+-- `now` is the tally with one more object, which is at this place and has this head
 pub record IsTalliedWith (tally : Tally) (place : ℕ) (head : Head) (now : Tally) : Type 0 where
   pub reached : now.reached ≡ tally.reached + 1
   pub used : now.used ≡ tally.used + (head.«end» - place)

@@ -22,7 +22,7 @@ pub record IsFirstIndex (trail : List ℕ) (x index : ℕ) : Type 0 where
   pub here : slice_index trail index ≡ x
   pub before : (k : ℕ) → k < index → slice_index trail k ≢ x
 
--- exactly the objects of the trail are marked, and each stands there once
+-- exactly the objects of the trail are marked, and each is on it once
 pub record IsTrail (size : ℕ) (met : List Bool) (trail : List ℕ) : Type 0 where
   pub all_met : length met ≡ size
   pub on_trail : (n : ℕ) → IsMarked met n → Contains trail n

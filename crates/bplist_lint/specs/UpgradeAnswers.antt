@@ -1,4 +1,4 @@
--- What an upgrade answers. Source: profile.
+-- What an upgrade returns. Source: profile.
 use Rattle.std.specs.Prelude.{◌≢◌, Bool, true, false, Result, Err, MatchResult}
 use Rattle.bplist_lint.specs.declared.upgrade_fault.UpgradeFault.{UpgradeFault}
 use Rattle.bplist_lint.specs.declared.upgrade_fault.UpgradeFault.TheVariants as faults
@@ -7,6 +7,6 @@ use Rattle.bplist_lint.specs.declared.upgrade_fault.UpgradeFault.TheVariants as 
 abbrev pub upgrade_failed : {X : Type 0} → Result X UpgradeFault → Bool
 upgrade_failed answer = elim answer [ Err (faults.Read _) ↦ true | _ ↦ false ]
 
--- P holds of the answer, or the fault is another than that the file changed
+-- P holds of the answer, or the error is not `Changed`
 abbrev pub Upgrades : {X : Type 0} → (X → Type 0) → Result X UpgradeFault → Type 0
 Upgrades P answer = MatchResult answer P (λ fault. fault ≢ faults.Changed)

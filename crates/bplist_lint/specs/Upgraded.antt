@@ -1,4 +1,4 @@
--- The key lists of vouched dictionaries, one behind the other. Source: profile.
+-- The key lists of vouched dictionaries, one after the other. Source: profile.
 use Rattle.std.specs.Prelude.{◌≡◌, ◌↔◌, ℕ, ◌<◌, ◌≤◌, nat_lt, cond, List, length, slice_index, Option, Some, None, is_some, map, sum, filter_map}
 use Rattle.std.specs.List.{range_with_len}
 use Rattle.std.specs.Option.{option_and_then}
@@ -14,21 +14,21 @@ use Rattle.bplist_cert.specs.Valid.{IsVouchedBy}
 use Rattle.bplist_cert.specs.Sorted.{IsAccepted}
 use Rattle.bplist_cert.specs.CheckRules.{HasOrder}
 
--- the numbers of the objects below n that have one, added up
+-- the sum of the numbers of the objects below n that have one
 abbrev pub together : (ℕ → Option ℕ) → ℕ → ℕ
 together many n = sum (filter_map many (range_with_len 0 n))
 
 module _ (f : List ℕ) (F : Frame) (heights : List ℕ) where
-  -- how many positions the key list of object n has, computed: as many as its head counts, if it is a vouched dictionary
+  -- the number of positions in the key list of object n, computed: the count of its head, if it is a vouched dictionary
   abbrev pub pairs : ℕ → Option ℕ
   pairs n = cond (nat_lt 0 (slice_index heights n))
       (option_and_then (λ head. elim head.kind [ Dict ↦ Some head.count | _ ↦ None ]) (head_found f F n)) None
 
-  -- how many positions the key lists of the objects below n have together
+  -- the number of positions in the key lists of the objects below n together
   abbrev pub pairs_below : ℕ → ℕ
   pairs_below n = together pairs n
 
-  -- so far the vouched dictionaries have their key lists
+  -- the vouched dictionaries before n have their key lists
   pub record Listed (n : ℕ) (starts positions : List ℕ) : Type 0 where
     pub total : length positions ≡ pairs_below n
     pub begins : (m : ℕ) → m < n → slice_index starts m ≡ cond (is_some (pairs m)) (pairs_below m) 0
@@ -39,12 +39,12 @@ module _ (f : List ℕ) (F : Frame) (heights : List ℕ) where
     pub sums : Sums f F (IsVouchedBy heights) n used
     pub few : length positions ≤ used
 
-  -- object n is vouched for, and spells a dictionary of so many pairs
+  -- object n is vouched for, and spells a dictionary of this many pairs
   abbrev pub HasPairs : ℕ → ℕ → Type 0
   HasPairs n count = IsVouchedBy heights n × ((ks ms : List ℕ) × Spells f F n (dict ks ms) × (length ks ≡ count))
 
-  -- the certificate keeps its heights and gets the key lists of the vouched dictionaries, one after the other, and each is as
-  -- long as its dictionary has pairs
+  -- the certificate keeps its heights and gets the key lists of the vouched dictionaries, one after the other; each
+  -- list is as long as its dictionary has pairs
   pub record IsUpgraded (certificate : Lists) : Type 0 where
     pub keyed : Keyed
     pub is : certificate ≡ lists heights (Some keyed)

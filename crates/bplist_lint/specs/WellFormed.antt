@@ -1,4 +1,4 @@
--- What it takes for a file to hold a value, said without the value. Source: profile.
+-- When a file holds a value, said without the value. Source: profile.
 use Rattle.std.specs.Prelude.{ℕ, List}
 use Rattle.bplist_objects.specs.declared.frame.Frame.{Frame}
 use Rattle.bplist_objects.specs.Frame.{IsFrame}

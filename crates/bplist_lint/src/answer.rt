@@ -1,13 +1,13 @@
-//! What the linter says of a file that holds a value.
+//! The linter's yes: a certificate, and figures about the file.
 
 use bplist_cert::Certificate;
 
-/// What the linter says of a file that holds a value.
+/// What the linter returns for a file that holds a value.
 #[derive(Drop)]
 pub struct Lint {
-    /// The certificate, of version 1: the least height of each reached object, and 0 for each other.
+    /// The certificate, of version 1: the least height of each reached object, and 0 for every other object.
     pub certificate: Certificate,
-    /// How many objects the top reaches, the top among them.
+    /// How many objects the top reaches, including the top itself.
     pub reached: u64,
     /// The height of the top.
     pub height: u32,

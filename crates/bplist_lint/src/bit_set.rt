@@ -1,14 +1,14 @@
-//! Sets of numbers in which the least one from a number on that is missing is found quickly.
+//! A set of numbers that quickly finds the next number that is not in it.
 
 ghost use Rattle.std.specs.Prelude.{◌≡◌, ◌⊎◌, ℕ, ◌+◌, ◌*◌, ◌^◌, ◌≤◌, ◌<◌, IsTrue, IfOk, MatchOption, length, vec_len};
 ghost use Rattle.bplist_lint.specs.BitSets.{IsIn, AreSkips};
 
 use std::alloc::{AllocError, Global};
 
-/// How many numbers a block has: eight words of 64.
+/// The numbers in a block: eight words of 64 bits.
 const BLOCK: u64 = 512;
 
-/// The least number from `from` up to `end` that is not in the set with these bits.
+/// Returns the least number from `from` up to, and without, `end` that is not in the set with these bits.
 fn first_outside(words: &[u64], from: u64, end: u64) -> Option<u64>
     requires within { end ≤ 64 * length words.now }
     requires low { end < 2 ^ 50 }
@@ -29,13 +29,13 @@ fn first_outside(words: &[u64], from: u64, end: u64) -> Option<u64>
     None
 }
 
-/// A set of numbers below a size.
+/// A set of numbers below a fixed size.
 #[derive(Drop)]
 pub struct BitSet {
     size: u64,
-    /// A bit for each number.
+    /// One bit for each number.
     words: Vec<u64>,
-    /// For each block of words a block that is not before it: all blocks between the two are full.
+    /// For each block a block at or after it, such that all blocks between the two are full.
     skips: Vec<u32>,
     pub ghost room: { size ≤ 512 * vec_len skips },
     pub ghost whole: { vec_len words ≡ 8 * vec_len skips },
@@ -44,7 +44,7 @@ pub struct BitSet {
 }
 
 impl BitSet {
-    /// The set without numbers, for numbers below `size`.
+    /// Returns the empty set, for numbers below `size`.
     pub fn new(alloc: Global, size: u64) -> Result<BitSet, AllocError>
         requires { size < 2 ^ 40 }
         ensures size { IfOk result (λ set. set.size ≡ size) }
@@ -59,7 +59,7 @@ impl BitSet {
         Ok(BitSet { size, words, skips })
     }
 
-    /// Puts number `i` into the set.
+    /// Inserts number `i`, which must be below the size.
     pub fn insert(&mut self, i: u64)
         requires { i < self.old.size }
         ensures size { self.new.size ≡ self.old.size }
@@ -77,7 +77,8 @@ impl BitSet {
         }
     }
 
-    /// The first block from `block` on that is not known to be full, or the number of blocks.
+    /// Returns the first block from `block` on that is not known to be full, or else the number of blocks. Shortens the
+    /// skips that it follows.
     fn next_block(&mut self, block: usize) -> usize
         requires { block ≤ vec_len self.old.skips }
         ensures size { self.new.size ≡ self.old.size }
@@ -101,7 +102,7 @@ impl BitSet {
         at
     }
 
-    /// The least number from `i` on that is not in the set, or the size.
+    /// Returns the least number from `i` on that is not in the set, or the size if there is none.
     pub fn next_outside(&mut self, i: u64) -> u64
         requires { i ≤ self.old.size }
         ensures size { self.new.size ≡ self.old.size }

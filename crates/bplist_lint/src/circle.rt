@@ -1,4 +1,4 @@
-//! The circle that keeps the top from being founded.
+//! Finds the circle that keeps the top from being founded.
 
 ghost use Rattle.std.specs.Prelude.{◌≡◌, ◌<◌, ◌≤◌, IsTrue, drop, map, length, slice_index, Contains, IfOk, IfSome, MatchOption, is_err};
 ghost use Rattle.bplist_lint.specs.Prelude.{OnlyReads, Judges, Never, refused_read, IsWhole, AreWhole, AreObjects, AreLeast, IsFirstWithout, IsCircleOf, number, object, AllHave, IsFirstIndex};
@@ -9,7 +9,7 @@ use bplist_objects::ObjectNo;
 use bplist_octets::ReadFault;
 use std::alloc::{AllocError, Global};
 
-/// The first of these objects that has no height.
+/// Returns the first of these objects that has no height.
 fn without(heights: &[u32], objects: &[u32]) -> Option<u32>
     requires { AreObjects (length heights.now) (length objects.now) objects.now }
     ensures inside { IfSome result (λ m. m < length heights.now) }
@@ -25,7 +25,7 @@ fn without(heights: &[u32], objects: &[u32]) -> Option<u32>
     None
 }
 
-/// The first reference of `n` that has no height.
+/// Returns the first reference of `n` to an object without a height.
 fn first_without<R: References>(
     graph: &mut R,
     heights: &[u32],
@@ -55,7 +55,7 @@ fn first_without<R: References>(
     Ok(None)
 }
 
-/// The first index of `x` on the trail.
+/// Returns the first index of `x` on the trail.
 fn index_in(trail: &[u32], x: u32) -> usize
     requires { Contains trail.now x }
     ensures { IsFirstIndex trail.now x result }
@@ -67,14 +67,13 @@ fn index_in(trail: &[u32], x: u32) -> usize
     index
 }
 
-/// The objects with these numbers.
+/// Returns the objects with these numbers.
 fn named(alloc: Global, numbers: &[u32]) -> Result<Vec<ObjectNo>, AllocError>
     ensures { IfOk result (λ objects. objects.items ≡ map object numbers.now) }
 {
     numbers.iter().map(|n| ObjectNo(*n)).collect(alloc)
 }
 
-/// What stands on the trail from an index on.
 fn tail(trail: &[u32], index: usize) -> &[u32]
     requires { index ≤ length trail.now }
     ensures { result.now ≡ drop index trail.now }
@@ -82,8 +81,8 @@ fn tail(trail: &[u32], index: usize) -> &[u32]
     &trail[index..]
 }
 
-/// The circle that first references without a height lead to from `top`. The trail is walked once; an object is met
-/// a second time where its mark is set.
+/// Returns the circle that `top` leads to if each object is left by its first reference to an object without a height.
+/// Walks that trail once, and stops at the first object that it meets again.
 pub fn circle<R: References>(
     alloc: Global,
     graph: &mut R,
@@ -107,7 +106,7 @@ pub fn circle<R: References>(
         trail.push(x)?;
         match first_without(graph, heights, x)? {
             Some(m) => x = m,
-            // Over an honest source there is always one, and what a dishonest one hides ends the walk.
+            // Over an honest source there is always one. Over any other the walk just ends here.
             None => break,
         }
     }

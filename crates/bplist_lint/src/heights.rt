@@ -1,4 +1,4 @@
-//! Which objects are founded, and their least heights.
+//! Finds which objects are founded, and their least heights.
 
 ghost use Rattle.std.specs.Prelude.{◌≡◌, ◌≢◌, ℕ, ◌+◌, ◌^◌, ◌<◌, Bool, List, [], ◌∷◌, ◌++◌, IsTrue, length, map, set, vec_len, IfOk, OnOk};
 ghost use Rattle.bplist_lint.specs.Prelude.{from_bool, OnlyReads, failed_to_read, IsWhole, AreObjects, IsMarked, Finds, Shows, Standing, IsHeightWalk, AreClosed, AreLeastOf, state_at, first_state};
@@ -8,45 +8,45 @@ use crate::references::{BLOCK, References};
 use bplist_keys::{Failure, numbers_of};
 use std::alloc::{AllocError, Global};
 
-/// How many references are read at first where a look at an object goes on.
+/// How many references to read first when the scan of an object resumes.
 const FEW: usize = 4;
 
-/// What is known of an object.
+/// What is known about an object.
 #[derive(Clone, Copy, Debug)]
 enum State {
     /// Nothing yet.
     New,
-    /// It is on the stack: one of its references has to be settled first.
+    /// It is on the stack and waits for one of its references to be settled.
     Open,
     /// It is founded.
     Founded,
-    /// It is not: it leads to a circle.
+    /// It is not founded: it leads to a circle.
     Circular,
 }
 
-/// What a look at the references of an object finds.
+/// What a scan of an object's references finds.
 #[derive(Clone, Copy, Debug)]
 enum Finding {
-    /// The first that leads to an object of which nothing is known yet: its number, and that object.
+    /// A reference to an object about which nothing is known yet: the index of the reference, and that object.
     New(u64, u32),
-    /// One that leads to an object that is not founded.
+    /// A reference to an object that is not founded.
     Circular,
-    /// They lead to founded objects, the highest of which has this height. It is 0 where there are none.
+    /// Only founded objects. This is the greatest of their heights, or 0 if there are no references.
     Founded(u32),
 }
 
-/// A walk that settles objects after those that they refer to.
+/// A depth-first walk that settles each object after the objects that it refers to.
 #[derive(Drop)]
 struct HeightWalk {
     states: Vec<State>,
-    /// The height of each founded object. Of an open one the number of the reference at which the next look at it begins. Of the
-    /// others 0.
+    /// For a founded object its height. For an open object the index of the reference at which its scan resumes. Else
+    /// 0.
     heights: Vec<u32>,
-    /// The open objects, each a reference of the one before it.
+    /// The open objects. Each is a reference of the one before it.
     stack: Vec<u32>,
 }
 
-/// The states that are known before the first look: objects that are known to have no references are founded.
+/// Returns the states before the walk: an object known to have no references is founded.
 fn first_states(alloc: Global, childless: &[bool]) -> Result<Vec<State>, AllocError>
     ensures { IfOk result (λ states. states.items ≡ map first_state childless.now) }
 {
@@ -58,8 +58,8 @@ fn first_states(alloc: Global, childless: &[bool]) -> Result<Vec<State>, AllocEr
 }
 
 impl HeightWalk {
-    /// Before the first look. Objects with a mark in `childless` have no references, and so height 1 at once, the number of a
-    /// mark.
+    /// Starts a walk. Objects marked in `childless` have no references, so they have height 1 from the start: the mark
+    /// as a number is the height.
     fn new(alloc: Global, childless: &[bool]) -> Result<HeightWalk, AllocError>
         ensures states { IfOk result (λ walk. walk.states.items ≡ map first_state childless.now) }
         ensures heights { IfOk result (λ walk. walk.heights.items ≡ map from_bool childless.now) }
@@ -73,7 +73,7 @@ impl HeightWalk {
         })
     }
 
-    /// Puts object `m`, of which nothing is known, on the stack.
+    /// Puts object `m`, about which nothing is known, on the stack.
     fn open(&mut self, m: u32) -> Result<(), AllocError>
         requires { m < vec_len self.old.states }
         ensures states { self.new.states.items ≡ set self.old.states.items m states.Open }
@@ -85,7 +85,7 @@ impl HeightWalk {
         Ok(())
     }
 
-    /// Object `n` has this state from now on, and this height, which is 0 where it is not founded.
+    /// Gives object `n` its final state and height. The height of an object that is not founded is 0.
     fn settle(&mut self, n: u32, state: State, height: u32)
         requires within { n < vec_len self.old.heights }
         requires all { vec_len self.old.states ≡ vec_len self.old.heights }
@@ -97,7 +97,7 @@ impl HeightWalk {
         self.heights[n as usize] = height;
     }
 
-    /// Looks at these objects. Where nothing is known of one its number among them is given.
+    /// Looks at the states of these objects. The index in `Finding::New` counts from the first of them.
     fn look_at(&self, objects: &[u32]) -> Finding
         requires inside { AreObjects (vec_len self.now.states) (length objects.now) objects.now }
         requires all { vec_len self.now.heights ≡ vec_len self.now.states }
@@ -115,8 +115,8 @@ impl HeightWalk {
         Finding::Founded(best)
     }
 
-    /// Looks at the references of object `n`, from number `from` on. Behind the first a few are read, and then twice as many
-    /// each time: a walk that comes back to an object again and again reads none of its references often.
+    /// Scans the references of object `n`, from number `from` on. A scan that resumes reads 4, 8, 16, ... references,
+    /// so that an object to which the walk comes back again and again does not have its references read many times.
     fn look<R: References>(&self, graph: &mut R, n: u32, from: u64) -> Result<Finding, Failure>
         requires n_in { n < (R.graph graph.old).size }
         requires all_states { vec_len self.now.states ≡ (R.graph graph.old).size }
@@ -147,8 +147,8 @@ impl HeightWalk {
         Ok(Finding::Founded(best))
     }
 
-    /// Looks at the references of open object `n`, from where the last look at it ended. Where these are founded it looks at
-    /// all, since the height needs the greatest.
+    /// Resumes the scan of open object `n`. If it finds founded objects only, it scans all references again, because
+    /// the height needs the greatest of all.
     fn look_on<R: References>(&self, graph: &mut R, n: u32) -> Result<Finding, Failure>
         requires n_in { n < (R.graph graph.old).size }
         requires all_states { vec_len self.now.states ≡ (R.graph graph.old).size }
@@ -169,8 +169,8 @@ impl HeightWalk {
         self.look(graph, n, 0)
     }
 
-    /// Walks from object `n`, where nothing is known of it: settles it, and what it leads to. The object on top of the stack is
-    /// settled, or one is opened that has to be settled before. The stack is empty before and after.
+    /// Settles object `n`, if nothing is known about it, and all that it leads to. Each turn either settles the object
+    /// on top of the stack or opens one that must be settled first. The stack is empty before and after.
     fn settle_from<R: References>(&mut self, graph: &mut R, n: u32) -> Result<(), Failure>
         requires fits { (R.graph graph.old).size < 2 ^ 32 }
         requires n_in { n < (R.graph graph.old).size }
@@ -195,7 +195,8 @@ impl HeightWalk {
         while let Some(m) = self.stack.pop() {
             match self.look_on(graph, m)? {
                 Finding::New(i, next) => {
-                    // The next look at it begins at reference `i`, or before.
+                    // While an object waits for a child, its height slot holds the index at which its scan resumes:
+                    // this one or a lower one.
                     self.heights[m as usize] = i.min(u32::MAX as u64) as u32;
                     self.stack.push(m)?;
                     self.open(next)?;
@@ -208,12 +209,11 @@ impl HeightWalk {
     }
 }
 
-/// The least height of each founded object among the marked ones, which refer to marked ones alone, and 0 for each other.
-/// Objects with a mark in `childless` have no references, and so their height at once.
+/// Returns the least height of each marked object that is founded, and 0 for every other object. Marked objects may
+/// refer to marked ones only. Objects marked in `childless` have no references.
 ///
-/// A walk begins at each of the others that is not settled, the last first: where each reference leads to a greater number,
-/// the references of each object are looked at in one go, and the stack takes none but the first. Memory is taken by object:
-/// 9 bytes.
+/// The walk starts at the last marked object and goes down. If each reference leads to a greater number, the references
+/// of each object are scanned once and the stack never holds more than one object. Takes 9 bytes of memory an object.
 pub fn least_heights<R: References>(
     alloc: Global,
     graph: &mut R,

@@ -1,7 +1,7 @@
-//! The first fault of the reached dictionaries by rules 21 and 22.
+//! Finds the first fault of the reached dictionaries by rules 21 and 22.
 //!
 //! Each text that is named as a key has a class, which is found once for all dictionaries. A repeated key is a repeated
-//! class, and a key without one is no text.
+//! class, and a key without a class is not a text.
 
 ghost use Rattle.std.specs.Prelude.{◌≡◌, ◌↔◌, ℕ, ◌<◌, length};
 ghost use Rattle.bplist_lint.specs.Prelude.{OnlyReads, frame_in, HonestlyIn, IsSafeHead, Reach, KeepsAll, KeepsByObject, object_rules, HasHead, Dict, KeysAreSound, HasGoodKeys, BreaksKeys, Judges, refused_read, IsMarked, AreChildless, KeepReached, AreNamed, key_rules, AreClassed, IsStamped, IsNew, defect_key, IsWrongFault, Head as head_record, IsReachedFault, reach_rules};
@@ -11,7 +11,7 @@ use bplist_keys::{ClassTable, KeyDefect, NamedKeys, Offsets, classes_of, object_
 use bplist_objects::{Fault, Framed, Head, Kind, ObjectNo, Rule, ref_place};
 use std::alloc::Global;
 
-/// The fault of the keys of dictionary `n`.
+/// Returns the fault of the keys of dictionary `n`.
 fn key_fault<P: Framed>(src: &P, n: ObjectNo, head: &Head, wrong: KeyDefect) -> Fault
     requires head { IsSafeHead (frame_in (P.means src.now)) head.now }
     requires dict { head.now.kind ≡ Dict }
@@ -32,7 +32,7 @@ fn key_fault<P: Framed>(src: &P, n: ObjectNo, head: &Head, wrong: KeyDefect) -> 
     }
 }
 
-/// Looks at the keys of marked object `n`, where it is a dictionary.
+/// Checks the keys of marked object `n`, if it is a dictionary.
 fn check_dict_keys<P: Offsets>(src: &mut P, n: u32, table: &mut ClassTable) -> Result<(), Refusal>
     requires { n < (frame_in (P.means src.old)).objects }
     ensures reads { OnlyReads (refused_read result) (P.means src.old) (P.means src.new) }
@@ -55,10 +55,11 @@ fn check_dict_keys<P: Offsets>(src: &mut P, n: u32, table: &mut ClassTable) -> R
     }
 }
 
-/// Looks at the keys of each marked dictionary, in the order of the objects' numbers, where exactly the reached objects are
-/// marked, all of them keep rules 14 to 20, and what they name as keys is named. Objects with a mark in `childless` have no
-/// references. Where no object is named as a key, as in a file without dictionaries, neither classes nor a pass over all
-/// objects are worth their cost: no dictionary has a key that could be wrong.
+/// Checks the keys of each marked dictionary, in the order of the objects' numbers. The marks must be exactly those of
+/// the reached objects, all of which keep rules 14 to 20, and `named` must have their keys. Objects marked in
+/// `childless` have no references.
+///
+/// Without keys there is nothing to check, so neither the classes nor the pass over the objects is made.
 pub fn check_keys<P: Offsets>(
     alloc: Global,
     src: &mut P,

@@ -1,27 +1,27 @@
-//! Laws of the definitions: each is the contract of a function that does nothing.
+//! Laws about the definitions in specs/. Each law is the contract of a function that does nothing.
 
 ghost use Rattle.bplist_objects.specs.declared.fault.Fault.{Fault as fault};
 ghost use Rattle.std.specs.Prelude.{◌≡◌, ◌↔◌, ◌⊎◌, ℕ, ◌<◌, ◌≤◌, List, length, slice_index};
 ghost use Rattle.bplist_lint.specs.Prelude.{Frame as frame, Value, IsFrame, Content, Spells, FileHolds, Reach, Founded, refs_at, IsValid, Reaches, Ends, AreLeast, IsCircleOf, StandLeast, AreLeastHeights, IsWellFormed, KeepReached, key_rules, IsCircle, IsFileFault, IsFileCircle, reach_rules};
 
-/// A file has valid heights exactly where it is well formed.
+/// A file has valid heights exactly if it is well formed.
 pub fn valid_iff_well_formed()
     ensures { (f : List ℕ) (F : frame) → ((heights : List ℕ) × IsValid f F heights) ↔ IsWellFormed f F }
 {}
 
-/// A file holds a value exactly where it is well formed.
+/// A file holds a value exactly if it is well formed.
 pub fn holds_iff_well_formed()
     ensures { (f : List ℕ) → ((v : Value) × FileHolds f v) ↔ ((F : frame) × IsWellFormed f F) }
 {}
 
-/// A file is well formed exactly where its reached objects keep rules 14 to 22 and 31 and its top is founded.
+/// A file is well formed exactly if its reached objects keep rules 14 to 22 and 31 and its top is founded.
 pub fn well_formed_iff_kept()
     ensures { (f : List ℕ) (F : frame) → IsWellFormed f F
         ↔ (IsFrame f F × KeepReached f F reach_rules F.objects × KeepReached f F (key_rules None) F.objects × Founded f F F.top.0) }
 {}
 
-/// In a well formed file the least heights are valid, there is one list of them, and tables in which each reached object
-/// stands 1 above its references agree on these.
+/// In a well formed file the least heights are valid and there is one list of them. A table that gives each reached
+/// object a height 1 above those of its references agrees with that list.
 pub fn least_heights_are_valid()
     ensures valid { (f : List ℕ) (F : frame) (heights : List ℕ) → IsWellFormed f F → AreLeastHeights f F heights → IsValid f F heights }
     ensures one { (f : List ℕ) (F : frame) (heights others : List ℕ) → IsWellFormed f F → AreLeastHeights f F heights
@@ -30,13 +30,13 @@ pub fn least_heights_are_valid()
         → StandLeast f F others → (n : ℕ) → Reach f F n → slice_index heights n ≡ slice_index others n }
 {}
 
-/// What valid heights reach is founded, and its height is nowhere below the least.
+/// An object that valid heights reach is founded, and its height is at least the least height.
 pub fn least_is_least()
     ensures { (f : List ℕ) (F : frame) (heights least : List ℕ) → IsValid f F heights → StandLeast f F least
         → (n : ℕ) → Reach f F n → Founded f F n × (slice_index least n ≤ slice_index heights n) }
 {}
 
-/// The first fault of a file is one, with its rule, its object and its place, or with its circle.
+/// A file has at most one first fault, with one rule, one object and one place, or with one circle.
 pub fn one_file_fault()
     ensures fault { (f : List ℕ) (a b : fault) → IsFileFault f a → IsFileFault f b → a ≡ b }
     ensures circle { (f : List ℕ) (a b : List ℕ) → IsFileCircle f a → IsFileCircle f b → a ≡ b }
@@ -49,28 +49,28 @@ pub fn fault_has_no_value()
     ensures circle { (f : List ℕ) (circle : List ℕ) (v : Value) → IsFileCircle f circle → FileHolds f v → ⊥ }
 {}
 
-/// No heights are valid for a file with a first fault, so each certificate of it is refused.
+/// A file with a first fault has no valid heights, so each certificate of it is refused.
 pub fn fault_is_final()
     ensures fault { (f : List ℕ) (F : frame) (a : fault) (heights : List ℕ) → IsFileFault f a → IsValid f F heights → ⊥ }
     ensures circle { (f : List ℕ) (F : frame) (circle heights : List ℕ) → IsFileCircle f circle → IsValid f F heights → ⊥ }
 {}
 
-/// Each file holds a value, or a broken rule or a circle is its first fault. With `one_file_fault` and `fault_has_no_value`
-/// it is exactly one of the three.
+/// Each file holds a value, or its first fault is a broken rule or a circle. By `one_file_fault` and
+/// `fault_has_no_value` exactly one of the three is the case.
 pub fn value_or_fault()
     ensures { (f : List ℕ) → ((v : Value) × FileHolds f v) ⊎ (((a : fault) × IsFileFault f a)
         ⊎ ((circle : List ℕ) × IsFileCircle f circle)) }
 {}
 
-/// Where the reached objects keep rules 14 to 20 and 31, the top is founded or the walk from it along first references
-/// that are not founded comes to a circle, and never both.
+/// If the reached objects keep rules 14 to 20 and 31, either the top is founded, or the walk from it along the first
+/// references that are not founded comes to a circle. Never both.
 pub fn circle_iff_not_founded()
     ensures either { (f : List ℕ) (F : frame) → IsFrame f F → KeepReached f F reach_rules F.objects
         → Founded f F F.top.0 ⊎ ((circle : List ℕ) × IsCircle f F circle) }
     ensures never { (f : List ℕ) (F : frame) (circle : List ℕ) → IsCircle f F circle → Founded f F F.top.0 → ⊥ }
 {}
 
-/// What the graph of a file's references says is what the definitions say of what objects spell.
+/// What the graph of a file's references says agrees with what the objects spell by the definitions.
 pub fn graph_is_of_file()
     ensures reach { (f : List ℕ) (F : frame) (n : ℕ) → Reaches (refs_at f F) F.top.0 n ↔ Reach f F n }
     ensures founded { (f : List ℕ) (F : frame) → ((n : ℕ) → Reach f F n → (c : Content) × Spells f F n c)

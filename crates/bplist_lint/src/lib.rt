@@ -1,4 +1,5 @@
-//! The linter: whether a file holds a value, with which least heights, and if not, which fault is its first.
+//! The linter: decides whether a file holds a value, and returns the certificate of its least heights, or else the
+//! first fault. Checking a certificate is in `bplist_cert`; reading objects one at a time is in `bplist_objects`.
 //!
 //! ```
 //! let mut source = SliceSource::new(file);
@@ -10,14 +11,32 @@
 //! }
 //! ```
 //!
-//! | what | calls |
-//! |---|---|
-//! | the verdict on a file | [`lint`], [`Lint`], [`LintRefusal`], [`ObjectNos`] |
-//! | the same with the kind of the top | [`lint_with_kind`] |
-//! | a certificate with sorted key lists | [`upgrade`], [`UpgradeFault`] |
+//! A no is final: no certificate is valid for that file (clause `decisive` of [`lint`], law [`fault_is_final`]).
+//! docs/DESIGN.md describes the passes, docs/RULES.md the order of the rules.
 //!
-//! A no is final: after it no certificate is valid for the file (clause `decisive`, law `fault_is_final`). docs/DESIGN.md
-//! describes the passes, docs/RULES.md the order of the rules.
+//! The modules, in reading order:
+//!
+//! | module | what it is about | public items |
+//! |---|---|---|
+//! | answer | the linter's yes: certificate and figures | [`Lint`] |
+//! | refusal | the linter's no | [`LintRefusal`] |
+//! | linter | the passes of the linter, in their order | [`lint`], [`lint_with_kind`] |
+//! | offset_rule | rule 13, of all places | |
+//! | walk | the one walk over the reached objects: rules 14 to 20 and 31 | |
+//! | tally | sums over the reached objects | |
+//! | reach | which objects are reached, if the walk met a fault | |
+//! | reach_rules | the first fault by rules 14 to 20 and 31 | |
+//! | bit_set | the sets of places that the search in reach uses | |
+//! | key_rules | rules 21 and 22 | |
+//! | references | what heights and circle see of a file | |
+//! | object_graph | the objects of a file, seen like that | |
+//! | heights | the least heights | |
+//! | circle | the circle, if the top is not founded: rule 23 | |
+//! | object_nos | the list of objects in a circle | [`ObjectNos`] |
+//! | upgrader | a certificate with sorted key lists | [`upgrade`] |
+//! | key_lists | sorting the keys of a dictionary | |
+//! | upgrade_fault | why there is no such certificate | [`UpgradeFault`] |
+//! | laws | laws about the definitions in specs/ | [`value_or_fault`], [`fault_is_final`] and others |
 #![tactic(auto)]
 
 mod answer;

@@ -1,4 +1,4 @@
-//! The linter.
+//! The linter: the passes over a file, in their order.
 
 ghost use Rattle.std.specs.Prelude.{◌≡◌, ◌↔◌, ℕ, ◌<◌, IsTrue, IfOk, IfSome, MatchOption, length, vec_len, ⊤};
 ghost use Rattle.bplist_lint.specs.Prelude.{OnlyReads, frame_in, Honestly, HonestlyIn, IsFrame, IsSafeFrame, Reach, AreOffsets32, Judges, refused_read, refs_at, Value, FileHolds, Never, HasShape, Head as head, IsMarked, AreLeast, AreChildless, IsReachedFault, KeepReached, key_rules, HasRoomFor, IsWalked, AreNamed, IsFileFault, IsFileCircle, Lints, lint_failed, no_circle, KeepsRules, IsLintedBy, IsLinted, IsLintedWithKind, HasNoHeights, reach_rules};
@@ -20,9 +20,9 @@ use bplist_objects::{Fault, Frame, Framed, Kind, Rule, trailer_of};
 use bplist_octets::Source;
 use std::alloc::Global;
 
-/// The least height of each object that is reached and founded, and 0 for each other, where the reached objects keep rules
-/// 14 to 22, `marks` marks exactly them, and `childless` only objects that have no references. Keys are texts then, so the walk
-/// looks at the values alone.
+/// Returns the least height of each object that is reached and founded, and 0 for every other object. The reached
+/// objects must keep rules 14 to 22, `marks` must mark exactly them, and `childless` only objects without references.
+/// Their keys are texts then, so the walk needs to follow the values only.
 fn find_heights<P: Offsets>(
     alloc: Global,
     src: &mut P,
@@ -43,10 +43,11 @@ fn find_heights<P: Offsets>(
     Ok(least_heights(alloc, &mut objects, marks, childless)?)
 }
 
-/// What is known of the reached objects, which keep rules 14 to 20 and 31, and what they name as keys; or their first fault.
+/// Returns what is known about the reached objects, which all keep rules 14 to 20 and 31, and what they name as keys;
+/// or else the first fault by these rules.
 ///
-/// Where the walk meets trouble, passes over the objects in the order of their numbers come to that fault, over an honest
-/// source. As keys all objects are named then.
+/// If the quick walk meets a fault, slower passes in the order of the objects' numbers find which fault is the first.
+/// Over an honest source they always find one. If they do not, all objects count as named.
 fn find_reached<P: Offsets>(alloc: Global, src: &mut P) -> Result<(Reached, NamedKeys), Refusal>
     ensures reads { OnlyReads (refused_read result) (P.means src.old) (P.means src.new) }
     ensures fits { IfOk result (λ known. HasRoomFor (frame_in (P.means src.old)) known.0) }
@@ -82,8 +83,8 @@ fn find_reached<P: Offsets>(alloc: Global, src: &mut P) -> Result<(Reached, Name
     ))
 }
 
-/// Looks at the reached objects by rules 14 to 20 and 31, and where no more than a third of all objects are named as keys,
-/// at the keys too. The objects that are named where there are more.
+/// Checks the reached objects by rules 14 to 20 and 31. If at most a third of all objects are named as keys, checks the
+/// keys too. If more are, returns the named objects: the caller frees the table before it checks the keys.
 fn check_rules_by_table<P: Offsets>(
     alloc: Global,
     src: &mut P,
@@ -109,7 +110,7 @@ fn check_rules_by_table<P: Offsets>(
     Ok((reached, None))
 }
 
-/// What the linter says of a file whose reached objects keep rules 14 to 22 and 31.
+/// Returns the linter's answer for a file whose reached objects keep rules 14 to 22 and 31.
 fn heights_or_circle<P: Offsets>(
     alloc: Global,
     src: &mut P,
@@ -145,12 +146,11 @@ fn heights_or_circle<P: Offsets>(
     })
 }
 
-/// What the linter says of a file whose frame and places keep rules 1 to 13: it looks at the reached objects by rules 14 to 22
-/// and 31, first each by itself and then at the keys of each, and then for the heights or the circle.
+/// Returns the linter's answer for a file whose frame and places keep rules 1 to 13. First checks each reached object
+/// by itself, then the keys, and last finds the heights or the circle.
 ///
-/// What many keys take and the places would come to more than 12 bytes an object together. So the places are given up before
-/// many keys are looked at. They are given up too where more than a quarter of the objects may wait for others: these and the
-/// places would come to as much.
+/// Frees the table of places early if there are many keys, or if more than a quarter of the objects may wait for
+/// others. With the table these passes would take more than 12 bytes an object.
 fn lint_reached<P: Offsets>(
     alloc: Global,
     src: &mut P,
@@ -179,7 +179,7 @@ fn lint_reached<P: Offsets>(
     Ok(lint)
 }
 
-/// The kind of the top, where it keeps rules 14 to 17.
+/// Returns the kind of the top, if the top keeps rules 14 to 17.
 fn top_kind<P: Offsets>(src: &mut P) -> Result<Kind, Refusal>
     ensures reads { OnlyReads (refused_read result) (P.means src.old) (P.means src.new) }
     ensures exact { HonestlyIn (P.means src.old) (λ f F. (x : head) → HasShape f F F.top.0 x
@@ -190,7 +190,7 @@ fn top_kind<P: Offsets>(src: &mut P) -> Result<Kind, Refusal>
     Ok(head.kind)
 }
 
-/// The frame of a file and the places of its objects, or the first broken rule of 1 to 13.
+/// Returns the frame of a file and the places of its objects, or the first broken rule of 1 to 13.
 fn read_places<S: Source>(alloc: Global, src: &mut S) -> Result<(Frame, Vec<u32>), Refusal>
     ensures reads { OnlyReads (refused_read result) (S.means src.old) (S.means src.new) }
     ensures safe { IfOk result (λ known. IsSafeFrame (length (S.means src.old).octets) known.0) }
@@ -204,7 +204,7 @@ fn read_places<S: Source>(alloc: Global, src: &mut S) -> Result<(Frame, Vec<u32>
     Ok((frame, places))
 }
 
-/// What `lint` says, and beside a yes the kind of the top, which no caller has to read again.
+/// The same as `lint`, with the kind of the top, so that no caller has to read it again.
 pub fn lint_with_kind<S: Source>(alloc: Global, src: &mut S) -> Result<(Lint, Kind), LintRefusal>
     ensures reads { OnlyReads (lint_failed result) (S.means src.old) (S.means src.new) }
     ensures exact { IsTrue (S.means src.old).honest
@@ -218,14 +218,14 @@ pub fn lint_with_kind<S: Source>(alloc: Global, src: &mut S) -> Result<(Lint, Ki
     Ok((lint, kind))
 }
 
-/// Says whether the file holds a value: the least certificate for it, or the first fault of the file, and then no
-/// heights are valid for it.
+/// Decides whether a file holds a value. Returns the certificate of the least heights, or else the first fault of the
+/// file. After a fault or a circle no heights are valid for the file.
 ///
-/// Places of a fault count from the file's first byte. `Read` is answered where a read of the source failed, and
-/// `Memory` where a growth was refused. After a refusal the source is as it was, but for the count of its failures. Over
-/// a source that is not honest nothing is said of which answer comes.
+/// The place of a fault counts from the file's first byte. Errors other than a fault: `Read` if a read of the source
+/// failed; `Memory` if an allocation was refused. After an error the source is as before, except for its count of
+/// failures. Over a source that is not honest, any answer may come.
 ///
-/// The reads alternate between a few places: over a file put `Windows` around it.
+/// The reads alternate between a few places. To read a file, put `Windows` around it.
 pub fn lint<S: Source>(alloc: Global, src: &mut S) -> Result<Lint, LintRefusal>
     ensures reads { OnlyReads (lint_failed result) (S.means src.old) (S.means src.new) }
     ensures exact { IsTrue (S.means src.old).honest

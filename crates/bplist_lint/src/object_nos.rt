@@ -1,4 +1,4 @@
-//! Lists of objects.
+//! The list of objects in an answer.
 
 ghost use Rattle.std.specs.Prelude.{◌≡◌, List};
 ghost use Rattle.bplist_objects.specs.declared.frame.ObjectNo.{ObjectNo};
@@ -19,21 +19,21 @@ impl Model for ObjectNos {
 }
 
 impl ObjectNos {
-    /// The list of these objects.
+    /// Returns the list of these objects.
     pub fn new(numbers: Vec<ObjectNo>) -> ObjectNos
         ensures { result ≡ numbers.items }
     {
         ObjectNos { numbers }
     }
 
-    /// The objects, in their order.
+    /// Returns the objects, in their order.
     pub fn as_slice(&self) -> &[ObjectNo]
         ensures { result.now ≡ self.now }
     {
         self.numbers.as_slice()
     }
 
-    /// The Vec that the list was made from.
+    /// Returns the Vec that the list was made from.
     pub fn into_vec(self) -> Vec<ObjectNo>
         ensures { result.items ≡ self }
     {

@@ -1,4 +1,4 @@
-//! The places of all objects: rule 13 of them, and the heads that stand there.
+//! Checks the places of all objects, rule 13, and reads the head at a place.
 
 ghost use Rattle.std.specs.Prelude.{◌≡◌, ◌<◌, MatchResult, MatchOption, IfOk, IfSome, is_err, length};
 ghost use Rattle.bplist_lint.specs.Prelude.{OnlyReads, frame_in, HonestlyIn, HasShape, IsSafe, IsSafeHead, Head as head, AreBelowTable, IsOffsetFault};
@@ -7,7 +7,7 @@ use bplist_keys::{Offsets, object_shape};
 use bplist_objects::{Fault, Frame, Head, ObjectFault, ObjectNo, high_entry};
 use bplist_octets::ReadFault;
 
-/// Looks at the places of all objects by rule 13 OffsetHigh, in a file of `len` bytes.
+/// Checks all places by rule 13 OffsetHigh, in a file of `len` bytes.
 pub fn check_offsets(frame: &Frame, places: &[u32], len: u64) -> Result<(), Fault>
     requires safe { IsSafe len frame.now }
     requires all { length places.now ≡ frame.now.objects }
@@ -21,7 +21,7 @@ pub fn check_offsets(frame: &Frame, places: &[u32], len: u64) -> Result<(), Faul
     Ok(())
 }
 
-/// The head of object `n`, where it keeps rules 14 to 17.
+/// Returns the head of object `n`, if the object keeps rules 14 to 17.
 pub fn shape_there<P: Offsets>(src: &mut P, n: u32) -> Result<Option<Head>, ReadFault>
     requires { n < (frame_in (P.means src.old)).objects }
     ensures reads { OnlyReads (is_err result) (P.means src.old) (P.means src.new) }

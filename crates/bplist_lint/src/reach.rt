@@ -1,5 +1,5 @@
-//! Which objects the top reaches, in a file whose arrays may lie in one another: each place of a reference is followed
-//! once, however many arrays it lies in.
+//! Finds the objects that the top reaches, in a file whose arrays may overlap. The reference at each place is followed
+//! once, however many arrays it is part of.
 
 ghost use Rattle.std.specs.Prelude.{◌≡◌, ◌↔◌, ℕ, ◌+◌, ◌^◌, ◌≤◌, ◌<◌, true, false, not, IsTrue, IfOk, OnOk, is_err, replicate, count_by, vec_len};
 ghost use Rattle.bplist_lint.specs.Prelude.{OnlyReads, frame_in, HonestlyIn, content_at, refs, Reach, IsSafeHead, ref_count, AreBelow, failed_to_read, IsMarked, HasMarks, place_index, index_count, IsReady, AreGood, AreFollowed, Looked, Searching};
@@ -12,31 +12,31 @@ use bplist_objects::{Framed, Head, ref_at, refs_of};
 use bplist_octets::ReadFault;
 use std::alloc::{AllocError, Global};
 
-/// Marks on the objects of a file, one for each.
+/// Marks on the objects of a file.
 #[derive(Drop)]
 pub struct Marked {
-    /// Exactly the reached objects are marked.
+    /// The mark of each object. Exactly the reached objects are marked.
     pub marks: Vec<bool>,
-    /// Those of them that are known to have no references: none.
+    /// Marks on objects known to have no references. This search knows none.
     pub childless: Vec<bool>,
-    /// All objects: any of them may be named as a key.
+    /// All objects, because any of them may be named as a key.
     pub named: NamedKeys,
 }
 
-/// The objects that are known to be reached, and what was looked at to find them.
+/// The progress of the search: the objects reached so far, and the places looked at.
 #[derive(Drop)]
 struct Search {
     marks: Vec<bool>,
     /// Marked objects whose references are still to be followed.
     stack: Vec<u32>,
-    /// The numbers of places at which references to objects are known to stand.
+    /// Places known to have a reference to an object, by their numbers.
     good: BitSet,
-    /// The numbers of the places whose references were followed.
+    /// Places whose reference was followed, by their numbers.
     followed: BitSet,
 }
 
 impl Search {
-    /// The search in which the top alone was found.
+    /// Starts the search with the top.
     fn from_top<P: Framed>(alloc: Global, src: &P) -> Result<Search, AllocError>
         requires { (frame_in (P.means src.now)).table < 2 ^ 32 }
         ensures ready { IfOk result (IsReady (frame_in (P.means src.now))) }
@@ -59,7 +59,8 @@ impl Search {
     }
 }
 
-/// The number of a place: those of references that stand one behind the other follow one another.
+/// Returns the number of a place. Places one reference size apart have consecutive numbers, so that the references of
+/// an array are a range.
 fn place_index<P: Framed>(src: &P, place: u64) -> u64
     requires small { (frame_in (P.means src.now)).table < 2 ^ 32 }
     requires within { place ≤ (frame_in (P.means src.now)).table }
@@ -71,8 +72,8 @@ fn place_index<P: Framed>(src: &P, place: u64) -> u64
     place % size * row_length + place / size
 }
 
-/// Whether each reference of an object with this head is the number of an object. Places at which one stands are put
-/// into the set.
+/// Returns whether each reference of an object with this head is the number of an object. Adds the places that are good
+/// to `good`.
 fn are_good<P: Framed>(src: &mut P, head: &Head, good: &mut BitSet) -> Result<bool, ReadFault>
     requires small { (frame_in (P.means src.old)).table < 2 ^ 32 }
     requires head { IsSafeHead (frame_in (P.means src.old)) head.now }
@@ -99,8 +100,8 @@ fn are_good<P: Framed>(src: &mut P, head: &Head, good: &mut BitSet) -> Result<bo
     Ok(true)
 }
 
-/// Follows the references of an object with this head, each of which is the number of an object, at places where none
-/// was followed: marks each, and puts it on the stack where it was not marked.
+/// Follows those references of an object with this head that were not followed yet: marks each object, and puts it on
+/// the stack if it was not marked. All these references must be numbers of objects.
 fn follow<P: Framed>(src: &mut P, head: &Head, search: &mut Search) -> Result<(), Failure>
     requires small { (frame_in (P.means src.old)).table < 2 ^ 32 }
     requires head { IsSafeHead (frame_in (P.means src.old)) head.now }

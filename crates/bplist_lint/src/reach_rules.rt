@@ -1,4 +1,4 @@
-//! The first fault of the reached objects by rules 14 to 20 and 31.
+//! Finds the first fault of the reached objects by rules 14 to 20 and 31.
 
 ghost use Rattle.std.specs.Prelude.{◌≡◌, ℕ, ◌+◌, ◌<◌, ◌↔◌, Bool, IfOk, List, length};
 ghost use Rattle.bplist_lint.specs.Prelude.{OnlyReads, frame_in, HonestlyIn, Reach, Gives, read_failed, IsMarked, IsReachedFault, Tallied, IsRoomy, reach_rules};
@@ -7,7 +7,7 @@ use crate::tally::Tally;
 use bplist_keys::Offsets;
 use bplist_objects::{Fault, ObjectFault, ObjectNo, Rule, head_in};
 
-/// Looks at reached object `n`, and adds it to the tally of those before it.
+/// Checks reached object `n`, and adds it to the tally.
 fn check_reached_object<P: Offsets>(src: &mut P, n: u32, tally: Tally) -> Result<Tally, ObjectFault>
     requires within { n < (frame_in (P.means src.old)).objects }
     requires roomy { IsRoomy (frame_in (P.means src.old)) tally }
@@ -29,7 +29,7 @@ fn check_reached_object<P: Offsets>(src: &mut P, n: u32, tally: Tally) -> Result
     }
 }
 
-/// Looks at each marked object, in the order of their numbers, where exactly the reached objects are marked.
+/// Checks each marked object, in the order of their numbers. Exactly the reached objects must be marked.
 pub fn check_reached<P: Offsets>(src: &mut P, marks: &[bool]) -> Result<Tally, ObjectFault>
     requires { length marks.now ≡ (frame_in (P.means src.old)).objects }
     ensures reads { OnlyReads (read_failed result) (P.means src.old) (P.means src.new) }

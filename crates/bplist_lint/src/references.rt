@@ -1,4 +1,4 @@
-//! References between objects, as the walks read them.
+//! A graph of references, as the walks for heights and circles read it.
 
 ghost use Rattle.std.specs.Prelude.{◌≡◌, ◌+◌, ◌^◌, ◌<◌, ◌≤◌, IsTrue, IfOk, is_err, length};
 ghost use Rattle.bplist_octets.specs.Meaning.{Meaning, OnlyReads};
@@ -6,7 +6,7 @@ ghost use Rattle.bplist_lint.specs.Graph.{Graph, IsWhole, AreObjects, IsPart};
 
 use bplist_octets::ReadFault;
 
-/// How many references are read at once at most.
+/// The most references that are read at once.
 pub(crate) const BLOCK: usize = 32;
 
 /// Objects with numbers, each with a list of references to objects.
@@ -17,8 +17,9 @@ pub trait References {
     /// What the references are read from.
     ghost means: { Self → Meaning };
 
-    /// Reads references of object `n` in written order, from number `i` on: as many as there are, or as `block` has room for,
-    /// at most 32. How many they are. Over any source they are numbers of objects.
+    /// Reads references of object `n` in written order, from number `i` on, into the front of `block`: all that there
+    /// are, or as many as `block` has room for, at most 32. Returns how many. Over any source, honest or not, they are
+    /// numbers of objects.
     fn read(&mut self, n: u32, i: u64, block: &mut [u32]) -> Result<usize, ReadFault>
         requires n_in { n < (graph self.old).size }
         requires few { length block.old ≤ 32 }

@@ -1,4 +1,4 @@
-//! Why the linter says no.
+//! The linter's no: why a file has no certificate.
 
 ghost use Rattle.std.specs.Prelude.{◌≡◌};
 ghost use Rattle.bplist_cert.specs.declared.refusal.Refusal.TheVariants as cert;
@@ -9,16 +9,17 @@ use bplist_cert::Refusal;
 use bplist_objects::Fault;
 use bplist_octets::ReadFault;
 
-/// Why the linter gives no certificate.
+/// Why the linter returns no certificate.
 #[derive(Debug, Drop)]
 pub enum LintRefusal {
-    /// The first fault of the file, where it is a broken rule other than 23 Circle.
+    /// The first fault of the file, if it is a broken rule other than 23 Circle.
     Fault(Fault),
-    /// The first fault of the file, where it is a circle of references: its objects, from the one that is met twice on.
+    /// The first fault of the file, if it is a circle of references: the objects of the circle, each once, beginning
+    /// with the one that the walk from the top met twice.
     Circle(ObjectNos),
-    /// A read failed.
+    /// A read of the source failed.
     Read(ReadFault),
-    /// A growth was refused.
+    /// An allocation was refused.
     Memory,
 }
 

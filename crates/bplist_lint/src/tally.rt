@@ -1,23 +1,23 @@
-//! What reached objects come to together.
+//! Counts the reached objects, their bytes and their references.
 
 ghost use Rattle.std.specs.Prelude.{◌≡◌, ◌+◌, ◌-◌, ◌≤◌, ◌<◌, IfSome, MatchOption};
 ghost use Rattle.bplist_lint.specs.Prelude.{IsSafeHead, ref_count, IsRoomy};
 
 use bplist_objects::{Frame, Head, refs_of};
 
-/// What reached objects come to together.
+/// Sums over the reached objects seen so far.
 #[derive(Clone, Copy, Debug, PartialEq, Eq, Drop)]
 pub struct Tally {
-    /// How many they are.
+    /// The number of objects.
     pub reached: u64,
-    /// How many bytes they take.
+    /// The bytes that they take.
     pub used: u64,
-    /// How many references they have.
+    /// The number of their references.
     pub references: u64,
 }
 
 impl Tally {
-    /// The tally of no objects.
+    /// Returns the tally of no objects.
     pub fn new() -> Tally
         ensures { result ≡ record { reached = 0; used = 0; references = 0 } }
     {
@@ -28,7 +28,8 @@ impl Tally {
         }
     }
 
-    /// The tally with one object more, which stands at `place` and has this head, where there is room for it.
+    /// Returns the tally with one more object, which is at `place` and has this head. Returns None if there is no room
+    /// for the object (rule 31).
     #[inline(always)]
     pub fn with(self, frame: &Frame, place: u64, head: &Head) -> Option<Tally>
         requires low { 1 ≤ frame.now.ref_size }

@@ -13,11 +13,11 @@ use std::alloc::{AllocError, AllocFailed};
 /// Why a certificate of a checked file is not upgraded.
 #[derive(Clone, Copy, Debug, PartialEq, Eq, Drop)]
 pub enum UpgradeFault {
-    /// A read failed.
+    /// A read of the source failed.
     Read(ReadFault),
     /// The source gives other bytes than when it was checked.
     Changed,
-    /// A growth was refused.
+    /// An allocation was refused.
     Memory,
 }
 

@@ -1,4 +1,4 @@
-//! Certificates of version 2, from those of a checked file.
+//! Makes a certificate of version 2 from a checked file.
 
 ghost use Rattle.std.specs.Prelude.{◌≡◌, ◌+◌, ◌≤◌, ◌<◌, ℕ, Bool, List, set, length, IsTrue, IfOk, vec_len};
 ghost use Rattle.bplist_lint.specs.Prelude.{OnlyReads, frame_in, HonestlyIn, AreRanks, IsVouchedBy, IsValid, HasNamedKeys, Listed, IsUpgraded, Upgrades, upgrade_failed};
@@ -12,8 +12,8 @@ use bplist_objects::{Framed, Kind};
 use bplist_octets::Source;
 use std::alloc::Global;
 
-/// Puts the key list of vouched object `n` behind those before it, where it is a dictionary. The start of the list, 0 for
-/// any other object.
+/// Appends the key list of vouched object `n`, if it is a dictionary. Returns the start of the list, or 0 for any other
+/// object.
 fn list_object<P: Offsets>(src: &mut P, n: u32, lists: &mut KeySorting) -> Result<u32, UpgradeFault>
     requires within { n < (frame_in (P.means src.old)).objects }
     requires few { vec_len lists.old.positions ≤ 4294967295 }
@@ -42,8 +42,7 @@ fn list_object<P: Offsets>(src: &mut P, n: u32, lists: &mut KeySorting) -> Resul
     }
 }
 
-/// The key lists of the vouched dictionaries, which are those with a height above 0, one behind the other in the order of
-/// the objects.
+/// Returns the key lists of the vouched dictionaries, one after the other in the order of the objects.
 fn list_vouched<P: Offsets>(
     alloc: Global,
     src: &mut P,
@@ -69,13 +68,13 @@ fn list_vouched<P: Offsets>(
     Ok(KeyLists { starts, positions })
 }
 
-/// The certificate of version 2 of a checked file: its heights, and the key lists of the vouched dictionaries one behind
-/// the other in the order of the objects. The start of each list, an empty one too, is the number of positions before
-/// it; all other starts are 0. Where the source is honest, `check` accepts it.
+/// Returns a certificate of version 2 for a checked file: its heights, and the key lists of the vouched dictionaries,
+/// one after the other in the order of the objects. The start of a list, even of an empty one, is the number of
+/// positions before it. All other starts are 0. If the source is honest, `check` accepts the certificate.
 ///
-/// `Read` is answered where a read of the source failed, and `Memory` where a growth was refused. `Changed` says that the
-/// source gives other bytes than when it was checked, which an honest one never does. The checked file stays as it was,
-/// but for the count of failures.
+/// Errors: `Read` if a read of the source failed; `Memory` if an allocation was refused; `Changed` if the source gives
+/// other bytes than when it was checked, which an honest one never does. The checked file stays as it was, except for
+/// its source's count of failures.
 pub fn upgrade<S: Source>(
     alloc: Global,
     checked: &mut Checked<S>,

@@ -1,4 +1,4 @@
-//! One walk over the reached objects, for files in which none of them breaks a rule and all have room.
+//! Checks all reached objects in one quick walk, which succeeds if none of them breaks a rule and all have room.
 
 ghost use Rattle.std.specs.Prelude.{◌≡◌, ◌≢◌, ◌↔◌, ℕ, ◌+◌, ◌≤◌, ◌<◌, [], ◌∷◌, ◌++◌, not, IsTrue, false, IfOk, IfSome, OnOk, count_by, length, slice_index, vec_len};
 ghost use Rattle.bplist_lint.specs.Prelude.{OnlyReads, ObjectFault as object_fault, frame_in, HonestlyIn, content_at, refs, IsSafeHead, ref_count, AreBelow, ref, Dict, failed_to_read, IsMarked, IsRoomy, IsSteady, IsSteadyWalk, Noted, IsWalking, HasRoomFor, IsWalked, AreNamed, of_object, stop_failed, Read as is_read};
@@ -12,14 +12,14 @@ use bplist_objects::{
 use bplist_octets::ReadFault;
 use std::alloc::{AllocError, AllocFailed, Global};
 
-/// Why the walk ended before all reached objects were visited.
+/// Why the walk ended before it had visited all reached objects.
 #[derive(Clone, Copy, Debug, PartialEq, Eq, Drop)]
 pub enum Stop {
     /// An object breaks a rule, or there is no room for it.
     Trouble,
-    /// A read failed.
+    /// A read of the source failed.
     Read(ReadFault),
-    /// Memory was refused.
+    /// An allocation was refused.
     Memory,
 }
 
@@ -58,42 +58,43 @@ impl From<AllocError> for Stop {
     }
 }
 
-/// The objects that are known to be reached, and which of them are still to be visited.
+/// Which objects are known to be reached, and which of them are still to be visited.
 #[derive(Drop)]
 pub struct Worklist {
-    /// Those that are known to be reached.
+    /// The mark of each object: whether it is known to be reached.
     marks: Vec<bool>,
-    /// Those of them up to `current` that are still to be visited.
+    /// Marked objects up to `current` that are still to be visited.
     stack: Vec<u32>,
-    /// All marked ones above this object are still to be visited, in the order of their numbers.
+    /// The object that the walk is at. Every marked object above it is still to be visited, in the order of the
+    /// numbers.
     current: u32,
 }
 
-/// What the walk knows of the objects.
+/// What the walk knows about the objects so far.
 #[derive(Drop)]
 struct Progress {
     worklist: Worklist,
-    /// Visited objects that have no references.
+    /// Marks on visited objects that have no references.
     childless: Vec<bool>,
     /// What visited dictionaries name as keys.
     named: NamedKeys,
-    /// What the visited objects come to.
+    /// The sums over the visited objects.
     tally: Tally,
 }
 
-/// What a whole walk knows of the reached objects.
+/// What a finished walk knows about the reached objects.
 #[derive(Drop)]
 pub struct Reached {
-    /// Exactly the reached objects are marked.
+    /// The mark of each object. Exactly the reached objects are marked.
     pub marks: Vec<bool>,
-    /// Marked objects have no references.
+    /// Marks on objects that have no references. Not every such object need be marked.
     pub childless: Vec<bool>,
-    /// What the reached objects come to.
+    /// The sums over the reached objects.
     pub tally: Tally,
 }
 
 impl Reached {
-    /// How many objects may have references: those of which it is not known that they have none.
+    /// Returns how many objects may have references, which is all that are not marked in `childless`.
     pub fn containers(&self) -> usize
         ensures { result ≡ count_by not self.now.childless.items }
     {
@@ -104,11 +105,11 @@ impl Reached {
     }
 }
 
-/// How many references are read at once.
+/// The most references that are read at once.
 const BLOCK: usize = 32;
 
-/// Marks the objects with these numbers, of so many objects. One that was not marked and that the walk does not come to
-/// later goes onto the stack.
+/// Marks the objects with these numbers. Puts an object on the stack if it was not marked before and the walk does not
+/// come to it later.
 fn mark_block(objects: u32, numbers: &[u64], worklist: &mut Worklist) -> Result<(), Stop>
     requires steady { IsSteady objects worklist.old }
     ensures steady { OnOk result (IsSteady objects worklist.new) }
@@ -135,7 +136,7 @@ fn mark_block(objects: u32, numbers: &[u64], worklist: &mut Worklist) -> Result<
     Ok(())
 }
 
-/// How many of so many references from number `done` on of an object with this head are to keys.
+/// Returns how many of `references` references, from number `done` on, are to keys.
 fn keys_among(head: &Head, done: u64, references: usize) -> usize
     ensures few { result ≤ references }
     ensures keys { head.now.kind ≡ Dict → (k : ℕ) → k < references → (k < result) ↔ (done + k < head.now.count) }
@@ -147,7 +148,7 @@ fn keys_among(head: &Head, done: u64, references: usize) -> usize
     }
 }
 
-/// Marks the references of an object with this head, block by block, and names those to keys.
+/// Marks the objects that an object with this head refers to, block by block, and names its keys.
 fn mark_body<P: Framed>(
     src: &mut P,
     head: &Head,
@@ -185,7 +186,7 @@ fn mark_body<P: Framed>(
     Ok(())
 }
 
-/// Looks at reached object `n`, marks its references and names its keys.
+/// Checks reached object `n`, marks the objects that it refers to and names its keys.
 #[inline(always)]
 fn visit<P: Offsets>(src: &mut P, n: u32, progress: &mut Progress) -> Result<(), Stop>
     requires within { n < (frame_in (P.means src.old)).objects }
@@ -215,7 +216,7 @@ fn visit<P: Offsets>(src: &mut P, n: u32, progress: &mut Progress) -> Result<(),
     }
 }
 
-/// Visits marked object `n` and all that it leads to by references to objects that are not above it.
+/// Visits marked object `n` and all that it leads to through objects that are not above it.
 fn visit_from<P: Offsets>(src: &mut P, n: u32, progress: &mut Progress) -> Result<(), Stop>
     requires within { n < (frame_in (P.means src.old)).objects }
     requires steady { IsSteadyWalk (frame_in (P.means src.old)) progress.old }
@@ -234,7 +235,7 @@ fn visit_from<P: Offsets>(src: &mut P, n: u32, progress: &mut Progress) -> Resul
     Ok(())
 }
 
-/// Visits all reached objects: the top is marked first, and those that are marked are visited in the order of their numbers.
+/// Visits all reached objects: marks the top, then visits the marked objects in the order of their numbers.
 fn visit_all<P: Offsets>(alloc: Global, src: &mut P) -> Result<Progress, Stop>
     ensures reads { OnlyReads (stop_failed result) (P.means src.old) (P.means src.new) }
     ensures steady { IfOk result (IsSteadyWalk (frame_in (P.means src.old))) }
@@ -247,7 +248,7 @@ fn visit_all<P: Offsets>(alloc: Global, src: &mut P) -> Result<Progress, Stop>
     let mut progress = Progress {
         worklist: Worklist {
             marks,
-            // A Vec that grows holds more than its items.
+            // Reserved once, because a Vec that grows holds more than its items.
             stack: Vec::with_capacity(alloc, frame.objects as usize)?,
             current: 0,
         },
@@ -263,8 +264,9 @@ fn visit_all<P: Offsets>(alloc: Global, src: &mut P) -> Result<Progress, Stop>
     Ok(progress)
 }
 
-/// Visits each reached object once, and says what is known of them: all keep rules 14 to 20 and 31. Beside that the objects
-/// that they name as keys. Where one of them breaks a rule there is no answer, and nothing is said of the others.
+/// Visits each reached object once. Returns what is known about the reached objects, all of which keep rules 14 to 20
+/// and 31, and what they name as keys. Returns None if one of them breaks a rule; then nothing is known about the
+/// others.
 pub fn walk<P: Offsets>(alloc: Global, src: &mut P) -> Result<Option<(Reached, NamedKeys)>, Failure>
     ensures reads { OnlyReads (failed_to_read result) (P.means src.old) (P.means src.new) }
     ensures fits { IfOk result (λ found. IfSome found (λ known. HasRoomFor (frame_in (P.means src.old)) known.0)) }

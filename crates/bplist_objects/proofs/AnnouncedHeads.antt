@@ -1,4 +1,4 @@
--- What marker and count announce at a place is a front that stands there, and the other way around; how many bytes they take.
+-- What marker and count announce at a place is a front there, and the other way around; how many bytes they take.
 use Rattle.std.proofs.Common.{◌≡◌, ℕ, suc, ◌<◌, ◌≤◌, ◌+◌, ◌-◌, ◌*◌, ◌^◌, inl, inr, List, [], ◌∷◌, ◌++◌, length, slice_index, take, drop, refl, sym, ap, ap₂, ◌∙◌, subst, arith, length-drop, take-append-drop, get_or-drop, pow_mono}
 use Rattle.std.proofs.Math.Seq.{drop-cons, take-append_seam}
 use Rattle.std.proofs.lemmas.List.{length-take-le, drop-drop}
@@ -66,7 +66,7 @@ first_byte f p m front l rest e i =
 end_of : (p : ℕ) (m : ℕ) (front : List ℕ) → front ≡ m ∷ [] → p + length front ≡ p + 1
 end_of p m front i = ap (λ x. p + length x) i
 
--- a front that is a marker alone
+-- a front that is only a marker
 from_byte : (f : List ℕ) (p low high : ℕ) (says : ℕ → ℕ) (count m : ℕ) (front rest : List ℕ) → drop p f ≡ front ++ rest → front ≡ m ∷ [] → low ≤ m → m ≤ high → count ≡ says m
     → AnnouncesAs f p (plain low high says) count (p + length front)
 from_byte f p low high says count m front rest e i l h c =
@@ -97,7 +97,7 @@ rest_announced f p kinds.Array count front rest e i = uncounted f p 10 count fro
 rest_announced f p kinds.Set count front rest e i = uncounted f p 12 count front rest e i
 rest_announced f p kinds.Dict count front rest e i = uncounted f p 13 count front rest e i
 
--- ---- the same by the part where the front stands
+-- ---- the same by the part that the front is
 -- a front of this kind and count at this place, up to the body
 abbrev pub IsFrontAt : List ℕ → ℕ → Kind → ℕ → ℕ → Type 0
 IsFrontAt f p kind count body = (front : List ℕ) × (part f p (length front) ≡ front) × IsFront kind count front × (body ≡ p + length front)

@@ -1,4 +1,4 @@
--- What safe frames and heads bound: places of references, counts, and how many references there are.
+-- The bounds that safe frames and heads give: places of references, counts, and numbers of references.
 use Rattle.std.proofs.Common.{◌≡◌, ℕ, ◌<◌, ◌≤◌, ◌+◌, ◌*◌, ◌^◌, List, length, slice_index, ap, ◌∙◌, arith}
 use Rattle.std.proofs.Math.Nat.{mul-le-mul_left, mul-le-mul_right, mul_assoc, mul_comm}
 use Rattle.bplist_objects.specs.declared.frame.Frame.{Frame}
@@ -45,14 +45,14 @@ module _ (F : Frame) (head : Head) (safe : IsSafeHead F head) (low : 1 ≤ F.ref
   pub refs_below : head.body + ref_count head.kind head.count ≤ F.table
   refs_below = omega (arith, (refs_fit F.ref_size head.count head.kind low).1, safe.body, safe.table)
 
--- references lie in the body
+-- references are in the body
 refs_inside : (r count : ℕ) (kind : Kind) → ref_count kind count * r ≤ count * item_size r kind
 refs_inside r c kinds.Array = omega arith
 refs_inside r c kinds.Set = omega arith
 refs_inside r c kinds.Dict = let turned : (2 * c) * r ≡ c * (2 * r) = ap (λ x. x * r) (mul_comm 2 c) ∙ mul_assoc c 2 r in omega (arith, turned)
 refs_inside r c _ = omega arith
 
--- a reference lies before the table
+-- a reference is before the table
 pub place_fits : (F : Frame) (head : Head) → IsSafeHead F head → (i : ℕ) → i < ref_count head.kind head.count → head.body + (i + 1) * F.ref_size ≤ F.table
 place_fits F head safe i l =
     let below : (i + 1) * F.ref_size ≤ ref_count head.kind head.count * F.ref_size = mul-le-mul_right F.ref_size (omega (arith, l)) in

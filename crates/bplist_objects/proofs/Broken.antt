@@ -16,7 +16,7 @@ kept_or_broken f F n rules.RefHigh place k (head, i, has, first, p) =
     first.2 (λ j l. k head has j (omega (arith, l, first.0)))
 kept_or_broken f F n _ place k b = b.0 k
 
--- where all rules are kept no fault is the first
+-- if all rules are kept, there is no first fault
 pub no_first_fault : (keeps : Rule → Type 0) (breaks : Rule → Option ObjectNo → ℕ → Type 0) → ((rule : Rule) (object : Option ObjectNo) (place : ℕ) → keeps rule → breaks rule object place → ⊥) → (rules : List Rule) (fault : Fault) → KeepsAll keeps rules → IsFirstFault keeps breaks rules fault → ⊥
 no_first_fault keeps breaks never [] fault kept h = h
 no_first_fault keeps breaks never (rule ∷ rules) fault kept (inl h) = never rule fault.object fault.place kept.0 h.1

@@ -25,17 +25,17 @@ module _ (f : List ℕ) (F : Frame) where
       let s = ap (λ (x : Head). x.end) (one_shape f F n h.0 h'.0 h.1 h'.1) in
       omega (arith, h.2, h'.2, s)
 
-  -- an object with a head takes what lies between its place and the head's end
+  -- an object with a head takes the bytes between its place and the head's end
   pub shape_extent : (n : ℕ) (head : Head) → HasShape f F n head → HasExtent n (head.«end» - off f F n)
   shape_extent n head h =
       let parts = head_parts f F n head h.has in
       (head, h, omega (arith, (announced_short f (off f F n) (markers_of head.kind) head.count head.body parts.0).0, parts.1))
 
-  -- fewer objects have room too
+  -- a part of the objects has room too
   pub room_weaker : (S T : ℕ → Type 0) → ((n : ℕ) → T n → S n) → HaveRoom f F S → HaveRoom f F T
   room_weaker S T h room ns r d a t = room ns r d (all_weaker T S h ns a) t
 
-  -- what is left of a list of objects of S up to n without n
+  -- a list of objects of S up to n, without n
   record Left (S : ℕ → Type 0) (n e : ℕ) (ns : List ℕ) (t : ℕ) : Type 0 where
     rest : List ℕ
     sum : ℕ

@@ -1,4 +1,4 @@
--- A rule that is kept is not broken, a first fault is one, and where there is one the definitions say no.
+-- A kept rule is not broken, there is only one first fault, and if there is one the definitions do not hold.
 use Rattle.std.proofs.Common.{◌≡◌, ℕ, ◌<◌, ◌+◌, ◌*◌, inl, inr, List, [], ◌∷◌, slice_index, Option, Some, sym, ap, ◌∙◌, subst, arith}
 use Rattle.bplist_objects.specs.declared.rule.Rule.{Rule}
 use Rattle.bplist_objects.specs.declared.rule.Rule.TheVariants as rules
@@ -25,21 +25,21 @@ frame_kept_or_broken f rules.Magic object place k b = b.0.2 (λ i l. k i (omega 
 frame_kept_or_broken f rules.OffsetHigh object place k b = b.1.2 (λ n l. k n (omega (arith, l, b.1.0)))
 frame_kept_or_broken f _ object place k b = b.0 k
 
--- where a rule of 1 to 13 is broken there is no frame
+-- if one of rules 1 to 13 is broken, there is no frame
 pub no_frame : (f : List ℕ) (F : Frame) (fault : Fault) → IsFrameFault f fault → IsFrame f F → ⊥
 no_frame f F fault h frame = no_first_fault (Keeps f) (Breaks f) (frame_kept_or_broken f) frame_rules fault frame.kept h
 
 -- ---- rules 14 to 20
 module _ (f : List ℕ) (F : Frame) (n : ℕ) where
-  -- where a rule of 14 to 17 is broken there is no head
+  -- if one of rules 14 to 17 is broken, there is no head
   pub no_shape : (fault : Fault) (head : Head) → IsObjectFault f F n shape_rules fault → HasShape f F n head → ⊥
   no_shape fault head h shape = no_object_fault f F n shape_rules fault (shape_keeps f F n head shape) h
 
-  -- where a rule of 14 to 20 is broken nothing is spelled
+  -- if one of rules 14 to 20 is broken, nothing is spelled
   pub no_content : IsFrame f F → n < F.objects → (fault : Fault) (c : Content) → IsObjectFault f F n object_rules fault → Spells f F n c → ⊥
   no_content frame lt fault c h s = no_object_fault f F n object_rules fault (spells_keeps f F n c s) h
 
--- ---- a first fault is one
+-- ---- there is only one first fault
 abbrev OnePlace : (Rule → Option ObjectNo → ℕ → Type 0) → Type 0
 OnePlace breaks = (rule : Rule) (o o' : Option ObjectNo) (p p' : ℕ) → breaks rule o p → breaks rule o' p' → (o ≡ o') × (p ≡ p')
 
@@ -71,7 +71,7 @@ pub one_frame_fault : (f : List ℕ) (a b : Fault) → IsFrameFault f a → IsFr
 one_frame_fault f = one_first_fault (Keeps f) (Breaks f) (frame_kept_or_broken f) (one_frame_place f) frame_rules
 
 module _ (f : List ℕ) (F : Frame) (n : ℕ) where
-  -- the first number that is not below a bound is one
+  -- there is only one first number that is not below a bound
   one_not_below : (head other : Head) (width : ℕ) (count : Head → ℕ) (bound i j : ℕ) → head ≡ other
       → IsFirstNotBelow f head.body width (count head) bound i → IsFirstNotBelow f other.body width (count other) bound j → head.body + i * width ≡ other.body + j * width
   one_not_below head other width count bound i j e a b =

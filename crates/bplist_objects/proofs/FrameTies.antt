@@ -40,12 +40,12 @@ numbered {f} {F} frame = subst (Numbered f) (sym frame.spelled) (of frame.kept)
       offsets = offsets;
     }
 
--- where all rules are kept the trailer is the frame
+-- if all rules are kept, the trailer is the frame
 pub trailer_is_frame : (f : List ℕ) → KeepsAll (Keeps f) frame_rules → IsFrame f (trailer f)
 trailer_is_frame f kept = record { spelled = refl; kept = kept }
 
 -- ---- the rules before that of the entries, and then that of the entries
--- what `trailer_of` answers
+-- what `trailer_of` returns
 abbrev pub IsTrailer : List ℕ → Frame → Type 0
 IsTrailer f F = (F ≡ trailer f) × KeepsAll (Keeps f) trailer_rules
 
@@ -56,7 +56,7 @@ IsTrailerFault f fault = IsFirstFault (Keeps f) (Breaks f) trailer_rules fault
 abbrev pub AreEntriesLow : List ℕ → Frame → Type 0
 AreEntriesLow f F = AreBelow f F.table F.offset_size F.objects F.table
 
--- the first that is not is this object's, at this place
+-- the first entry that is not is this object's, at this place
 abbrev pub IsEntryFault : List ℕ → Frame → Option ObjectNo → ℕ → Type 0
 IsEntryFault f F object place =
     (n : ℕ) × IsFirstNotBelow f F.table F.offset_size F.objects F.table n × (object ≡ Some (record { 0 = n }))

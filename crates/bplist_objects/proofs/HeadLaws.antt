@@ -1,4 +1,5 @@
--- Laws of heads: what marker and count announce is what is found there, and so at one place at most one head is announced.
+-- Laws of heads: what marker and count announce is what is found there, and so an object has at most one announced
+-- head.
 use Rattle.std.proofs.Common.{◌≡◌, ℕ, ◌+◌, ◌-◌, ◌*◌, ◌^◌, ◌<◌, ◌≤◌, Bool, true, false, ◌&&◌, nat_le, nat_eq, if◌then◌else◌, List, [], ◌∷◌, length, slice_index, Option, Some, None, IsSome, find, sym, ap, ap₂, ◌∙◌, arith, drop, length-drop, refl, inl, inr, subst}
 use Rattle.std.proofs.lemmas.Bool.Decides.{nat_tests}
 use Rattle.std.proofs.lemmas.Bool.{cases_eq, false≢true}
@@ -31,7 +32,7 @@ find_passes test (y ∷ ys) x e = go (test y) refl e (find_passes test ys x)
     go true s r more = subst (λ z. test z ≡ true) (same_Some y x r) s
     go false s r more = more r
 
--- what a test of a form says
+-- what a test of a form means
 of_markers : (form : Markers) (m : ℕ) → is_marker_of form m ≡ true → (least_marker form ≤ m) × (m ≤ greatest_marker form)
 of_markers (plain low high says) m t = grind (arith, nat_tests)
 of_markers (counted high) m t = grind (arith, nat_tests)
@@ -57,7 +58,7 @@ pub marked_kind : (m : ℕ) (kind : Kind) → kind_at m ≡ Some kind → Marks 
 unfolding kind_at
 marked_kind m kind e = of_markers (markers_of kind) m (find_passes (λ k. is_marker_of (markers_of k) m) all_kinds kind e)
 
--- a byte is a marker exactly where it is one of a kind
+-- a byte is a marker if and only if it is a marker of some kind
 same_byte : (m b : ℕ) (rest l : List ℕ) → m ∷ rest ≡ b ∷ l → m ≡ b
 same_byte m b rest l e = ap (λ x. slice_index x 0) e
 
@@ -83,7 +84,7 @@ front_marks kinds.Dict count m rest i = count_marks 13 count m rest i
 pub marker_marks : (m : ℕ) → IsMarker m → (kind : Kind) × Marks m kind
 marker_marks m (kind, count, rest, i) = (kind, front_marks kind count m rest i)
 
--- some count is said by each marker
+-- each marker gives some count
 alone : {m n : ℕ} → m ≡ n → m ∷ [] ≡ n ∷ []
 alone e = ap (λ x. x ∷ []) e
 
@@ -109,12 +110,12 @@ marks_marker m kinds.Array marks = let c = counts_marker 10 m marks in (kinds.Ar
 marks_marker m kinds.Set marks = let c = counts_marker 12 m marks in (kinds.Set, c.0, c.1, c.2)
 marks_marker m kinds.Dict marks = let c = counts_marker 13 m marks in (kinds.Dict, c.0, c.1, c.2)
 
--- a marker whose count follows may say any
+-- a marker whose count follows may give any count
 any_count : (high count : ℕ) → IsCount high count ((16 * high + 15) ∷ 16 ∷ count ∷ [])
 unfolding num
 any_count high count = inr (0, count ∷ [], omega arith, refl, omega arith, refl)
 
--- what the markers of a kind say, it may count
+-- a kind may have each count that its markers give
 pub may_count : (kind : Kind) (count : ℕ) → MarkersCount (markers_of kind) count → MayCount kind count
 may_count kinds.Null count (m, low, high, c) = (0 ∷ [], (c, refl))
 may_count kinds.False count (m, low, high, c) = (8 ∷ [], (c, refl))
@@ -130,7 +131,7 @@ may_count kinds.Array count u = (_, any_count 10 count)
 may_count kinds.Set count u = (_, any_count 12 count)
 may_count kinds.Dict count u = (_, any_count 13 count)
 
--- and any, where they can say that the count follows
+-- and any count, if they can say that the count follows
 pub may_count_long : (kind : Kind) (count : ℕ) → is_counted (markers_of kind) ≡ true → MayCount kind count
 may_count_long kind count e = may_count kind count (go (markers_of kind) e)
   where
@@ -142,7 +143,7 @@ may_count_long kind count e = may_count kind count (go (markers_of kind) e)
 pub uid_count : (kind : Kind) (count : ℕ) → kind ≡ kinds.Uid → MayCount kind count → (1 ≤ count) × (count ≤ 16)
 uid_count kind count e may = let m = subst (λ k. MayCount k count) e may in (omega (arith, m.1.2), omega (arith, m.1.1, m.1.2))
 
--- a marker that says that its count follows is one
+-- a marker that says that its count follows is a marker
 pub long_marks : (m : ℕ) (form : Markers) → IsLongOf form m → (least_marker form ≤ m) × (m ≤ greatest_marker form)
 long_marks m (plain low high says) l = absurd l
 long_marks m (counted high) l = (omega arith, omega arith)
@@ -160,7 +161,7 @@ module _ (f : List ℕ) (p : ℕ) where
   announced_marks (counted high) count body (inl a) = (omega arith, omega arith)
   announced_marks (counted high) count body (inr a) = (omega arith, omega arith)
 
-  -- what a long marker announces has its count behind the marker
+  -- what a long marker announces has its count after the marker
   pub long-Announces : (kind : Kind) (count body : ℕ) → IsLong m → Announces f p kind count body → HasLongCount f p count body
   long-Announces kind count body (other, l) a =
       let same : other ≡ kind = same_Some other kind (sym (kind_marked m other (long_marks m (markers_of other) l)) ∙ kind_marked m kind (announced_marks (markers_of kind) count body a)) in
@@ -178,7 +179,7 @@ module _ (f : List ℕ) (p : ℕ) where
   if_false : {X : Type 0} {t : Bool} {y z : X} (x : X) → t ≡ false → y ≡ z → (if t then x else y) ≡ z
   if_false {y = y} x e same = ap (λ t. if t then x else y) e ∙ same
 
-  -- a count behind the marker is found
+  -- a count after the marker is found
   long_is_found : (count body : ℕ) → HasLongCount f p count body → long_found f p ≡ Some (count, body)
   long_is_found count body (w, w4, form, c, b) =
       let t : (nat_le 16 next && nat_le next 20) ≡ true = grind (arith, nat_tests) in
@@ -224,7 +225,7 @@ module _ (f : List ℕ) (F : Frame) (n : ℕ) where
   abbrev pub HasParts : Head → Type 0
   HasParts head = Announces f o head.kind head.count head.body × (head.«end» ≡ head.body + head.count * item_size F.ref_size head.kind)
 
-  -- a head that is there has its parts, and where a front of them lies in the file it is there
+  -- a head of the file has its parts, and if a front of them is in the file, the head is there
   pub head_parts : (head : Head) → HasHead f F n head → HasParts head
   head_parts head h = (announced f o head.kind head.count head.body (h.front, h.stands, h.announces, h.body), h.ends)
 
@@ -255,7 +256,7 @@ module _ (f : List ℕ) (F : Frame) (n : ℕ) where
       ∙ ap (option_map (head_with f F head.kind)) (announced_found f o (markers_of head.kind) head.count head.body h.0)
       ∙ ap (λ x. Some (record { kind = head.kind; count = head.count; body = head.body; «end» = x })) (sym h.1)
 
-  -- the head that is there is found, and what is found is there if its body begins in the file
+  -- the head of an object is found, and what is found is its head if its body begins in the file
   pub head_is_found : (head : Head) → HasHead f F n head → head_found f F n ≡ Some head
   head_is_found head h = parts_found head (head_parts head h)
 

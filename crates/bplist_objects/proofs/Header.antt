@@ -6,7 +6,7 @@ use Rattle.bplist_objects.specs.Claims.{FailsAt}
 use Rattle.bplist_objects.proofs.Parts.{get_or-part}
 use Rattle.bplist_objects.proofs.ClaimLaws.{Below, first_failure}
 
--- what differs first in the first eight bytes differs first in the file
+-- the first difference in the first eight bytes is the first difference in the file
 pub first_wrong : (file octets : List ℕ) (i : ℕ) → octets ≡ part file 0 8 → i < 8 → get_or octets i 0 ≢ get_or header i 0 → ((k : ℕ) → k < i → get_or octets k 0 ≡ get_or header k 0)
     → FailsAt (Below (λ k. get_or file k 0 ≡ get_or header k 0)) 8 i
 first_wrong file octets i e h wrong before =

@@ -27,7 +27,7 @@ int_count k n e may =
     let w = widths n m.1.0 m.1.1 m.1.2 in
     (w.0, elim w.1 [ inl l ↦ omega arith | inr r ↦ elim r [ inl e ↦ omega (arith, e) | inr e ↦ omega (arith, e) ] ], w.1)
 
--- the first byte is below 128 where the number is in the lower half, and else it is not
+-- the first byte is below 128 if and only if the number is in the lower half
 first_low : (x : ℕ) (xs : List ℕ) (half : ℕ) → 256 ^ suc (length xs) ≡ 2 * half → ((k : ℕ) → get_or (x ∷ xs) k 0 < 256) → x < 128 → num (x ∷ xs) < half
 unfolding num
 first_low x xs half e h l =
@@ -45,7 +45,7 @@ first_high x xs half e l =
 abbrev pub signed : List ℕ → ℤ
 signed l = if nat_lt (slice_index l 0) 128 then pos (num l) else pos (num l) -ℤ pos (256 ^ length l)
 
--- what the bytes mean in two's complement, by the half in which their number lies
+-- what the bytes mean in two's complement, by the half in which their number is
 pub signed_low : (l : List ℕ) (half : ℕ) → 1 ≤ length l → 256 ^ length l ≡ 2 * half → ((k : ℕ) → get_or l k 0 < 256)
     → ((num l < half) × (signed l ≡ pos (num l))) ⊎ ((half ≤ num l) × (signed l ≡ pos (num l) -ℤ pos (2 * half)))
 signed_low [] half some e h = absurd (omega arith)

@@ -38,7 +38,7 @@ is_both (inl p) (inr no1) = inr (λ b. no1 b.1)
 is_between : (a low high : ℕ) → Either ((low ≤ a) × (a ≤ high))
 is_between a low high = is_both (is_le low a) (is_le a high)
 
--- what is kept or broken where A holds is so without it
+-- what is kept or broken if A holds is so without it
 if_so : {A P Q : Type 0} → A ⊎ (A → ⊥) → P ⊎ Q → (A → P) ⊎ (A × Q)
 if_so (inr no1) d = inl (λ a. absurd (no1 a))
 if_so (inl a) (inl p) = inl (λ a. p)
@@ -50,7 +50,7 @@ is_less a b = elim (cases_lt a b) [
   | inr h ↦ inr (λ l. omega (arith, h, l))
 ]
 
--- an implication is decided where both sides are
+-- an implication is decided if both sides are
 is_implied : {A P : Type 0} → Either A → Either P → Either (A → P)
 is_implied (inr no1) d = inl (λ a. absurd (no1 a))
 is_implied (inl a) (inl p) = inl (λ _. p)
@@ -81,7 +81,7 @@ module _ (f : List ℕ) (long : 41 ≤ length f) where
   abbrev F : Frame
   F = trailer f
 
-  -- a rule that is broken at a place so far from the end
+  -- a rule that is broken at a place this far from the end
   at_end : {P : Type 0} (k : ℕ) → k ≤ 41 → Either P → P ⊎ ((object : Option ObjectNo) × (place : ℕ) × ((P → ⊥) × (object ≡ None) × (place + k ≡ length f)))
   at_end k l (inl p) = inl p
   at_end k l (inr no1) = inr (None, length f - k, (no1, refl, omega (arith, l, long)))
@@ -143,7 +143,7 @@ module _ (f : List ℕ) (F : Frame) (n : ℕ) where
         | inr far ↦ inr (λ h. far (subst (λ (x : Head). x.body ≤ length f) (same_Some h.0 head (sym (head_is_found f F n h.0 h.1) ∙ e)) (head_within f F n h.0 h.1)))
       ]
 
-  -- of the head that is announced, if one is, one of two things holds
+  -- for the head that is announced, if there is one, one of two things holds
   with_head : (P Q : Head → Type 0) → ((head : Head) → P head ⊎ Q head) → ((head : Head) → HasHead f F n head → P head) ⊎ ((head : Head) × HasHead f F n head × Q head)
   with_head P Q each = elim head_decided [
     | inr none ↦ inl (λ head h. absurd (none (head, h)))
@@ -170,7 +170,7 @@ module _ (f : List ℕ) (F : Frame) (n : ℕ) where
   count_decided : Either (o + 1 < F.table → (head : Head) × HasHead f F n head)
   count_decided = is_implied (is_less (o + 1) F.table) head_decided
 
-  -- whether a head is announced that lies before the table
+  -- whether a head is announced that ends before the table
   early_decided : Either ((head : Head) × HasHead f F n head × (head.«end» ≤ F.table))
   early_decided = elim head_decided [
     | inr none ↦ inr (λ h. none (h.0, h.1))

@@ -1,5 +1,5 @@
--- What the body of a leaf means, by the kind of its head: so the calls that read leaves read the value that the definitions
--- give.
+-- What the body of a leaf means, by the kind of its head, so that the calls that read leaves return the value of the
+-- definitions.
 use Rattle.std.proofs.Common.{◌≡◌, ℕ, ◌≤◌, List, ℤ, refl, arith}
 use Rattle.bplist_octets.specs.Octets.{part}
 use Rattle.bplist_objects.specs.declared.frame.Frame.{Frame}
@@ -49,7 +49,7 @@ module _ (f : List ℕ) (F : Frame) where
   text_value kinds.Wide count body us e = (tt, cc e)
   text_value _ count body us e = cc e
 
-  -- a text kind's body means its units
+  -- the body of a text means its units
   pub text_content : (kind : Kind) (count body : ℕ) → IsTextKind kind → content_of f F kind count body ≡ Content.leaf (text (units_at f kind count body))
   text_content kinds.Ascii count body t = refl
   text_content kinds.Wide count body t = refl

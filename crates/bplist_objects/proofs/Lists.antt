@@ -1,4 +1,4 @@
--- What holds of each member of a list, and of each number below a bound; when two numbers are one.
+-- What holds of each member of a list, and of each number below a bound; when two numbers are equal.
 use Rattle.std.proofs.Common.{◌≡◌, ◌≢◌, ℕ, zero, suc, ◌<◌, ◌⊎◌, inl, inr, List, [], ◌∷◌, ◌++◌, refl, sym, subst, arith, Contains}
 use Rattle.std.specs.List.{AllByRecursion, AllPairs}
 use Rattle.std.proofs.lemmas.Bool.{cases_lt, cases_order}
@@ -25,7 +25,7 @@ all_behind P (x ∷ xs) ys a = all_behind P xs ys a.1
 pub all_at : {X : Type 0} (P : X → Type 0) → (xs : List X) (x : X) → AllByRecursion P xs → Contains xs x → P x
 all_at P xs x a c = All-contains P xs x (All-from_recursion P xs a) c
 
--- each member, by the members that come with a place
+-- each member, by the members with their index
 pub all_from : (P : ℕ → Type 0) (xs : List ℕ) → ((x : ℕ) → Contains xs x → P x) → AllByRecursion P xs
 all_from P [] h = tt
 all_from P (x ∷ xs) h = (h x (0, omega arith, refl), all_from P xs (λ y c. h y (suc c.0, omega (arith, c.1), c.2)))
@@ -52,7 +52,7 @@ none_in x c = omega (arith, c.1)
 abbrev pub Either : Type 0 → Type 0
 Either P = P ⊎ (P → ⊥)
 
--- P holds of each number below a bound, or there is a first one that B holds of
+-- P holds of each number below a bound, or there is a first one of which B holds
 abbrev pub AllOrFirst : (ℕ → Type 0) → (ℕ → Type 0) → ℕ → Type 0
 AllOrFirst P B bound = ((k : ℕ) → k < bound → P k) ⊎ ((i : ℕ) × (i < bound) × B i × ((k : ℕ) → k < i → P k))
 
@@ -63,7 +63,7 @@ last_too P bound all p k l = elim (cases_lt k bound) [
   | inr b ↦ let e : bound ≡ k = omega (arith, l, b) in subst P e p
 ]
 
--- where it is known of each number which of the two holds, it is known of all
+-- if it is decided for each number which of the two holds, it is decided for all
 pub all_or_first : (P B : ℕ → Type 0) → ((k : ℕ) → P k ⊎ B k) → (bound : ℕ) → AllOrFirst P B bound
 all_or_first P B each zero = inl (λ k l. absurd (omega (arith, l)))
 all_or_first P B each (suc bound) = go (all_or_first P B each bound) (each bound)
@@ -73,7 +73,7 @@ all_or_first P B each (suc bound) = go (all_or_first P B each bound) (each bound
     go (inl all) (inl p) = inl (last_too P bound all p)
     go (inl all) (inr b) = inr (bound, omega arith, b, all)
 
--- two numbers neither of which is before the other are one
+-- two numbers are equal if neither is less than the other
 pub one_number : (i j : ℕ) → (i < j → ⊥) → (j < i → ⊥) → i ≡ j
 one_number i j a b = elim (cases_order i j) [
   | inl e ↦ e

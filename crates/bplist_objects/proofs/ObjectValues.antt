@@ -8,7 +8,7 @@ use Rattle.bplist_objects.specs.File.{FileHolds}
 use Rattle.bplist_objects.proofs.Fronts.{one_head}
 use Rattle.bplist_objects.specs.Holds.{Holds, HoldEach, HoldPairs}
 
--- at one place at most one content is spelled
+-- an object spells at most one content
 abbrev pub OneHead : List ℕ → Frame → Type 0
 OneHead f F = (n : ℕ) (c d : Content) → Spells f F n c → Spells f F n d → c ≡ d
 

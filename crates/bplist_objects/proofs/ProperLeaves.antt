@@ -58,7 +58,7 @@ each_low f place count a k lt = subst (λ b. b < 128) (sym (nth_byte f place cou
 
 module _ (f : List ℕ) (F : Frame) (n : ℕ) where
   module _ (head : Head) (has : HasHead f F n head) where
-    -- an object keeps rules 18 to 20 where the test says so of its body, and its references are objects
+    -- an object keeps rules 18 to 20 if its body passes the test and its references are objects
     pub body_kept : IsTrue (is_proper f head.kind head.count head.body) → AllByRecursion (λ m. m < F.objects) (refs (content_at f F head)) → KeepsAll (KeepsByObject f F n) body_rules
     body_kept proper below =
         bodies_keep f F n head has (λ e. each_low f head.body head.count ((low_decides 128 _).0 (tested kinds.Ascii e)))
@@ -68,7 +68,7 @@ module _ (f : List ℕ) (F : Frame) (n : ℕ) where
         tested : (kind : Kind) → head.kind ≡ kind → IsTrue (is_proper f kind head.count head.body)
         tested kind e = subst (λ k. IsTrue (is_proper f k head.count head.body)) e proper
 
-    -- and only there
+    -- and only then
     pub kept_proper : KeepsAll (KeepsByObject f F n) body_rules → IsTrue (is_proper f head.kind head.count head.body)
     kept_proper kept = go head.kind refl
       where

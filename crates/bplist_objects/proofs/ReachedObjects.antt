@@ -1,4 +1,4 @@
--- References, what is reached by them, and founded objects.
+-- References, the objects reachable by them, and founded objects.
 use Rattle.std.proofs.Common.{◌≡◌, ℕ, ◌<◌, ◌↔◌, List, [], Option, Some, None, refl, sym, ap, subst, Contains}
 use Rattle.std.specs.Option.{option_map_or}
 use Rattle.bplist_objects.specs.declared.frame.Frame.{Frame}
@@ -17,7 +17,7 @@ module _ (f : List ℕ) (F : Frame) where
   unfolding refs_at
   refs_spelled n c s = ap (λ x. option_map_or refs x []) ((spells_iff f F n c).0 s)
 
-  -- an object refers to what is among them
+  -- an object refers to each of them
   pub refs_iff : (n m : ℕ) → Refs f F n m ↔ Contains (refs_at f F n) m
   unfolding refs_at
   refs_iff n m = ((λ r. subst (λ ms. Contains ms m) (sym (refs_spelled n r.0 r.1)) r.2), from)
@@ -29,8 +29,8 @@ module _ (f : List ℕ) (F : Frame) where
           go None e k = absurd (none_in m k)
           go (Some c) e k = (c, (spells_iff f F n c).1 e, k)
 
-  -- ---- what is reached
-  -- an object that is referred to is one
+  -- ---- reachable objects
+  -- a reference leads to an object
   pub refs_within : (n m : ℕ) → Refs f F n m → m < F.objects
   refs_within n m r = all_at (λ k. k < F.objects) (refs r.0) m (refs_below f F n r.0 r.1) r.2
 
@@ -38,12 +38,12 @@ module _ (f : List ℕ) (F : Frame) where
   reach_within t n top = t
   reach_within t n (next {n = k} r e) = refs_within k n e
 
-  -- chains one behind the other
+  -- two chains, one after the other
   pub chain_append : (n m k : ℕ) → Chain f F n m → Chain f F m k → Chain f F n k
   chain_append n m k (last e) d = more e d
   chain_append n m k (more {m = j} e c) d = more e (chain_append j m k c d)
 
-  -- ---- what is founded
+  -- ---- founded objects
   -- what a founded object refers to is founded
   pub founded_refs : (n m : ℕ) → Founded f F n → Refs f F n m → Founded f F m
   founded_refs n m (founded c s each) r = each m (subst (λ d. Contains (refs d) m) (one_head f F n r.0 c r.1 s) r.2)

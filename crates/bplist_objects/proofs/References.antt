@@ -1,4 +1,4 @@
--- The references of an object by index: reference i is the number i of those that stand in the body.
+-- The references of an object by index: reference i is number i in the body.
 use Rattle.std.proofs.Common.{◌≡◌, ℕ, zero, suc, ◌<◌, ◌≤◌, ◌+◌, ◌-◌, ◌*◌, ◌⊎◌, inl, inr, List, length, slice_index, refl, sym, ap, ◌∙◌, subst, arith, length-append}
 use Rattle.std.specs.List.{AllByRecursion}
 use Rattle.std.proofs.Math.Nat.{add-mul}
@@ -13,12 +13,12 @@ use Rattle.bplist_objects.specs.Scan.{nth_number}
 use Rattle.bplist_objects.specs.Heads.{Content, refs, content_of}
 use Rattle.bplist_objects.specs.Safe.{ref_count}
 
--- so many numbers are so many
+-- a list of `count` numbers has that length
 pub length-nums_at : (f : List ℕ) (place width count : ℕ) → length (nums_at f place width count) ≡ count
 length-nums_at f place width zero = refl
 length-nums_at f place width (suc count) = ap suc (length-nums_at f (place + width) width count)
 
--- number k of them is the one at its place
+-- number k of them is the number at its place
 pub nth-nums_at : (f : List ℕ) (place width count k : ℕ) → k < count → slice_index (nums_at f place width count) k ≡ nth_number f place width k
 nth-nums_at f place width zero k l = absurd (omega (arith, l))
 nth-nums_at f place width (suc count) zero l = let e : place ≡ place + 0 * width = omega arith in ap (λ p. num_at f p width) e
@@ -37,7 +37,7 @@ module _ (f : List ℕ) (F : Frame) where
       length-append (nums_at f body F.ref_size count) (nums_at f (body + count * F.ref_size) F.ref_size count) ∙ omega (arith, keys, values)
   length-refs _ count body = refl
 
-  -- the keys' references stand first, and then the values'
+  -- the references of keys come first, and then those of values
   nth_of_dict : (count body i : ℕ) → i < 2 * count → (i < count) ⊎ (count ≤ i) → slice_index (refs (content_of f F kinds.Dict count body)) i ≡ nth_number f body F.ref_size i
   nth_of_dict count body i l (inl key) =
       let keys = nums_at f body F.ref_size count in
@@ -76,7 +76,7 @@ module _ (f : List ℕ) (F : Frame) where
         let len = length-refs kind count body in
         subst P (nth-refs kind count body i l) (All-get_or P _ i 0 (omega (arith, l, len)) (All-from_recursion P _ a))
 
-  -- ---- a dictionary: the references of its keys, and then as many of its values
+  -- ---- a dictionary: the references to its keys, and then as many to its values
   -- a content that is a dictionary is that of a dictionary's body
   pub dict_parts : (kind : Kind) (count body : ℕ) (ks ms : List ℕ) → Content.dict ks ms ≡ content_of f F kind count body
       → (kind ≡ kinds.Dict) × (ks ≡ nums_at f body F.ref_size count) × (ms ≡ nums_at f (body + count * F.ref_size) F.ref_size count)

@@ -5,13 +5,13 @@ use Rattle.bplist_objects.specs.declared.fault.Fault.{Fault}
 use Rattle.bplist_objects.specs.declared.frame.ObjectNo.{ObjectNo}
 use Rattle.bplist_objects.specs.Rules.{KeepsAll, IsFirstFault}
 
--- rules that are kept stand before the first fault of those after them
+-- rules that are kept come before the first fault of the rules after them
 pub first_fault_after : (keeps : Rule → Type 0) (breaks : Rule → Option ObjectNo → ℕ → Type 0) (xs ys : List Rule) (fault : Fault) → KeepsAll keeps xs → IsFirstFault keeps breaks ys fault → IsFirstFault keeps breaks (xs ++ ys) fault
 first_fault_after keeps breaks [] ys fault kept h = h
 first_fault_after keeps breaks (x ∷ xs) ys fault kept h =
     inr (kept.0, first_fault_after keeps breaks xs ys fault kept.1 h)
 
--- a first fault is one, whatever rules come after
+-- a first fault stays the first, whatever rules come after
 pub first_fault_among : (keeps : Rule → Type 0) (breaks : Rule → Option ObjectNo → ℕ → Type 0) (xs ys : List Rule) (fault : Fault) → IsFirstFault keeps breaks xs fault → IsFirstFault keeps breaks (xs ++ ys) fault
 first_fault_among keeps breaks [] ys fault h = absurd h
 first_fault_among keeps breaks (x ∷ xs) ys fault (inl broken) = inl broken

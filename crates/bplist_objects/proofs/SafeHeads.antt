@@ -8,7 +8,7 @@ use Rattle.bplist_objects.specs.declared.kind.Kind.TheVariants as kinds
 use Rattle.bplist_objects.specs.Announced.{item_size}
 use Rattle.bplist_objects.specs.Safe.{IsSafe, IsSafeHead, IsSafeBody}
 
--- a wider reference takes no less
+-- a wider reference takes no fewer bytes
 item_size-grows : (r : ℕ) (kind : Kind) → 1 ≤ r → item_size 1 kind ≤ item_size r kind
 item_size-grows r kinds.Array h = h
 item_size-grows r kinds.Set h = h

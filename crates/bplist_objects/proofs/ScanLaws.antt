@@ -10,7 +10,7 @@ use Rattle.bplist_objects.specs.Scan.{nth_number, MeanNumbers, AreBelow, IsFirst
 use Rattle.bplist_objects.proofs.Parts.{part-part, num-part_one}
 use Rattle.bplist_objects.proofs.ClaimLaws.{first_failure, fails_there}
 
--- a number that is not below the bound is the first where those before it are, and the first is such a number
+-- a number that is not below the bound is the first if those before it are below it, and the first one is such a number
 pub first_high : (f : List ℕ) (place size count bound i : ℕ) → i < count → bound ≤ nth_number f place size i → AreBelow f place size i bound
     → IsFirstNotBelow f place size count bound i
 first_high f place size count bound i within high before =
@@ -21,13 +21,13 @@ high_there f place size count bound i h =
     let fails = fails_there (λ k. nth_number f place size k < bound) count i h in
     omega (arith, fails)
 
--- a block of the numbers lies where they do
+-- if all the numbers are inside the source, a block of them is too
 pub block_within : (place count size len done now : ℕ) → place + count * size ≤ len → done + now ≤ count → (place + done * size) + now * size ≤ len
 block_within place count size len done now room h =
     let all : (done + now) * size ≤ count * size = mul-le-mul_right size h in
     omega (arith, add-mul done now size)
 
--- the numbers behind some of them
+-- the numbers after some of them
 pub nth_number-behind : (f : List ℕ) (place size done k : ℕ) → nth_number f (place + done * size) size k ≡ nth_number f place size (done + k)
 nth_number-behind f place size done k =
     ap (λ x. num_at f x size) (omega (arith, add-mul done k size))
@@ -38,7 +38,7 @@ nth_number-part f block place size now e k h =
     ap (λ b. num (part b (0 + k * size) size)) e
     ∙ ap num (part-part f place (now * size) (0 + k * size) size (place + k * size) (let r = row_fits k size now size h (omega arith) in omega arith) (omega arith))
 
--- numbers that are put behind those before them
+-- numbers that are appended to those before them
 pub numbers_grown : {T : Type 0} (means : T → ℕ) (f : List ℕ) (into ys rest : List T) (place size done k : ℕ) (d : T) → done ≤ length into
     → ((j : ℕ) (e : T) → j < done → means (get_or into j e) ≡ nth_number f place size j) → MeanNumbers means f (place + done * size) size ys → k < done + length ys
     → means (get_or (take done into ++ (ys ++ rest)) k d) ≡ nth_number f place size k
@@ -79,7 +79,7 @@ module _ (f block : List ℕ) (place size done now : ℕ) (e : block ≡ part f 
       let high = subst (λ x. bound ≤ x) (nth_number-block i h.0) (high_there block 0 size now bound i h) in
       first_high f place size count bound (done + i) (omega (arith, within, h.0)) high (below-block bound i (omega (arith, h.0)) before h.1)
 
--- the front of low bytes is low
+-- the low bytes at the front are low
 pub low_front : (xs rest : List ℕ) → AreLow (xs ++ rest) → AreLow xs
 low_front xs rest low k h = subst (λ x. x < 128) (get_or_append_left xs rest 0 k h) (low k (omega (arith, length-append xs rest)))
 

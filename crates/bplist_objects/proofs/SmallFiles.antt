@@ -35,7 +35,7 @@ small_frame f begins n ref offset =
     let magic : Keeps f Magic = λ i l. sym (get_or-take 8 f i 0 l) ∙ ap (λ x. slice_index x i) begins in
     trailer_is_frame f (n.large, (n.short, (magic, (n.objects, (n.top, (n.table_early, (n.table_late, (n.offset_size, (n.ref_size, (n.whole, (ref, (offset, (n.offsets, tt)))))))))))))
 
--- what all objects take bounds what the reached take
+-- the bytes that all objects take bound those that the reachable objects take
 reached_room : (f : List ℕ) (F : Frame) (t : ℕ) → F.top.0 < F.objects → AtMost f F (λ m. Reach f F m × (m < F.objects)) t → t + 8 ≤ F.table → HaveRoom f F (Reach f F)
 reached_room f F t top most room ns r d a taken =
     let b = most ns r d (all_weaker (Reach f F) _ (λ m e. (e, reach_within f F top m e)) ns a) taken in

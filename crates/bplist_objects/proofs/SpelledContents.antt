@@ -1,4 +1,4 @@
--- The function that finds what an object spells finds exactly that.
+-- The function that finds what an object spells finds that and nothing else.
 use Rattle.std.proofs.Common.{◌≡◌, ℕ, ◌<◌, ◌≤◌, ◌↔◌, List, length, Option, Some, None, if◌then◌else◌, IsTrue, refl, sym, ap, ◌∙◌, subst}
 use Rattle.std.specs.Bool.{Decides}
 use Rattle.std.specs.List.{AllByRecursion}
@@ -17,7 +17,7 @@ module _ (f : List ℕ) (F : Frame) (n : ℕ) where
   abbrev o : ℕ
   o = off f F n
 
-  -- the rules of a head that is announced, besides that it is
+  -- the rules of an announced head, besides that it is announced
   abbrev IsSpelled : Head → Type 0
   IsSpelled head =
       (8 ≤ off f F n) × ((head.body ≤ length f) × ((head.«end» ≤ F.table)
@@ -39,7 +39,7 @@ module _ (f : List ℕ) (F : Frame) (n : ℕ) where
   abbrev content_found : Option Head → Option Content
   content_found = option_and_then (λ head. if is_spelled f F n head then Some (content_at f F head) else None)
 
-  -- an object spells a content exactly where that content is computed
+  -- an object spells a content if and only if that content is computed
   pub spells_iff : (c : Content) → Spells f F n c ↔ (spelled_at f F n ≡ Some c)
   unfolding spelled_at
   spells_iff c = (to, from (head_found f F n) refl)

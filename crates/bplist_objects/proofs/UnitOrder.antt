@@ -24,11 +24,11 @@ compare_units-equal (u ∷ us) (v ∷ vs) e = go (compare_units-equal us vs) (na
 pub compare_units-self : (us : List ℕ) → compare_units us us ≡ Equal
 compare_units-self us = tied_itself nat_list_cmp_total us
 
--- lists are equal exactly where they compare as equal
+-- lists are equal if and only if they compare as equal
 pub compare_units-equal_iff : (us vs : List ℕ) → (compare_units us vs ≡ Equal) ↔ (us ≡ vs)
 compare_units-equal_iff us vs = (compare_units-equal us vs, λ e. subst (λ ws. compare_units us ws ≡ Equal) e (compare_units-self us))
 
--- the other way round a comparison gives the reverse
+-- swapping the two lists reverses a comparison
 pub compare_units-reverse : (us vs : List ℕ) → compare_units vs us ≡ ordering_reverse (compare_units us vs)
 compare_units-reverse us vs = nat_list_cmp_total.antisymm vs us
 
@@ -38,7 +38,7 @@ compare_units-greater us vs e = compare_units-reverse us vs ∙ ap ordering_reve
 pub compare_units-less : (us vs : List ℕ) → compare_units us vs ≡ Less → compare_units vs us ≡ Greater
 compare_units-less us vs e = compare_units-reverse us vs ∙ ap ordering_reverse e
 
--- what lies below lies below all that lies above
+-- if a list is less than a second and that less than a third, the first is less than the third
 pub compare_units-less_less : (us vs ws : List ℕ) → compare_units us vs ≡ Less → compare_units vs ws ≡ Less → compare_units us ws ≡ Less
 compare_units-less_less us vs ws a b = nat_list_cmp_total.trans us vs ws a b
 
@@ -46,11 +46,11 @@ pub compare_units-greater_greater : (us vs ws : List ℕ) → compare_units us v
 compare_units-greater_greater us vs ws a b =
     compare_units-less ws us (compare_units-less_less ws vs us (compare_units-greater vs ws b) (compare_units-greater us vs a))
 
--- nothing lies below itself
+-- no list is less than itself
 pub compare_units-not_less : (us vs : List ℕ) → us ≡ vs → compare_units us vs ≡ Less → ⊥
 compare_units-not_less us vs e l = let same = (compare_units-equal_iff us vs).1 e in cc (same, l)
 
--- of two lists one lies below the other, or they are equal
+-- of two lists one is less than the other, or they are equal
 pub compare_units-cases : (us vs : List ℕ) → (compare_units us vs ≡ Less) ⊎ ((us ≡ vs) ⊎ (compare_units vs us ≡ Less))
 compare_units-cases us vs = go (compare_units us vs) refl
   where
@@ -59,7 +59,7 @@ compare_units-cases us vs = go (compare_units us vs) refl
     go Equal e = inr (inl (compare_units-equal us vs e))
     go Greater e = inr (inr (compare_units-greater us vs e))
 
--- with the same front the rest decides
+-- if the fronts are the same, the rest decides
 same_front : (n : ℕ) (us vs : List ℕ) → n ≤ length us → n ≤ length vs → take n us ≡ take n vs → compare_units us vs ≡ compare_units (drop n us) (drop n vs)
 same_front zero us vs a b e = refl
 same_front (suc n) [] vs a b e = absurd (omega arith)
@@ -84,7 +84,7 @@ front_decides (suc n) (u ∷ us) (v ∷ vs) a b d = go (nat_cmp u v) (front_deci
     go Equal h d = h d
     go Greater h d = refl
 
--- behind the same front a block that differs decides
+-- after the same front, a block that differs decides
 pub block_decides : (done now : ℕ) (us vs : List ℕ) → done + now ≤ length us → done + now ≤ length vs → take done us ≡ take done vs
     → compare_units (part us done now) (part vs done now) ≢ Equal → compare_units us vs ≡ compare_units (part us done now) (part vs done now)
 block_decides done now us vs a b e d =
@@ -92,7 +92,7 @@ block_decides done now us vs a b e d =
     let right = length-drop done vs in
     same_front done us vs (omega arith) (omega arith) e ∙ front_decides now (drop done us) (drop done vs) (omega (arith, left)) (omega (arith, right)) d
 
--- behind the same front a block that is the same makes the front longer
+-- after the same front, a block that is the same makes the front longer
 pub block_same : (done now : ℕ) (us vs : List ℕ) → take done us ≡ take done vs → compare_units (part us done now) (part vs done now) ≡ Equal → take (done + now) us ≡ take (done + now) vs
 block_same done now us vs e d =
     take-add done now us
@@ -105,7 +105,7 @@ ended n a b [] (y ∷ ys) h ea eb = nat_cmp_is a b Less (omega arith)
 ended n a b (x ∷ xs) [] h ea eb = nat_cmp_is a b Greater (omega arith)
 ended n a b (x ∷ xs) (y ∷ ys) h ea eb = elim h [ inl e ↦ absurd (omega arith) | inr e ↦ absurd (omega arith) ]
 
--- where one of them ends with the same front the lengths decide
+-- if one of them ends with the same front, the lengths decide
 pub lengths_decide : (n : ℕ) (us vs : List ℕ) → n ≤ length us → n ≤ length vs → (length us ≤ n) ⊎ (length vs ≤ n) → take n us ≡ take n vs
     → compare_units us vs ≡ nat_cmp (length us) (length vs)
 lengths_decide n us vs a b short e =
@@ -114,7 +114,7 @@ lengths_decide n us vs a b short e =
     same_front n us vs a b e
     ∙ ended n (length us) (length vs) (drop n us) (drop n vs) (elim short [ inl s ↦ inl (omega (arith, left)) | inr s ↦ inr (omega (arith, right)) ]) (omega (arith, left)) (omega (arith, right))
 
--- `is_ne` tells whether a comparison is anything but Equal
+-- `is_ne` is true of each comparison but Equal
 pub ne_not_equal : (o : Ordering) → is_ne o ≡ true → o ≢ Equal
 ne_not_equal Less t e = cc e
 ne_not_equal Equal t e = cc t

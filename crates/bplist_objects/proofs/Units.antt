@@ -1,4 +1,4 @@
--- The units of a text by index: unit k is the number k of those that stand in the body.
+-- The units of a text by index: unit k is number k in the body.
 use Rattle.std.proofs.Common.{◌≡◌, ℕ, ◌+◌, ◌*◌, ◌<◌, ◌≤◌, List, length, slice_index, drop, sym, ap, ◌∙◌, arith, inl, inr, ◌⊎◌}
 use Rattle.std.proofs.lemmas.List.{ext_get_or, length-take-le, length-drop}
 use Rattle.bplist_octets.specs.Octets.{part}
@@ -17,7 +17,7 @@ pub text_kind : (kind : Kind) → (kind ≡ kinds.Ascii) ⊎ (kind ≡ kinds.Wid
 text_kind kind (inl e) = rw e tt
 text_kind kind (inr e) = rw e tt
 
--- the length of a part that lies within
+-- the length of a part that is inside
 pub length-part : (xs : List ℕ) (place n : ℕ) → place + n ≤ length xs → length (part xs place n) ≡ n
 length-part xs place n h =
     let left = length-drop place xs in
@@ -36,7 +36,7 @@ module _ (f : List ℕ) where
   nth-units_at kinds.Wide count at k t h l = nth-nums_at f at 2 count k l
   nth-units_at _ count at k t h l = absurd t
 
-  -- the numbers that stand where a part of the units does are that part
+  -- the numbers at the place of a part of the units are that part
   pub units_part : (kind : Kind) (count at from n : ℕ) (us : List ℕ) → IsTextKind kind → at + count * item_size 1 kind ≤ length f → from + n ≤ count → length us ≡ n
       → AreNumbers f (at + from * item_size 1 kind) (item_size 1 kind) us → us ≡ part (units_at f kind count at) from n
   units_part kind count at from n us t h w e numbers =

@@ -1,4 +1,4 @@
--- What the marker alone says of an object.
+-- What the marker by itself says of an object.
 use Rattle.std.proofs.Common.{◌≡◌, ℕ, zero, suc, ◌+◌, ◌-◌, ◌*◌, ◌<◌, ◌≤◌, Bool, true, false, ◌&&◌, nat_eq, if◌then◌else◌, List, [], ◌∷◌, length, slice_index, Option, Some, None, ◌⊎◌, inl, inr, IsTrue, sym, ap, ◌∙◌, arith, refl, subst}
 use Rattle.std.proofs.lemmas.Bool.Decides.{nat_tests}
 use Rattle.std.proofs.lemmas.Bool.{false≢true}
@@ -23,13 +23,13 @@ use Rattle.bplist_objects.proofs.BodyLaws.{HasHead-unique}
 use Rattle.bplist_objects.proofs.RuleLaws.{kept_all_after}
 
 -- ---- the table of sizes
--- the size in the table, 0 for none, is the one that is said
+-- the size in the table, or 0 for none, is the one that the marker gives
 abbrev pub is_said : ℕ → Option ℕ → Bool
 is_said x None = nat_eq x 0
 is_said zero (Some size) = false
 is_said (suc x) (Some size) = nat_eq (suc x) size
 
--- so are all from this marker on
+-- so are all sizes from this marker on
 abbrev pub are_said : ℕ → List ℕ → Bool
 are_said marker [] = true
 are_said marker (x ∷ xs) = is_said x (size_said marker) && are_said (suc marker) xs
@@ -57,7 +57,7 @@ said_some zero (Some size) e some = absurd (some refl)
 said_some (suc x) (Some size) e some = let same : suc x ≡ size = grind (arith, nat_tests) in ap (λ y. Some y) same
 
 module _ (xs : List ℕ) (marker : ℕ) where
-  -- what a table says that is so
+  -- what a correct table says
   said_there : marker < length xs → are_said 0 xs ≡ true → is_said (slice_index xs marker) (size_said marker) ≡ true
   said_there lt e =
       subst (λ m. is_said (slice_index xs marker) (size_said m) ≡ true) (omega arith) (said_at xs 0 marker e lt)
@@ -69,7 +69,7 @@ module _ (xs : List ℕ) (marker : ℕ) where
   some_there some lt e = said_some (slice_index xs marker) (size_said marker) (said_there lt e) some
 
 -- ---- what is said
--- a marker that says the size is of a kind that no rule looks into, and holds the count
+-- a marker that gives the size is of a kind that no rule is about, and holds the count
 abbrev SaysCount : ℕ → ℕ → Type 0
 SaysCount marker size =
     (kind : Kind) × (count : ℕ) × Marks marker kind × (is_looked_into kind ≡ false) × (count_in (markers_of kind) marker ≡ Some count)
@@ -102,7 +102,7 @@ in_found f p (counted high) count e = go (nat_eq (slice_index f p) (16 * high + 
     go true r = absurd (cc r)
     go false r = ap (λ c. Some (c, p + 1)) (same_Some (slice_index f p - 16 * high) count r)
 
--- what no rule looks into has no references, and is none of the kinds of rules 18 and 19
+-- a body that no rule is about has no references, and is of none of the kinds of rules 18 and 19
 free_size : (r : ℕ) (kind : Kind) → is_looked_into kind ≡ false → item_size r kind ≡ item_size 1 kind
 free_size r kinds.Array e = absurd (cc e)
 free_size r kinds.Set e = absurd (cc e)
@@ -144,7 +144,7 @@ module _ (f : List ℕ) (F : Frame) (n size : ℕ) (far : 8 ≤ off f F n) (insi
       let whole : size ≡ 1 + count * item_size 1 kind = says.5 in
       omega (arith, same, whole)
 
-  -- any head of the object is of a kind that no rule looks into
+  -- any head of the object is of a kind that no rule is about
   free_head : (other : Head) → HasHead f F n other → is_looked_into other.kind ≡ false
   free_head other h = subst (λ (x : Head). is_looked_into x.kind ≡ false) (HasHead-unique f F n head other has h) free
 
@@ -160,7 +160,7 @@ module _ (f : List ℕ) (F : Frame) (n size : ℕ) (far : 8 ≤ off f F n) (insi
     ),
   )
 
-  -- an object whose marker says its size, and that lies before the table, keeps all rules by itself
+  -- an object whose marker gives its size, and that ends before the table, keeps all rules of an object by itself
   pub said_kept : o + size ≤ F.table
       → (x : Head) × HasHead f F n x × (x.«end» ≡ o + size) × (ref_count x.kind x.count ≡ 0) × KeepsAll (KeepsByObject f F n) object_rules
   said_kept l = (
@@ -171,12 +171,12 @@ module _ (f : List ℕ) (F : Frame) (n size : ℕ) (far : 8 ≤ off f F n) (insi
     kept_all_after (KeepsByObject f F n) shape_rules body_rules (shape_kept f F n far head has (omega (arith, l, ends))) bodies_kept,
   )
 
-  -- one that does not lie before the table breaks rule 17 first
+  -- one that does not end before the table breaks rule 17 first
   pub said_late : F.table < o + size → (fault : Fault) → fault.rule ≡ Extent → fault.object ≡ Some (record { 0 = n }) → fault.place ≡ o
       → IsObjectFault f F n shape_rules fault
   said_late l = shape_extent f F n far head has (omega (arith, l, ends))
 
--- an object whose marker does not say its size has a body that a rule looks into, or a count behind the marker
+-- an object whose marker does not give its size has a body that a rule is about, or a count after the marker
 module _ (f : List ℕ) (F : Frame) (n : ℕ) (head : Head) (h : HasHead f F n head) where
   parts : AnnouncesAs f (off f F n) (markers_of head.kind) head.count head.body
   parts = (head_parts f F n head h).0

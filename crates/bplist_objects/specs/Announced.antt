@@ -1,5 +1,5 @@
--- The front of an object, its marker and count, and the head that the file's bytes announce by it. Source: the format comment
--- of CFBinaryPList.c.
+-- The front of an object (its marker and count), and the head that the file's bytes announce by it. Source: the format
+-- comment of CFBinaryPList.c.
 use Rattle.std.specs.Prelude.{◌≡◌, ◌⊎◌, ℕ, ◌+◌, ◌*◌, ◌^◌, ◌<◌, ◌≤◌, List, [], ◌∷◌, length}
 use Rattle.bplist_octets.specs.Octets.{part, num}
 use Rattle.bplist_objects.specs.declared.frame.Frame.{Frame}
@@ -8,25 +8,32 @@ use Rattle.bplist_objects.specs.declared.kind.Kind.TheVariants as kinds
 use Rattle.bplist_objects.specs.declared.head.Head.{Head}
 use Rattle.bplist_objects.specs.Frame.{off}
 
--- how many bytes of the body one item of the count takes
+-- the number of body bytes for each item of the count
 abbrev pub item_size : ℕ → Kind → ℕ
 item_size ref_size kind =
-    elim kind [ kinds.Wide ↦ 2 | kinds.Array ↦ ref_size | kinds.Set ↦ ref_size | kinds.Dict ↦ 2 * ref_size | _ ↦ 1 ]
+    elim kind [
+      | kinds.Wide ↦ 2
+      | kinds.Array ↦ ref_size
+      | kinds.Set ↦ ref_size
+      | kinds.Dict ↦ 2 * ref_size
+      | _ ↦ 1
+    ]
 
--- a short count is below 15, and stands in the low half of the marker
+-- a short count is below 15, and is the low half of the marker
 abbrev pub IsShortCount : ℕ → ℕ → List ℕ → Type 0
 IsShortCount high count front = (count < 15) × (front ≡ (16 * high + count) ∷ [])
 
--- a long count stands behind a marker with low half 15, as an integer object of 1, 2, 4, 8 or 16 bytes
+-- a long count follows a marker with low half 15, as an integer object of 1, 2, 4, 8 or 16 bytes
 abbrev pub IsLongCount : ℕ → ℕ → List ℕ → Type 0
 IsLongCount high count front =
-    (w : ℕ) × (l : List ℕ) × (w ≤ 4) × (length l ≡ 2 ^ w) × (num l ≡ count) × (front ≡ (16 * high + 15) ∷ (16 + w) ∷ l)
+    (w : ℕ) × (l : List ℕ) × (w ≤ 4) × (length l ≡ 2 ^ w) × (num l ≡ count)
+    × (front ≡ (16 * high + 15) ∷ (16 + w) ∷ l)
 
--- the front is a marker with this high half and the count, short or long
+-- the front is a marker with this high half and this count, short or long
 abbrev pub IsCount : ℕ → ℕ → List ℕ → Type 0
 IsCount high count front = IsShortCount high count front ⊎ IsLongCount high count front
 
--- the front of an object of this kind and count, which is the bytes before its body
+-- the front of an object of this kind and count: the bytes before its body
 abbrev pub IsFront : Kind → ℕ → List ℕ → Type 0
 IsFront kinds.Null count front = (count ≡ 0) × (front ≡ 0 ∷ [])
 IsFront kinds.False count front = (count ≡ 0) × (front ≡ 8 ∷ [])
@@ -46,7 +53,7 @@ IsFront kinds.Dict count front = IsCount 13 count front
 abbrev pub IsMarker : ℕ → Type 0
 IsMarker marker = (kind : Kind) × (count : ℕ) × (rest : List ℕ) × IsFront kind count (marker ∷ rest)
 
--- some front is of this kind and count
+-- some front has this kind and count
 abbrev pub MayCount : Kind → ℕ → Type 0
 MayCount kind count = (front : List ℕ) × IsFront kind count front
 

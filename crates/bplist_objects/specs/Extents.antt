@@ -1,4 +1,4 @@
--- The bytes that objects take together. Source: profile (rule 31); objects of the file format may overlap.
+-- The number of bytes that objects take together. Source: profile (rule 31); objects of the file format may overlap.
 use Rattle.std.specs.Prelude.{◌≡◌, ℕ, ◌+◌, ◌<◌, ◌≤◌, List, [], ◌∷◌}
 use Rattle.std.specs.List.{AllByRecursion}
 use Rattle.bplist_objects.specs.declared.frame.Frame.{Frame}
@@ -12,7 +12,7 @@ module _ (f : List ℕ) (F : Frame) where
   abbrev pub Takes : ℕ → ℕ → Type 0
   Takes n e = (head : Head) × HasShape f F n head × (head.end ≡ off f F n + e)
 
-  -- these objects take t bytes together
+  -- together these objects take t bytes
   abbrev pub TakeOctets : List ℕ → ℕ → Type 0
   TakeOctets [] t = t ≡ 0
   TakeOctets (n ∷ ns) t = (e r : ℕ) × Takes n e × TakeOctets ns r × (t ≡ e + r)
@@ -29,11 +29,13 @@ module _ (f : List ℕ) (F : Frame) where
     pub take_all : TakeOctets objects t
     pub most : AtMost (λ m. S m × (m < n)) t
 
-  -- distinct objects of S fit between header and table
+  -- any distinct objects of S fit between the header and the table
   abbrev pub HaveRoom : (ℕ → Type 0) → Type 0
-  HaveRoom S = (ns : List ℕ) (r : ℕ) → AreDistinct ns → AllByRecursion S ns → TakeOctets ns r → r + 8 ≤ F.table
+  HaveRoom S =
+      (ns : List ℕ) (r : ℕ) → AreDistinct ns → AllByRecursion S ns → TakeOctets ns r → r + 8 ≤ F.table
 
-  -- rule 31 is broken: up to and including object n, objects of S take too much
+  -- rule 31 is broken: the objects of S up to and including object n take too many bytes
   abbrev pub IsOverfull : (ℕ → Type 0) → ℕ → Type 0
   IsOverfull S n =
-      (ns : List ℕ) × (r : ℕ) × AreDistinct ns × AllByRecursion (λ m. S m × (m ≤ n)) ns × TakeOctets ns r × (F.table < r + 8)
+      (ns : List ℕ) × (r : ℕ) × AreDistinct ns × AllByRecursion (λ m. S m × (m ≤ n)) ns
+      × TakeOctets ns r × (F.table < r + 8)

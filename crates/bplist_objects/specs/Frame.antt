@@ -1,5 +1,5 @@
--- The frame of a file: the five numbers of its trailer, and the rules 1 to 13 of a file as a whole. Source: the format comment of
--- CFBinaryPList.c; the limits of rules 1, 8 and 9, all words and the order are profile.
+-- The frame of a file (the five numbers of its trailer), and rules 1 to 13 of a file as a whole. Source: the format
+-- comment of CFBinaryPList.c; the limits of rules 1, 8 and 9, all words and the order are profile.
 use Rattle.std.specs.Prelude.{◌≡◌, ℕ, ◌+◌, ◌-◌, ◌*◌, ◌^◌, ◌<◌, ◌≤◌, List, [], ◌∷◌, ◌++◌, length, slice_index}
 use Rattle.bplist_objects.specs.declared.frame.Frame.{Frame}
 use Rattle.bplist_objects.specs.declared.rule.Rule.{Rule}
@@ -7,7 +7,7 @@ use Rattle.bplist_objects.specs.declared.rule.Rule.TheVariants.{TooLarge, TooSho
 use Rattle.bplist_objects.specs.Numbers.{num_at}
 use Rattle.bplist_objects.specs.Rules.{KeepsAll}
 
--- the eight bytes of `bplist00`
+-- the eight bytes `bplist00`
 abbrev pub header : List ℕ
 header = 98 ∷ 112 ∷ 108 ∷ 105 ∷ 115 ∷ 116 ∷ 48 ∷ 48 ∷ []
 
@@ -21,13 +21,14 @@ trailer f = record {
   table = num_at f (length f - 8) 8;
 }
 
--- the place of object n, from its entry in the offset table
+-- the place of object n, as its entry in the offset table gives it
 abbrev pub off : List ℕ → Frame → ℕ → ℕ
 off f F n = num_at f (F.table + n * F.offset_size) F.offset_size
 
--- the rules of trailer numbers, in order
+-- the rules of the trailer's numbers, in order
 abbrev pub number_rules : List Rule
-number_rules = NoObjects ∷ Top ∷ TableEarly ∷ TableLate ∷ OffsetSize ∷ RefSize ∷ Length ∷ RefNarrow ∷ OffsetNarrow ∷ []
+number_rules =
+    NoObjects ∷ Top ∷ TableEarly ∷ TableLate ∷ OffsetSize ∷ RefSize ∷ Length ∷ RefNarrow ∷ OffsetNarrow ∷ []
 
 -- rules 1 to 12 in order
 abbrev pub trailer_rules : List Rule
@@ -37,7 +38,7 @@ trailer_rules = TooLarge ∷ TooShort ∷ Magic ∷ number_rules
 abbrev pub frame_rules : List Rule
 frame_rules = trailer_rules ++ OffsetHigh ∷ []
 
--- the file keeps this rule of 1 to 13
+-- the file keeps this one of rules 1 to 13
 abbrev pub Keeps : List ℕ → Rule → Type 0
 Keeps f TooLarge = length f ≤ 4294967295
 Keeps f TooShort = 41 ≤ length f

@@ -11,19 +11,22 @@ use Rattle.bplist_objects.specs.Rules.{IsFirstFault}
 use Rattle.bplist_objects.specs.Claims.{FailsAt}
 use Rattle.bplist_objects.specs.Scan.{IsFirstNotBelow}
 
--- how many bytes before the file's end each of rules 1 to 12 is broken, but for rule 3, which is at a place of its own
+-- for rules 1 to 12, how many bytes before the file's end each is broken; rule 3 has a place of its own
 abbrev pub from_end : List ℕ
 from_end = 0 ∷ 0 ∷ 0 ∷ 24 ∷ 16 ∷ 8 ∷ 8 ∷ 26 ∷ 25 ∷ 32 ∷ 25 ∷ 26 ∷ []
 
--- the file breaks this rule of 1 to 13, for this object and at this place; rule 13 by the first such entry
+-- the file breaks this one of rules 1 to 13 with this object and place; rule 13 with its first such entry
 abbrev pub Breaks : List ℕ → Rule → Option ObjectNo → ℕ → Type 0
-Breaks f Magic object place = FailsAt (λ n. (i : ℕ) → i < n → slice_index f i ≡ slice_index header i) 8 place × (object ≡ None)
+Breaks f Magic object place =
+    FailsAt (λ n. (i : ℕ) → i < n → slice_index f i ≡ slice_index header i) 8 place × (object ≡ None)
 Breaks f OffsetHigh object place =
-    (n : ℕ) × IsFirstNotBelow f (trailer f).table (trailer f).offset_size (trailer f).objects (trailer f).table n
-    × (object ≡ Some (record { 0 = n })) × (place ≡ (trailer f).table + n * (trailer f).offset_size)
+    let F = trailer f in
+    (n : ℕ) × IsFirstNotBelow f F.table F.offset_size F.objects F.table n
+    × (object ≡ Some (record { 0 = n })) × (place ≡ F.table + n * F.offset_size)
 Breaks f rule object place =
-    (Keeps f rule → ⊥) × (object ≡ None) × (place + slice_index from_end (tag_of the_type rule) ≡ length f)
+    (Keeps f rule → ⊥) × (object ≡ None)
+    × (place + slice_index from_end (tag_of the_type rule) ≡ length f)
 
--- the first broken rule of 1 to 13
+-- the fault is of the first broken one of rules 1 to 13
 abbrev pub IsFrameFault : List ℕ → Fault → Type 0
 IsFrameFault f fault = IsFirstFault (Keeps f) (Breaks f) frame_rules fault

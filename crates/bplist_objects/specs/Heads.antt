@@ -1,5 +1,4 @@
--- What an object spells, which is the meaning of the body behind its front. Source: the format comment of
--- CFBinaryPList.c.
+-- What an object spells: the meaning of the body after its front. Source: the format comment of CFBinaryPList.c.
 use Rattle.std.specs.Prelude.{◌≡◌, ℕ, ◌+◌, ◌*◌, ◌<◌, ◌≤◌, List, [], ◌++◌, All, true, false}
 use Rattle.bplist_octets.specs.Octets.{part}
 use Rattle.bplist_objects.specs.declared.frame.Frame.{Frame}
@@ -18,12 +17,12 @@ pub data Content : Type 0 where
   set : List ℕ → Content
   dict : (keys values : List ℕ) → Content
 
--- the references in written order; of a dictionary keys first, then values
+-- the references in file order; in a dictionary the keys come before the values
 abbrev pub refs : Content → List ℕ
 refs content = elim content [ leaf l ↦ [] | array ms ↦ ms | set ms ↦ ms | dict ks ms ↦ ks ++ ms ]
 
 module _ (f : List ℕ) (F : Frame) where
-  -- object n has this head between place 8 and the table: rules 14 to 17
+  -- object n has this head, and lies between place 8 and the table: rules 14 to 17
   pub record HasShape (n : ℕ) (head : Head) : Type 0 where
     pub low : 8 ≤ off f F n
     pub has : HasHead f F n head
@@ -43,14 +42,14 @@ module _ (f : List ℕ) (F : Frame) where
   content_of kinds.Uid count body = leaf (uid (num_at f body count))
   content_of kinds.Array count body = array (nums_at f body F.ref_size count)
   content_of kinds.Set count body = set (nums_at f body F.ref_size count)
-  content_of kinds.Dict count body = dict (nums_at f body F.ref_size count) (nums_at f (body + count * F.ref_size) F.ref_size count)
+  content_of kinds.Dict count body =
+      dict (nums_at f body F.ref_size count) (nums_at f (body + count * F.ref_size) F.ref_size count)
 
   -- what the body of this head means
   abbrev pub content_at : Head → Content
   content_at head = content_of head.kind head.count head.body
 
-  -- object n has a head whose body means this content: ASCII text has bytes below 128, a UID is at most 4294967295, and each
-  -- reference is the number of an object
+  -- object n's body means this content; Ascii is below 128, a UID at most 4294967295, references are objects
   pub record Spells (n : ℕ) (content : Content) : Type 0 where
     pub shape : Head
     pub has : HasShape n shape

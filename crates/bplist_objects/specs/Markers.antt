@@ -1,5 +1,6 @@
--- The head that marker and count announce, found by a function, and the same by place and index, for contracts and proofs
--- inside crates. Announced says what a head is; the lemmas `head_is_found` and `found_head` tie the two. Source: as there.
+-- The head that marker and count announce, as a function, and the same by place and index, for contracts and proofs
+-- inside crates. Announced says what a head is; the lemmas `head_is_found` and `found_head` tie the two. Source: as
+-- there.
 use Rattle.std.specs.Prelude.{◌≡◌, ◌⊎◌, ℕ, ◌+◌, ◌-◌, ◌*◌, ◌^◌, ◌<◌, ◌≤◌, Bool, true, false, ◌&&◌, nat_eq, nat_le, if◌then◌else◌, List, [], ◌∷◌, slice_index, Option, Some, None, find}
 use Rattle.std.specs.Option.{option_map, option_and_then}
 use Rattle.bplist_objects.specs.declared.frame.Frame.{Frame}
@@ -10,12 +11,12 @@ use Rattle.bplist_objects.specs.Numbers.{num_at}
 use Rattle.bplist_objects.specs.Frame.{off}
 use Rattle.bplist_objects.specs.Announced.{item_size}
 
--- how markers say a count: each from the least to the greatest its own, or all with this high half in the low half, where 15 says that it follows
+-- how markers give a count: by a function of the marker, or as the low half of this high half (15: it follows)
 pub data Markers : Type 0 where
   plain : (low high : ℕ) → (ℕ → ℕ) → Markers
   counted : (high : ℕ) → Markers
 
--- the markers of each kind and the counts that they say
+-- the markers of each kind and the counts that they give
 abbrev pub markers_of : Kind → Markers
 markers_of kinds.Null = plain 0 0 (λ marker. 0)
 markers_of kinds.False = plain 8 8 (λ marker. 0)
@@ -42,11 +43,11 @@ all_kinds =
     kinds.Null ∷ kinds.False ∷ kinds.True ∷ kinds.Int ∷ kinds.Real ∷ kinds.Date ∷ kinds.Bytes ∷ kinds.Ascii ∷ kinds.Wide ∷ kinds.Uid
     ∷ kinds.Array ∷ kinds.Set ∷ kinds.Dict ∷ []
 
--- the kind of a marker, if the byte is one
+-- the kind of a marker, if the byte is a marker
 unfoldable pub kind_at : ℕ → Option Kind
 kind_at marker = find (λ kind. is_marker_of (markers_of kind) marker) all_kinds
 
--- the count that stands behind the marker as the number of an Int, and the place after it, if there is one
+-- the count after the marker, as the number of an Int, and the place after it, if there is one
 abbrev pub long_found : List ℕ → ℕ → Option (ℕ × ℕ)
 long_found f place =
     let size = 2 ^ (slice_index f (place + 1) - 16) in
@@ -97,17 +98,17 @@ IsLongOf (counted high) marker = marker ≡ 16 * high + 15
 abbrev pub IsLong : ℕ → Type 0
 IsLong marker = (kind : Kind) × IsLongOf (markers_of kind) marker
 
--- the byte behind such a marker is that of an integer of 1 to 16 bytes
+-- the byte after such a marker is that of an integer of 1 to 16 bytes
 abbrev pub IsIntMarker : ℕ → Type 0
 IsIntMarker form = (16 ≤ form) × (form ≤ 20)
 
--- the count behind the marker, and the place after it
+-- the count after the marker, and the place after that count
 abbrev pub HasLongCount : List ℕ → ℕ → ℕ → ℕ → Type 0
 HasLongCount f place count body =
     (w : ℕ) × (w ≤ 4) × (slice_index f (place + 1) ≡ 16 + w) × (count ≡ num_at f (place + 2) (2 ^ w))
     × (body ≡ place + 2 + 2 ^ w)
 
--- marker and count are of this form and announce this count and body
+-- marker and count have this form and announce this count and body
 abbrev pub AnnouncesAs : List ℕ → ℕ → Markers → ℕ → ℕ → Type 0
 AnnouncesAs f place (plain low high says) count body =
     (low ≤ slice_index f place) × (slice_index f place ≤ high) × (count ≡ says (slice_index f place)) × (body ≡ place + 1)
@@ -119,7 +120,7 @@ AnnouncesAs f place (counted high) count body =
 abbrev pub Announces : List ℕ → ℕ → Kind → ℕ → ℕ → Type 0
 Announces f place kind count body = AnnouncesAs f place (markers_of kind) count body
 
--- a marker of this form may say this count
+-- a marker of this form may give this count
 abbrev pub MarkersCount : Markers → ℕ → Type 0
 MarkersCount (plain low high says) count = (marker : ℕ) × (low ≤ marker) × (marker ≤ high) × (count ≡ says marker)
 MarkersCount (counted high) count = Unit {0}

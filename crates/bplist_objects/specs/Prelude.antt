@@ -1,4 +1,4 @@
--- The names that the clauses of this crate cite, passed on from one place. Declares nothing.
+-- The names that the contracts of this crate use, gathered from other files. Declares nothing.
 pub use Rattle.std.specs.Ordering.{ordering_reverse}
 pub use Rattle.std.specs.declared.cmp.Ordering.TheVariants.{Less, Equal}
 pub use Rattle.bplist_octets.specs.Meaning.{Honestly, OnlyReads, last_count}

@@ -8,7 +8,7 @@ module _ (f : List ℕ) (F : Frame) where
   abbrev pub Refs : ℕ → ℕ → Type 0
   Refs n m = (c : Content) × Spells f F n c × Contains (refs c) m
 
-  -- object n is reached: the top, and what reached objects refer to
+  -- object n is reachable: the top is, and what reachable objects refer to
   pub data Reach : ℕ → Type 0 where
     top : Reach F.top.0
     next : {n m : ℕ} → Reach n → Refs n m → Reach m

@@ -16,6 +16,6 @@ IsFirstFault keeps breaks (rule ∷ rules) fault =
     ((fault.rule ≡ rule) × breaks rule fault.object fault.place)
     ⊎ (keeps rule × IsFirstFault keeps breaks rules fault)
 
--- the object named is n, and it breaks the rule at this place
+-- the object is n, and it breaks the rule at this place
 abbrev pub OfObject : ℕ → (Rule → ℕ → Type 0) → Rule → Option ObjectNo → ℕ → Type 0
 OfObject n breaks rule object place = (object ≡ Some (record { 0 = n })) × breaks rule place

@@ -1,4 +1,4 @@
--- With which frames and heads the parts of a file can be read, whatever its source gives. Source: profile.
+-- The frames and heads with which the parts of a file can be read over any source. Source: profile.
 use Rattle.std.specs.Prelude.{◌≡◌, ℕ, ◌+◌, ◌*◌, ◌<◌, ◌≤◌}
 use Rattle.bplist_objects.specs.declared.frame.Frame.{Frame}
 use Rattle.bplist_objects.specs.declared.head.Head.{Head}
@@ -6,7 +6,7 @@ use Rattle.bplist_objects.specs.declared.kind.Kind.{Kind}
 use Rattle.bplist_objects.specs.declared.kind.Kind.TheVariants as kinds
 use Rattle.bplist_objects.specs.Announced.{MayCount, item_size}
 
--- frame and length allow reading: sizes are 1 to 8, the table lies within
+-- a source of this length can be read with the frame: its sizes are 1 to 8, and its table is inside
 pub record IsSafe (len : ℕ) (frame : Frame) : Type 0 where
   pub offset_low : 1 ≤ frame.offset_size
   pub offset_high : frame.offset_size ≤ 8
@@ -14,23 +14,24 @@ pub record IsSafe (len : ℕ) (frame : Frame) : Type 0 where
   pub ref_high : frame.ref_size ≤ 8
   pub room : frame.table + frame.objects * frame.offset_size ≤ len
 
--- besides, the top is an object, and there is room for one before the table
+-- besides, the top is an object, and there is room for an object before the table
 pub record IsSafeFrame (len : ℕ) (frame : Frame) : Type 0 where
   pub safe : IsSafe len frame
   pub top : frame.top.0 < frame.objects
   pub table : 9 ≤ frame.table
 
--- how many references a head has
+-- the number of references of an object with this kind and count
 abbrev pub ref_count : Kind → ℕ → ℕ
-ref_count kind count = elim kind [ kinds.Array ↦ count | kinds.Set ↦ count | kinds.Dict ↦ 2 * count | _ ↦ 0 ]
+ref_count kind count =
+    elim kind [ kinds.Array ↦ count | kinds.Set ↦ count | kinds.Dict ↦ 2 * count | _ ↦ 0 ]
 
--- the parts of an object with this head lie before the table
+-- the parts of an object with this head are before the table
 pub record IsSafeHead (frame : Frame) (head : Head) : Type 0 where
   pub may : MayCount head.kind head.count
   pub body : head.body + head.count * item_size frame.ref_size head.kind ≤ head.«end»
   pub table : head.«end» ≤ frame.table
 
--- the body of this head lies in so many bytes
+-- the body of this head is inside a source of this length
 pub record IsSafeBody (len : ℕ) (head : Head) : Type 0 where
   pub may : MayCount head.kind head.count
   pub body : head.body + head.count * item_size 1 head.kind ≤ head.«end»

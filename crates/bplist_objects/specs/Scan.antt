@@ -1,4 +1,4 @@
--- Numbers of one size that stand one behind the other, and the first of them that is too large. Source: profile.
+-- Consecutive numbers of one size, and the first of them that is too large. Source: profile.
 use Rattle.std.specs.Prelude.{◌≡◌, ℕ, ◌+◌, ◌*◌, ◌<◌, List, length, slice_index, slice_index_or}
 use Rattle.bplist_objects.specs.declared.frame.Frame.{Frame}
 use Rattle.bplist_objects.specs.declared.head.Head.{Head}
@@ -23,7 +23,8 @@ AreBelow f place size count bound = (k : ℕ) → k < count → nth_number f pla
 
 -- number i is the first that is not below the bound
 abbrev pub IsFirstNotBelow : List ℕ → ℕ → ℕ → ℕ → ℕ → ℕ → Type 0
-IsFirstNotBelow f place size count bound i = FailsAt (λ many. AreBelow f place size many bound) count i
+IsFirstNotBelow f place size count bound i =
+    FailsAt (λ many. AreBelow f place size many bound) count i
 
 -- reference i of an object with this head
 abbrev pub ref : List ℕ → Frame → Head → ℕ → ℕ

@@ -1,8 +1,8 @@
--- The form of the small files to try the definitions on. Source: the format comment of CFBinaryPList.c.
+-- The small files on which the definitions are tried. Source: the format comment of CFBinaryPList.c.
 use Rattle.std.specs.Prelude.{ℕ, ◌+◌, List, [], ◌∷◌, ◌++◌, length, replicate}
 use Rattle.bplist_objects.specs.Frame.{header}
 
--- a file of these objects, with entries and references of one byte and the top 0
+-- a file of these objects, with entries and references of one byte, and top 0
 abbrev pub small_file : List ℕ → List ℕ → List ℕ
 small_file objects entries =
     header ++ objects ++ entries ++ replicate 6 0 ++ (1 ∷ 1 ∷ []) ++ replicate 7 0 ++ (length entries ∷ [])

@@ -1,4 +1,5 @@
--- The units of a text, and the order of lists of units. Source: the format comment of CFBinaryPList.c; the order: profile.
+-- The units of a text, and the order of lists of units. Source: the format comment of CFBinaryPList.c; the order is
+-- profile.
 use Rattle.std.specs.Prelude.{ℕ, List, []}
 use Rattle.std.specs.declared.cmp.Ordering.{Ordering}
 use Rattle.std.specs.Ordering.{nat_cmp}
@@ -13,9 +14,10 @@ use Rattle.bplist_objects.specs.Numbers.{nums_at}
 abbrev pub IsTextKind : Kind → Type 0
 IsTextKind kind = elim kind [ kinds.Ascii ↦ Unit {0} | kinds.Wide ↦ Unit {0} | _ ↦ ⊥ ]
 
--- consecutive units of a text of this kind; a byte is one unit
+-- consecutive units of a text of this kind; in Ascii each byte is a unit
 abbrev pub units_at : List ℕ → Kind → ℕ → ℕ → List ℕ
-units_at f kind count at = elim kind [ kinds.Ascii ↦ part f at count | kinds.Wide ↦ nums_at f at 2 count | _ ↦ [] ]
+units_at f kind count at =
+    elim kind [ kinds.Ascii ↦ part f at count | kinds.Wide ↦ nums_at f at 2 count | _ ↦ [] ]
 
 -- the units of the text with this head
 abbrev pub units_of : List ℕ → Head → List ℕ

@@ -1,5 +1,5 @@
--- Values: finite trees. Source: the format comment of CFBinaryPList.c for the kinds; that a text forgets how it was spelled and
--- an integer how wide it was is this project's choice (profile).
+-- Values: finite trees. Source: the format comment of CFBinaryPList.c for the kinds; that a text forgets its encoding
+-- and an integer its width is this project's choice (profile).
 use Rattle.std.specs.Prelude.{ℕ, ℤ, List, [], ◌∷◌, Bool}
 
 -- a value without parts; a text is its UTF-16 units

@@ -17,6 +17,6 @@ rule_words =
 abbrev pub word_of : Rule → List ℕ
 word_of rule = codes (get_or rule_words (tag_of the_type rule) "")
 
--- the number of a rule: its place among the declared rules, from 1
+-- the number of a rule: its index among the declared rules, from 1
 abbrev pub number_of : Rule → ℕ
 number_of rule = suc (tag_of the_type rule)

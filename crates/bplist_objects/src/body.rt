@@ -1,4 +1,4 @@
-//! The bodies of objects, and heads by all rules of an object by itself.
+//! The bodies of objects by rules 18 to 20, and heads by rules 14 to 20.
 
 ghost use Rattle.std.specs.Prelude.{◌≡◌, ◌<◌, IfOk, length};
 ghost use Rattle.bplist_objects.specs.Prelude.{OnlyReads, Honestly, HonestlyBy, off, IsSafe, IsSafeHead, Gives, Never, read_failed, KeepsAll, HasHead, Content, content_at, Spells, IsHeadOf, KeepsByObject, IsObjectFault, body_rules, object_rules};
@@ -14,8 +14,8 @@ use crate::rule::Rule;
 use crate::scan::{first_high_in, first_not_below};
 use bplist_octets::Source;
 
-/// Looks at the body of object `n`, which stands at `place`, by rules 18 to 20, where this is its head as `shape_at` answers
-/// it. `Read` is answered where a read failed.
+/// Checks the body of object `n` at `place` by rules 18 to 20, and returns the fault of the first that is broken.
+/// `head` is the head that `shape_at` returns for the object. If a read fails, returns `Read`.
 #[inline(always)]
 #[tactic(auto, using(crate::proofs::HeadLaws::uid_count))]
 pub fn check_body<S: Source>(
@@ -60,12 +60,12 @@ pub fn check_body<S: Source>(
     }
 }
 
-/// The head of object `n`, or the first of rules 14 to 20 that it breaks.
+/// Returns the head of object `n`, or the fault of the first of rules 14 to 20 that it breaks.
 ///
-/// `place` is the object's place as `offset_of` answers it. Over the file that the frame is of, with that
-/// place, a head is answered exactly where the object spells one. A place at or behind the table, which no
-/// such file has, is answered as OffsetHigh. Over any source and with any place the head lies before the
-/// table, and its body behind `place`.
+/// `place` is the object's place as `offset_of` returns it. With that place, over the file whose frame it is, the call
+/// returns a head if and only if the object spells a content. A place that is not below the table, which no such file
+/// has, is the fault OffsetHigh. If a read fails, returns `Read`. Over any source and with any place the head ends
+/// before the table, and its body begins after `place`.
 pub fn head_at<S: Source>(
     src: &mut S,
     frame: &Frame,
@@ -86,12 +86,12 @@ pub fn head_at<S: Source>(
     Ok(head)
 }
 
-/// The head of object `n`, or the first of rules 14 to 20 that it breaks, with the object and the place,
-/// from the file's first byte.
+/// Returns the head of object `n`, or the fault of the first of rules 14 to 20 that it breaks, with the object and the
+/// place from the start of the file.
 ///
-/// The frame must fit the source and `n` must be an object. Over the file that the frame is of a head is
-/// answered exactly where the object spells one. `Read` is answered where a read failed. Over any source the
-/// head lies before the table.
+/// The frame must fit the source, and `n` must be an object. Over the file whose frame it is, the call returns a head
+/// if and only if the object spells a content. If a read fails, returns `Read`. Over any source the head ends before
+/// the table.
 pub fn head_of<S: Source>(src: &mut S, frame: &Frame, n: ObjectNo) -> Result<Head, ObjectFault>
     requires safe { IsSafe (length (S.means src.old).octets) frame.now }
     requires within { n.0 < frame.now.objects }

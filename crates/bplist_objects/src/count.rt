@@ -1,4 +1,4 @@
-//! The count of an object: in its marker, or as an integer object behind it.
+//! The count of an object, in its marker or as an integer object after it.
 
 ghost use Rattle.std.specs.Prelude.{◌≡◌, ℕ, ◌+◌, ◌^◌, ◌≤◌, ◌<◌, List, true, IfOk, IfSome, MatchOption, length, slice_index};
 ghost use Rattle.bplist_objects.specs.Prelude.{OnlyReads, Honestly, Gives, read_failed, Marks, markers_of, is_counted, IsLongOf, HasLongCount, Announces, MarkersCount, IsLongCountFault};
@@ -10,7 +10,6 @@ use crate::numbers::{octet_in, wide_in};
 use crate::rule::Rule;
 use bplist_octets::Source;
 
-/// A small power of two.
 fn power_of_2(w: u8) -> u8
     requires { w ≤ 4 }
     ensures { result ≡ 2 ^ w }
@@ -24,8 +23,9 @@ fn power_of_2(w: u8) -> u8
     }
 }
 
-/// The count that stands behind the marker at `place`, and the first place after it, where the table is not nearer than
-/// the count says, as each of it takes a byte at least.
+/// Returns the count that follows the marker at `place`, and the place after it, or a fault of rule 16 or 17. Each item
+/// of the count takes at least one byte, so a count that is greater than the number of bytes up to the table breaks
+/// rule 17.
 #[inline(always)]
 pub(crate) fn long_count<S: Source>(
     src: &mut S,
@@ -43,7 +43,7 @@ pub(crate) fn long_count<S: Source>(
     if table - place <= 1 {
         return Err(broken(Rule::Extent, n, place));
     }
-    // Most have one byte: that and the marker of the count are one read.
+    // Most such counts have one byte, which is read together with its marker.
     if table - place >= 3 {
         let mut octets = [0u8; 2];
         src.read_at(place + 1, &mut octets)?;
@@ -67,7 +67,7 @@ pub(crate) fn long_count<S: Source>(
     Ok((count as u64, body))
 }
 
-/// The count that a marker of this kind holds, where it does not say that the count stands behind it.
+/// Returns the count that a marker of this kind holds, or None if the count follows the marker.
 #[inline(always)]
 pub(crate) fn short_count(kind: Kind, marker: u8) -> Option<u8>
     requires marks { Marks marker kind }

@@ -1,4 +1,4 @@
-//! Broken rules, and why a call gave no answer.
+//! The errors of this crate: a broken rule, or a failed read.
 
 ghost use Rattle.std.specs.Prelude.{◌≡◌, Some};
 ghost use Rattle.bplist_objects.specs.Prelude.{Fault as is_fault, Read};
@@ -7,28 +7,28 @@ use crate::frame::ObjectNo;
 use crate::rule::Rule;
 use bplist_octets::ReadFault;
 
-/// A broken rule, the object that breaks it, and the place where.
+/// A broken rule, with the object and the place at which it is broken.
 #[derive(Clone, Copy, Debug, PartialEq, Eq, Drop)]
 pub struct Fault {
     /// The rule that is broken.
     pub rule: Rule,
-    /// The object that breaks it. None for rules 1 to 12, 24 to 26 and 30, which no object breaks.
+    /// The object that breaks the rule. None for rules 1 to 12, 24 to 26 and 30, which are not about one object.
     pub object: Option<ObjectNo>,
-    /// Where it is broken, counted from the file's first byte; for rules 24 to 27 and 32 from the
-    /// certificate's, for rule 30 from the path text's.
+    /// The place of the byte at which the rule is broken: in the certificate for rules 24 to 27 and 32, in the path
+    /// text for rule 30, and in the file for all others.
     pub place: u64,
 }
 
-/// Why a call gave no answer: a broken rule or a failed read.
+/// Why a call failed: a broken rule or a failed read.
 #[derive(Clone, Copy, Debug, PartialEq, Eq, Drop)]
 pub enum ObjectFault {
-    /// A rule is broken: this one, at this place.
+    /// A rule is broken.
     Fault(Fault),
-    /// A read of the source failed. Nothing is said of the file.
+    /// A read of the source failed. This says nothing about the file.
     Read(ReadFault),
 }
 
-/// The answer that object `n` breaks a rule at a place.
+/// Returns the error that object `n` breaks this rule at this place.
 pub(crate) fn broken(rule: Rule, n: ObjectNo, place: u64) -> ObjectFault
     ensures { result ≡ is_fault (record { rule = rule; object = Some n; place = place }) }
 {

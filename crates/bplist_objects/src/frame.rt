@@ -1,4 +1,4 @@
-//! The frame of a file: the five numbers of its trailer.
+//! The frame of a file (the five numbers of its trailer), by rules 1 to 13.
 
 ghost use Rattle.std.specs.Prelude.{◌≡◌, ℕ, ◌^◌, ◌≤◌, ◌<◌, List, length, IfOk, MatchResult};
 ghost use Rattle.bplist_objects.specs.Prelude.{OnlyReads, Honestly, trailer as spelled, Keeps, IsFrame, number_rules, trailer_rules, KeepsAll, IsFirstFault, Breaks, IsFrameFault, IsSafeFrame, frame_of_trailer, Magic, Frame as frame, Gives, Never, read_failed};
@@ -10,26 +10,26 @@ use crate::rule::Rule;
 use crate::scan::first_not_below;
 use bplist_octets::{Source, sized};
 
-/// The number of an object, from 0: the number of its entry in the offset table.
+/// The number of an object, from 0: the index of its entry in the offset table.
 #[derive(Clone, Copy, Debug, PartialEq, Eq, Drop)]
 pub struct ObjectNo(pub u32);
 
-/// What the trailer of a file says.
+/// The five numbers of a file's trailer.
 #[derive(Clone, Copy, Debug, PartialEq, Eq, Drop)]
 pub struct Frame {
-    /// How many bytes an entry of the offset table has.
+    /// The size of an entry of the offset table, in bytes.
     pub offset_size: u8,
-    /// How many bytes a reference has.
+    /// The size of a reference, in bytes.
     pub ref_size: u8,
-    /// How many objects there are.
+    /// The number of objects.
     pub objects: u32,
-    /// The object that the file is about.
+    /// The top object, whose value is the file's value.
     pub top: ObjectNo,
-    /// The place of the offset table, from the file's first byte.
+    /// The place of the offset table, from the start of the file.
     pub table: u64,
 }
 
-/// The five numbers of a trailer, not looked at yet.
+/// The five numbers of a trailer, before any check.
 #[derive(Clone, Copy, Debug, PartialEq, Eq, Drop)]
 struct Trailer {
     offset_size: u8,
@@ -51,7 +51,7 @@ fn fault_at(rule: Rule, place: u64) -> Fault
     }
 }
 
-/// Looks at the header.
+/// Checks the first eight bytes by rule 3.
 fn check_header<S: Source>(src: &mut S) -> Result<(), ObjectFault>
     requires { 8 ≤ length (S.means src.old).octets }
     ensures reads { OnlyReads (read_failed result) (S.means src.old) (S.means src.new) }
@@ -68,7 +68,6 @@ fn check_header<S: Source>(src: &mut S) -> Result<(), ObjectFault>
     Ok(())
 }
 
-/// A power of 256.
 fn power_of_256(k: u8) -> u64
     requires { k < 8 }
     ensures { result ≡ 256 ^ k }
@@ -76,8 +75,8 @@ fn power_of_256(k: u8) -> u64
     1u64 << (8 * k)
 }
 
-/// The frame that the numbers of a trailer give, in a file of so many bytes, or the first of rules 4 to 12
-/// that they break.
+/// Returns the frame of this trailer in a file of `len` bytes, or the fault of the first of rules 4 to 12 that is
+/// broken.
 fn frame_by(trailer: &Trailer, len: u64) -> Result<Frame, Fault>
     requires low { 41 ≤ len }
     requires high { len ≤ 4294967295 }
@@ -105,7 +104,7 @@ fn frame_by(trailer: &Trailer, len: u64) -> Result<Frame, Fault>
         return Err(fault_at(Rule::RefSize, len - 25));
     }
     let room = len - 32 - trailer.table;
-    // Each entry has a byte at least. With no more objects than bytes the product is far below 2^64.
+    // Each entry has at least one byte, so the first test keeps the product far below 2^64.
     if trailer.objects > room || trailer.objects * trailer.offset_size as u64 != room {
         return Err(fault_at(Rule::Length, len - 32));
     }
@@ -124,11 +123,12 @@ fn frame_by(trailer: &Trailer, len: u64) -> Result<Frame, Fault>
     })
 }
 
-/// The frame that the trailer gives, or the fault of the first of rules 1 to 12 that is broken, in their
-/// order. It names no object, and its place counts from the file's first byte. The entries of the offset
-/// table are not read: a caller who keeps what they say looks at rule 13 OffsetHigh there, and any other asks
-/// `frame_of`. `Read` is answered where a read failed. Over any source the frame fits it: its sizes are 1 to
-/// 8, its table lies within, and its top is an object.
+/// Returns the frame of the file, or the fault of the first of rules 1 to 12 that is broken, in their order. The fault
+/// names no object, and its place is from the start of the file. If a read fails, returns `Read`.
+///
+/// The entries of the offset table are not read, so rule 13 OffsetHigh may be broken. Use this call if you check the
+/// entries when you read them, and `frame_of` otherwise. Over any source the frame fits the source: its sizes are 1 to
+/// 8, its table is inside, and its top is below its number of objects.
 pub fn trailer_of<S: Source>(src: &mut S) -> Result<Frame, ObjectFault>
     ensures reads { OnlyReads (read_failed result) (S.means src.old) (S.means src.new) }
     ensures exact { Honestly (S.means src.old) (λ f. Gives (λ F. (F ≡ spelled f) × KeepsAll (Keeps f) trailer_rules)
@@ -155,11 +155,12 @@ pub fn trailer_of<S: Source>(src: &mut S) -> Result<Frame, ObjectFault>
     Ok(frame_by(&trailer, len)?)
 }
 
-/// The frame of the file, or the fault of the first of rules 1 to 13 that is broken, in their order. The
-/// fault names an object where rule 13 OffsetHigh is broken, and its place counts from the file's first
-/// byte. Where the source is honest a frame is answered exactly where the file has one. `Read` is answered
-/// where a read failed. Over any source the frame fits it: its sizes are 1 to 8, its table lies within, and
-/// its top is an object.
+/// Returns the frame of the file, or the fault of the first of rules 1 to 13 that is broken, in their order. The place
+/// of the fault is from the start of the file. The fault names an object only for rule 13 OffsetHigh. If a read fails,
+/// returns `Read`.
+///
+/// Over an honest source the call returns a frame if and only if the file has one. Over any source the frame fits the
+/// source: its sizes are 1 to 8, its table is inside, and its top is below its number of objects.
 pub fn frame_of<S: Source>(src: &mut S) -> Result<Frame, ObjectFault>
     ensures reads { OnlyReads (read_failed result) (S.means src.old) (S.means src.new) }
     ensures exact { Honestly (S.means src.old) (λ f. Gives (IsFrame f) (IsFrameFault f) result) }

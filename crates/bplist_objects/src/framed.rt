@@ -1,4 +1,4 @@
-//! Sources that know their frame.
+//! Sources that have their frame, so that calls need not pass it along.
 
 ghost use Rattle.std.specs.Prelude.{◌≡◌, length, IsTrue};
 ghost use Rattle.bplist_objects.specs.Prelude.{borrowed, IsFrame, IsSafeFrame, IsFramed, frame_in, with_frame};
@@ -6,18 +6,19 @@ ghost use Rattle.bplist_objects.specs.Prelude.{borrowed, IsFrame, IsSafeFrame, I
 use crate::frame::Frame;
 use bplist_octets::{ReadFault, Source};
 
-/// A source that holds its frame: the one of its bytes, where it is honest. Over any source its parts can be read with it.
+/// A source that has a frame. If the source is honest, it is the frame of its bytes. Over any source the frame fits, so
+/// every part can be read.
 pub trait Framed: Source {
-    /// The frame.
+    /// Returns the frame.
     fn frame(&self) -> Frame
         ensures frame { result ≡ frame_in (Self.means self.now) }
         ensures framed { IsFramed (Self.means self.now) };
 }
 
-/// A source that is lent, with its frame.
+/// A borrowed source with its frame.
 #[derive(Drop)]
 pub struct Plist<'a, S: Source> {
-    /// The source that is read.
+    /// The source from which all bytes come.
     pub source: &'a mut S,
     frame: Frame,
     pub ghost safe: { IsSafeFrame (length (S.means source.now).octets) frame },
@@ -25,7 +26,7 @@ pub struct Plist<'a, S: Source> {
 }
 
 impl<'a, S: Source> Plist<'a, S> {
-    /// A source with its frame, as `frame_of` answers it.
+    /// Returns a source with this frame, which must be one that `frame_of` returned for it.
     pub fn new(source: &'a mut S, frame: Frame) -> Plist<'a, S>
         requires safe { IsSafeFrame (length (S.means source.old).octets) frame }
         requires framed { IsTrue (S.means source.old).honest → IsFrame (S.means source.old).octets frame }
@@ -44,7 +45,7 @@ impl<S: Source> Source for Plist<'_, S> {
         self.source.len()
     }
 
-    // Inlined, so that a read costs what it costs the source.
+    // Inlined, so that a read costs no more than one of the source.
     #[inline(always)]
     fn read_at(&mut self, at: u64, into: &mut [u8]) -> Result<(), ReadFault> {
         self.source.read_at(at, into)

@@ -1,4 +1,4 @@
-//! The heads of objects: what marker and count say.
+//! The heads of objects (what marker and count say), by rules 14 to 17.
 
 ghost use Rattle.std.specs.Prelude.{◌≡◌, ◌<◌, ◌≤◌, IfOk, length, slice_index};
 ghost use Rattle.bplist_objects.specs.Prelude.{OnlyReads, HonestlyBy, off, IsSafe, IsSafeHead, Gives, Never, read_failed, KeepsAll, HasHead, HasShape, Head as head, KeepsByObject, IsObjectFault, shape_rules};
@@ -15,18 +15,18 @@ use bplist_octets::Source;
 /// What the marker and the count of an object say.
 #[derive(Clone, Copy, Debug, PartialEq, Eq, Drop)]
 pub struct Head {
-    /// The kind that the marker says.
+    /// The kind of the object.
     pub kind: Kind,
-    /// Bytes for Int, Real, Date, Bytes, Ascii and Uid; units for Wide; members for Array and Set;
-    /// pairs for Dict; 0 for Null, False and True.
+    /// The number of items in the body: bytes for Int, Real, Date, Bytes, Ascii and Uid, units for Wide, members for
+    /// Array and Set, pairs for Dict, and 0 for Null, False and True.
     pub count: u64,
-    /// The place of the first byte after the marker and the count, from the file's first byte.
+    /// The place of the first byte after the marker and the count, from the start of the file.
     pub body: u64,
-    /// The place after the object's last byte, from the file's first byte.
+    /// The place after the object's last byte, from the start of the file.
     pub end: u64,
 }
 
-/// The marker of object `n`, whose place is known.
+/// Returns the marker of object `n` at `place`, or its fault by rule 13 or 14.
 #[inline(always)]
 pub(crate) fn marker_at<S: Source>(
     src: &mut S,
@@ -51,7 +51,7 @@ pub(crate) fn marker_at<S: Source>(
     Ok(octet_in(src, place)?)
 }
 
-/// The head of object `n`, whose place is known, by its marker.
+/// Returns the head of object `n` at `place`, whose marker is `marker`, or its fault by rule 15, 16 or 17.
 #[inline(always)]
 #[tactic(auto, using(crate::proofs::HeadLaws::may_count, crate::proofs::HeadLaws::may_count_long))]
 pub(crate) fn head_by_marker<S: Source>(
@@ -75,7 +75,7 @@ pub(crate) fn head_by_marker<S: Source>(
     let Some(kind) = kind_of(marker) else {
         return Err(broken(Rule::Marker, n, place));
     };
-    // Most counts stand in the marker, and the few numbers that they are need no wide product.
+    // Most counts are in the marker. They are so small that the product needs no u128.
     let Some(count) = short_count(kind, marker) else {
         let (count, body) = long_count(src, frame.table, place, n)?;
         let unit = item_size(kind, frame.ref_size);
@@ -102,12 +102,13 @@ pub(crate) fn head_by_marker<S: Source>(
     })
 }
 
-/// The head of object `n`, by marker and count alone, or the first of rules 14 to 17 that it breaks.
+/// Returns the head of object `n`, from marker and count only, or the fault of the first of rules 14 to 17 that it
+/// breaks.
 ///
-/// `place` is the object's place as `offset_of` answers it. Over the file that the frame is of, with that
-/// place, a head is answered exactly where the object has one. A place at or behind the table, which no such
-/// file has, is answered as OffsetHigh. Over any source and with any place the head lies before the table,
-/// and its body behind `place`.
+/// `place` is the object's place as `offset_of` returns it. With that place, over the file whose frame it is, the call
+/// returns a head if and only if the object has one. A place that is not below the table, which no such file has, is
+/// the fault OffsetHigh. If a read fails, returns `Read`. Over any source and with any place the head ends before the
+/// table, and its body begins after `place`.
 #[inline(always)]
 pub fn shape_at<S: Source>(
     src: &mut S,
@@ -128,11 +129,11 @@ pub fn shape_at<S: Source>(
     head_by_marker(src, frame, n, place, marker)
 }
 
-/// The head of object `n`, by marker and count alone, or the first of rules 14 to 17 that it breaks, with
-/// the object and the place, from the file's first byte. The bytes of the body are not looked at.
+/// Returns the head of object `n`, from marker and count only, or the fault of the first of rules 14 to 17 that it
+/// breaks, with the object and the place from the start of the file. The bytes of the body are not read.
 ///
-/// The frame must fit the source and `n` must be an object. `Read` is answered where a read failed. Over any
-/// source the head lies before the table.
+/// The frame must fit the source, and `n` must be an object. If a read fails, returns `Read`. Over any source the head
+/// ends before the table.
 pub fn shape_of<S: Source>(src: &mut S, frame: &Frame, n: ObjectNo) -> Result<Head, ObjectFault>
     requires safe { IsSafe (length (S.means src.old).octets) frame.now }
     requires within { n.0 < frame.now.objects }

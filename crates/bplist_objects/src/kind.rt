@@ -20,26 +20,26 @@ pub enum Kind {
     Date,
     /// Data: bytes as they are.
     Bytes,
-    /// A text of units of one byte each; by rule 18 all are below 128.
+    /// A text of one byte for each unit. By rule 18 all are below 128.
     Ascii,
-    /// A text of UTF-16 units of two bytes each.
+    /// A text of two bytes for each UTF-16 unit.
     Wide,
-    /// A UID: a number of 1 to 16 bytes; by rule 19 it is at most 4294967295.
+    /// A UID: a number of 1 to 16 bytes. By rule 19 it is at most 4294967295.
     Uid,
     /// An array: references to its members.
     Array,
     /// A set: references to its members.
     Set,
-    /// A dictionary: references to its keys, and then as many to its values.
+    /// A dictionary: references to its keys, then as many references to its values.
     Dict,
 }
 
-/// The kind that a marker is of.
+/// Returns the kind of object that begins with this marker, or None if it is no marker.
 #[tactic(auto, using(crate::proofs::HeadLaws::marker_marks))]
 pub(crate) fn kind_of(marker: u8) -> Option<Kind>
     ensures { MatchOption result (IsMarker marker → ⊥) (Marks marker) }
 {
-    // By the high half first: each kind but the first ones has halves of its own, so that one jump tells it.
+    // The high half first: most kinds have halves of their own, so one jump decides.
     match marker / 16 {
         0x0 => match marker {
             0x00 => Some(Kind::Null),
@@ -61,7 +61,7 @@ pub(crate) fn kind_of(marker: u8) -> Option<Kind>
     }
 }
 
-/// How many bytes of the body one of the count takes.
+/// Returns the number of body bytes for each item of the count.
 #[inline(always)]
 pub(crate) fn item_size(kind: Kind, ref_size: u8) -> u8
     requires { ref_size ≤ 8 }

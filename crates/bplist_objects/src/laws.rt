@@ -1,4 +1,4 @@
-//! Laws of the definitions: each is the contract of a function that does nothing.
+//! Laws of the definitions. Each is the contract of a function that does nothing.
 
 ghost use Rattle.bplist_objects.specs.declared.fault.Fault.{Fault as fault};
 ghost use Rattle.bplist_objects.specs.declared.kind.Kind.{Kind as kind};
@@ -6,7 +6,7 @@ ghost use Rattle.std.specs.Prelude.{◌≡◌, ◌↔◌, ◌⊎◌, ℕ, ◌+�
 ghost use Rattle.bplist_objects.specs.Prelude.{Frame as frame, ObjectNo as object_no, Head as head, Rule as rule, Keeps, frame_rules, IsFrame, Value, boolean, array, value, no_values, dict, pair, no_pairs, Content, refs, content_at, HasShape, Spells, IsHeadOf, Holds, FileHolds, KeepsAll, nth_number, Breaks, IsFrameFault, part, off, IsFront, HasHead, KeepsByObject, BreaksByObject, shape_rules, object_rules, IsObjectFault, ref_count, IsSafe, IsSafeFrame, IsSafeHead, Chain, Founded, small_file};
 ghost use Rattle.bplist_objects.specs.Value.{leaf};
 
-/// At one place at most one head is announced, and a front that stands there announces one.
+/// The bytes of an object announce at most one head, and each front there announces one.
 pub fn one_announced_head()
     ensures one { (f : List ℕ) (F : frame) (n : ℕ) (a b : head) → HasHead f F n a → HasHead f F n b → a ≡ b }
     ensures found { (f : List ℕ) (F : frame) (n : ℕ) (k : kind) (count : ℕ) (front : List ℕ) → IsFront k count front
@@ -14,12 +14,12 @@ pub fn one_announced_head()
         → (a : head) × HasHead f F n a × (a.kind ≡ k) × (a.count ≡ count) × (a.body ≡ off f F n + length front) }
 {}
 
-/// At one place marker and count say at most one head.
+/// Marker and count give at most one head.
 pub fn one_shape()
     ensures { (f : List ℕ) (F : frame) (n : ℕ) (a b : head) → HasShape f F n a → HasShape f F n b → a ≡ b }
 {}
 
-/// At one place at most one content is spelled.
+/// An object spells at most one content.
 pub fn one_head()
     ensures { (f : List ℕ) (F : frame) (n : ℕ) (c d : Content) → Spells f F n c → Spells f F n d → c ≡ d }
 {}
@@ -34,13 +34,13 @@ pub fn one_value_of_file()
     ensures { (f : List ℕ) (v w : Value) → FileHolds f v → FileHolds f w → v ≡ w }
 {}
 
-/// A file keeps rules 1 to 13 exactly where it has a frame.
+/// A file keeps rules 1 to 13 if and only if it has a frame.
 pub fn keeps_iff_frame()
     ensures { (f : List ℕ) → KeepsAll (Keeps f) frame_rules ↔ ((F : frame) × IsFrame f F) }
 {}
 
-/// Marker and count announce a head and the object keeps rules 14 to 17 exactly where the object has that head; and it
-/// keeps rules 14 to 20 exactly where besides it spells what the body means.
+/// Marker and count announce a head and the object keeps rules 14 to 17 if and only if the object has that head. It
+/// keeps rules 14 to 20 if and only if it also spells what the body of that head means.
 pub fn kept_iff_head()
     ensures shape { (f : List ℕ) (F : frame) → IsFrame f F → (n : ℕ) → n < F.objects
         → (a : head) → (HasHead f F n a × KeepsAll (KeepsByObject f F n) shape_rules) ↔ HasShape f F n a }
@@ -48,28 +48,29 @@ pub fn kept_iff_head()
         → (a : head) → (HasHead f F n a × KeepsAll (KeepsByObject f F n) object_rules) ↔ IsHeadOf f F n a }
 {}
 
-/// An object keeps rules 14 to 20 exactly where it spells a content.
+/// An object keeps rules 14 to 20 if and only if it spells a content.
 pub fn keeps_iff_spells()
     ensures { (f : List ℕ) (F : frame) → IsFrame f F → (n : ℕ) → n < F.objects
         → KeepsAll (KeepsByObject f F n) object_rules ↔ ((c : Content) × Spells f F n c) }
 {}
 
-/// No rule of 1 to 20 is both kept and broken.
+/// None of rules 1 to 20 is both kept and broken.
 pub fn kept_is_not_broken()
     ensures file { (f : List ℕ) (r : rule) (object : Option object_no) (place : ℕ) → Keeps f r → Breaks f r object place → ⊥ }
     ensures object { (f : List ℕ) (F : frame) (n : ℕ) (r : rule) (place : ℕ)
         → KeepsByObject f F n r → BreaksByObject f F n r place → ⊥ }
 {}
 
-/// The first broken rule of 1 to 13 is one, with its object and place, and so is that of an object's rules.
+/// A file has at most one first fault by rules 1 to 13, with its object and place. An object has at most one by its
+/// rules.
 pub fn one_first_fault()
     ensures file { (f : List ℕ) (a b : fault) → IsFrameFault f a → IsFrameFault f b → a ≡ b }
     ensures object { (f : List ℕ) (F : frame) (n : ℕ) (rules : List rule) (a b : fault)
         → IsObjectFault f F n rules a → IsObjectFault f F n rules b → a ≡ b }
 {}
 
-/// Where a rule of 1 to 13 is broken the file has no frame, where one of 14 to 17 is the object has no head, and where one
-/// of 14 to 20 is it spells nothing.
+/// If one of rules 1 to 13 is broken, the file has no frame. If one of rules 14 to 17 is broken, the object has no
+/// head. If one of rules 14 to 20 is broken, it spells nothing.
 pub fn fault_excludes()
     ensures frame { (f : List ℕ) (F : frame) (a : fault) → IsFrameFault f a → IsFrame f F → ⊥ }
     ensures shape { (f : List ℕ) (F : frame) (n : ℕ) (a : fault) (h : head) → IsObjectFault f F n shape_rules a → HasShape f F n h → ⊥ }
@@ -77,23 +78,23 @@ pub fn fault_excludes()
         → (a : fault) (c : Content) → IsObjectFault f F n object_rules a → Spells f F n c → ⊥ }
 {}
 
-/// A file has a frame, or a rule of 1 to 13 is the first that it breaks; under a frame an object spells a content, or a rule
-/// of 14 to 20 is the first that it breaks.
+/// A file has a frame, or a first fault by rules 1 to 13. If there is a frame, an object spells a content, or has a
+/// first fault by rules 14 to 20.
 pub fn kept_or_fault()
     ensures file { (f : List ℕ) → ((F : frame) × IsFrame f F) ⊎ ((a : fault) × IsFrameFault f a) }
     ensures object { (f : List ℕ) (F : frame) → IsFrame f F → (n : ℕ) → n < F.objects
         → ((c : Content) × Spells f F n c) ⊎ ((a : fault) × IsObjectFault f F n object_rules a) }
 {}
 
-/// The references of a body are the numbers that stand in it, one by one.
+/// The references of a body are the numbers in it, one by one.
 pub fn references_by_index()
     ensures count { (f : List ℕ) (F : frame) (h : head) → length (refs (content_at f F h)) ≡ ref_count h.kind h.count }
     ensures each { (f : List ℕ) (F : frame) (h : head) (i : ℕ) → i < ref_count h.kind h.count
         → slice_index (refs (content_at f F h)) i ≡ nth_number f h.body F.ref_size i }
 {}
 
-/// What frames and heads of a file meet bounds them, and so over any source: a reference ends before the table, and a
-/// source of fewer than 2^64 bytes has fewer references than that, and bodies of fewer items.
+/// Frames and heads of a file are safe (`IsSafeFrame`, `IsSafeHead`). A safe head's references end before the table. In
+/// a source of fewer than 2^64 bytes, it also has fewer than 2^64 references, and a count below 2^64.
 pub fn references_fit()
     ensures frames { (f : List ℕ) (F : frame) → IsFrame f F → IsSafeFrame (length f) F }
     ensures heads { (f : List ℕ) (F : frame) (n : ℕ) (h : head) → HasShape f F n h → IsSafeHead F h }
@@ -108,7 +109,8 @@ pub fn founded_has_no_circle()
     ensures { (f : List ℕ) (F : frame) (n : ℕ) → Founded f F n → Chain f F n n → ⊥ }
 {}
 
-/// Three small files hold their values: true, an array that has one object twice, and a dictionary from `a` to true.
+/// Three small files hold their values: true, an array that has the same object twice, and a dictionary that maps `a`
+/// to true.
 pub fn rows_hold()
     ensures true_row { FileHolds (small_file (9 ∷ []) (8 ∷ [])) (leaf (boolean true)) }
     ensures array_row { FileHolds (small_file (162 ∷ 1 ∷ 1 ∷ 9 ∷ []) (8 ∷ 11 ∷ []))

@@ -1,4 +1,4 @@
-//! The values of leaves, read at a head.
+//! The values of leaves with a given head.
 
 ghost use Rattle.std.specs.Prelude.{◌≡◌, ◌⊎◌, ◌+◌, ◌*◌, ◌^◌, ◌%◌, ◌≤◌, length, IfOk, OnOk, is_err};
 ghost use Rattle.bplist_objects.specs.Prelude.{part, OnlyReads, Honestly, integer, num_at, item_size, IsLeafKind, IsSafeBody, Int, Uid};
@@ -7,7 +7,7 @@ use crate::head::Head;
 use crate::numbers::wide_in;
 use bplist_octets::{ReadFault, Source, sized, wide};
 
-/// The integer that 1, 2, 4, 8 or 16 bytes spell.
+/// Returns the integer that 1, 2, 4, 8 or 16 bytes spell.
 fn integer_in(octets: &[u8]) -> i128
     requires some { 1 ≤ length octets.now }
     requires width { (length octets.now ≤ 4) ⊎ ((length octets.now ≡ 8) ⊎ (length octets.now ≡ 16)) }
@@ -22,9 +22,9 @@ fn integer_in(octets: &[u8]) -> i128
     }
 }
 
-/// The integer of an Int: 1, 2 and 4 bytes are unsigned, 8 and 16 are two's complement.
+/// Returns the integer of an Int: 1, 2 and 4 bytes are unsigned, 8 and 16 bytes are two's complement.
 ///
-/// The head is one of kind Int whose body lies in the source. An error is a failed read.
+/// The head must have kind Int, and its body must be inside the source. An error is a failed read.
 pub fn int_of<S: Source>(src: &mut S, head: &Head) -> Result<i128, ReadFault>
     requires kind { head.now.kind ≡ Int }
     requires head { IsSafeBody (length (S.means src.old).octets) head.now }
@@ -38,9 +38,9 @@ pub fn int_of<S: Source>(src: &mut S, head: &Head) -> Result<i128, ReadFault>
     Ok(integer_in(body))
 }
 
-/// The UID of a Uid: the low 32 bits of its bytes.
+/// Returns the UID of a Uid: the low 32 bits of its bytes.
 ///
-/// The head is one of kind Uid whose body lies in the source. An error is a failed read.
+/// The head must have kind Uid, and its body must be inside the source. An error is a failed read.
 #[tactic(auto, using(crate::proofs::HeadLaws::uid_count))]
 pub fn uid_of<S: Source>(src: &mut S, head: &Head) -> Result<u32, ReadFault>
     requires kind { head.now.kind ≡ Uid }
@@ -55,10 +55,10 @@ pub fn uid_of<S: Source>(src: &mut S, head: &Head) -> Result<u32, ReadFault>
     Ok((octets % (1 << 32)) as u32)
 }
 
-/// Fills `into` with the bytes of a leaf's body from its byte `i` on.
+/// Fills `into` with the bytes of a leaf's body from byte `i` on.
 ///
-/// The head is that of a leaf whose body lies in the source, and `into` ends within the body.
-/// An error is a failed read, and then nothing is said of `into`.
+/// The head must be that of a leaf whose body is inside the source, and `into` must not reach past the end of the body.
+/// An error is a failed read, after which `into` may hold anything.
 pub fn octets_at<S: Source>(
     src: &mut S,
     head: &Head,

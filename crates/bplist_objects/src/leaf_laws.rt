@@ -1,12 +1,12 @@
-//! Laws of leaves and of the order of units: each is the contract of a function that does nothing.
+//! Laws of leaves and of the order of units. Each is the contract of a function that does nothing.
 
 ghost use Rattle.std.specs.Prelude.{◌≡◌, ◌↔◌, ℕ, ◌≤◌, List, ℤ};
 ghost use Rattle.bplist_objects.specs.Prelude.{Less, Equal, ordering_reverse, part, Frame as frame, Head as head, integer, num_at, int, real, date, bytes, text, uid, content_at, Spells, IsTextKind, units_of, compare_units};
 ghost use Rattle.bplist_objects.specs.declared.kind.Kind.TheVariants as kinds;
 ghost use Rattle.bplist_objects.specs.Heads.{leaf};
 
-/// What a body means as a leaf is what the calls that read leaves read there. A UID that an object
-/// spells is all in its low 32 bits.
+/// If a body means a leaf, the calls that read leaves return that leaf. The low 32 bits of a UID that an object spells
+/// are the whole UID.
 pub fn leaves_by_parts()
     ensures int { (f : List ℕ) (F : frame) (h : head) (i : ℤ) → leaf (int i) ≡ content_at f F h
         → (h.kind ≡ kinds.Int) × (i ≡ integer (part f h.body h.count)) }
@@ -24,8 +24,8 @@ pub fn leaves_by_parts()
     ensures units { (f : List ℕ) (F : frame) (h : head) → IsTextKind h.kind → content_at f F h ≡ leaf (text (units_of f h)) }
 {}
 
-/// The order of units is total: only equal units compare as equal, the other way round a comparison
-/// gives the reverse, and what lies below lies below all that lies above.
+/// The order of units is total: only equal units compare as equal, swapping two lists reverses the result, and if one
+/// list is less than a second and the second less than a third, the first is less than the third.
 pub fn units_are_ordered()
     ensures equal { (us vs : List ℕ) → (compare_units us vs ≡ Equal) ↔ (us ≡ vs) }
     ensures reverse { (us vs : List ℕ) → compare_units vs us ≡ ordering_reverse (compare_units us vs) }

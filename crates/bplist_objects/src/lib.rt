@@ -1,4 +1,5 @@
-//! Trailer, offset table and objects of a binary property list, and the definition of the value that a file holds.
+//! Reads the trailer, the offset table and single objects of a binary property list, and defines the value that a file
+//! holds. It does not walk a whole file: `bplist_lint` and `bplist_cert` do, and `bplist_cursor` looks values up.
 //!
 //! ```
 //! let mut source = SliceSource::new(file);
@@ -9,21 +10,31 @@
 //! }
 //! ```
 //!
-//! | what | calls |
-//! |---|---|
-//! | the trailer's five numbers, by rules 1 to 12, or 13 | [`trailer_of`], [`frame_of`], [`Frame`] |
-//! | entries of the offset table | [`offset_of`], [`read_offsets`], [`high_entry`] |
-//! | an object's head, by rules 14 to 17, or 20; with its place given | [`shape_of`], [`head_of`]; [`shape_at`], [`head_at`] |
-//! | references | [`refs_of`], [`ref_at`], [`read_refs`] |
-//! | what a leaf's body means | [`int_of`], [`uid_of`], [`octets_at`], [`unit_at`], [`read_units`] |
-//! | the order of a text and given units | [`key_cmp`] |
-//! | a source with its frame | [`Framed`], [`Plist`] |
-//! | the same calls over that | [`shape_in`], [`head_in`], [`offset_in`], [`read_offsets_in`], [`read_refs_in`], [`ref_place`] |
-//! | the first look at an object over that, which for many leaves is all of it | [`visit_in`], [`Visit`] |
-//! | broken rules, their words and numbers | [`Rule`], [`rule_name`], [`rule_number`], [`rule_of_number`], [`Fault`], [`ObjectFault`] |
+//! The modules, in the order in which to read them:
 //!
-//! The laws tie the definitions: an object has at most one head, one content and one value (`one_announced_head`, `one_head`,
-//! `one_value`), rules are kept exactly where there is a head (`kept_iff_head`), and the first fault is one (`one_first_fault`).
+//! | module | what is in it |
+//! |---|---|
+//! | rule | [`Rule`], the 32 rules of files, certificates and path texts, with their words and numbers |
+//! | rule_texts | [`texts_of`], a sentence and an example for each rule |
+//! | fault | [`Fault`], a broken rule with its object and place; [`ObjectFault`], which is a fault or a failed read |
+//! | frame | [`Frame`], the trailer's five numbers: [`trailer_of`] by rules 1 to 12, [`frame_of`] by rules 1 to 13 |
+//! | offset_table | entries of the offset table: [`offset_of`], [`read_offsets`], [`high_entry`] |
+//! | kind | [`Kind`], the kinds of objects, and their markers |
+//! | count | an object's count, in its marker or after it |
+//! | head | [`Head`], what marker and count say, by rules 14 to 17: [`shape_of`], and [`shape_at`] for a known place |
+//! | body | heads by rules 14 to 20: [`head_of`], [`head_at`]; [`check_body`] |
+//! | refs | the references of a container: [`refs_of`], [`ref_at`], [`read_refs`] |
+//! | leaf | the values of leaves: [`int_of`], [`uid_of`], [`octets_at`] |
+//! | text | the units of texts: [`unit_at`], [`read_units`]; their order: [`key_cmp`] |
+//! | framed | [`Framed`], a source that has its frame, and [`Plist`], which makes one |
+//! | plist | the same calls over a [`Framed`], with names that end in `_in`, as [`shape_in`]; [`ref_place`] |
+//! | visit | [`visit_in`], the first look at an object, which is enough for most leaves |
+//! | numbers, scan | numbers of a source, read and searched block by block; [`first_high_in`] |
+//! | laws, leaf_laws | what the definitions imply, as contracts of functions that do nothing |
+//!
+//! The laws tie the definitions to each other: an object has at most one head, one content and one value
+//! (`one_announced_head`, `one_head`, `one_value`). Rules 14 to 17 are kept if and only if there is a head
+//! (`kept_iff_head`). There is only one first fault (`one_first_fault`).
 #![tactic(auto)]
 
 mod body;

@@ -1,27 +1,26 @@
-//! Numbers of one to sixteen bytes at a place of a source.
+//! Numbers of one to sixteen bytes at a place of a source, one by one or in blocks.
 
 ghost use Rattle.std.specs.Prelude.{◌≡◌, ℕ, ◌+◌, ◌*◌, ◌≤◌, ◌<◌, length, IfOk, OnOk, is_err, slice_index};
 ghost use Rattle.bplist_objects.specs.Prelude.{part, num, OnlyReads, Honestly, num_at, AreNumbers, MeanNumbers};
 
 use bplist_octets::{ReadFault, Source, sized, wide};
 
-/// How many numbers are read at once at most.
+/// The largest number of numbers in one read.
 pub(crate) const BLOCK: usize = 512;
 
-/// How many bytes a block of numbers has at most.
+/// The largest number of bytes in one read.
 pub(crate) const BLOCK_BYTES: usize = 4096;
 
-/// Up to so many numbers are read by way of a small buffer, since most containers have no more and a
-/// buffer is cleared before it is used.
+/// Up to this many numbers go through a small buffer. Most containers have no more, and a buffer is cleared before use.
 pub(crate) const FEW: u64 = 32;
 
-/// How many bytes a few numbers have at most.
+/// The largest size of `FEW` numbers, in bytes.
 pub(crate) const FEW_BYTES: usize = 256;
 
-/// How many bytes the numbers have at most that are read by way of the smallest buffer.
+/// Numbers of up to this many bytes go through the smallest buffer.
 const FEWEST_BYTES: usize = 64;
 
-/// How many bytes spell a number.
+/// The number of bytes that spell a number.
 #[derive(Clone, Copy, Drop)]
 pub(crate) struct Width {
     pub(crate) bytes: u8,
@@ -29,7 +28,7 @@ pub(crate) struct Width {
     ghost high: { bytes ≤ 8 },
 }
 
-/// The number that the bytes from `place` on spell.
+/// Returns the number that the bytes from `place` on spell.
 #[inline(always)]
 pub(crate) fn number_in<S: Source>(src: &mut S, place: u64, width: Width) -> Result<u64, ReadFault>
     requires { place + width.bytes ≤ length (S.means src.old).octets }
@@ -42,7 +41,7 @@ pub(crate) fn number_in<S: Source>(src: &mut S, place: u64, width: Width) -> Res
     Ok(sized(read))
 }
 
-/// The number that the `size` bytes from `place` on spell, up to sixteen of them.
+/// Returns the number that the `size` bytes from `place` on spell. There are at most sixteen.
 pub(crate) fn wide_in<S: Source>(src: &mut S, place: u64, size: u8) -> Result<u128, ReadFault>
     requires low { 1 ≤ size }
     requires high { size ≤ 16 }
@@ -56,7 +55,6 @@ pub(crate) fn wide_in<S: Source>(src: &mut S, place: u64, size: u8) -> Result<u1
     Ok(wide(read))
 }
 
-/// The byte at a place.
 pub(crate) fn octet_in<S: Source>(src: &mut S, place: u64) -> Result<u8, ReadFault>
     requires within { place < length (S.means src.old).octets }
     ensures reads { OnlyReads (is_err result) (S.means src.old) (S.means src.new) }
@@ -67,7 +65,6 @@ pub(crate) fn octet_in<S: Source>(src: &mut S, place: u64) -> Result<u8, ReadFau
     Ok(octets[0])
 }
 
-/// The `n` bytes from `place` on.
 pub(crate) fn part_of(l: &[u8], place: usize, n: usize) -> &[u8]
     requires { place + n ≤ length l.now }
     ensures part { result.now ≡ part l.now place n }
@@ -78,13 +75,13 @@ pub(crate) fn part_of(l: &[u8], place: usize, n: usize) -> &[u8]
 
 /// A type of numbers that bytes spell: `u64` for places and references, `u16` for the units of texts.
 pub(crate) trait Spelled: Copy {
-    /// How many bytes spell one at most.
+    /// The largest number of bytes that spell one.
     ghost most: { ℕ };
 
-    /// The number that a value is.
+    /// The number that a value means.
     ghost means: { Self → ℕ };
 
-    /// The number that these bytes spell.
+    /// Returns the number that these bytes spell.
     fn spelled(l: &[u8]) -> Self
         requires low { 1 ≤ length l.now }
         requires high { length l.now ≤ most }
@@ -113,7 +110,7 @@ impl Spelled for u16 {
     }
 }
 
-/// The numbers that a block of bytes spells.
+/// Fills `into` with the numbers that a block of bytes spells.
 #[inline(always)]
 fn spell_block<T: Spelled>(block: &[u8], width: Width, into: &mut [T])
     requires most { width.bytes ≤ T.most }
@@ -126,8 +123,8 @@ fn spell_block<T: Spelled>(block: &[u8], width: Width, into: &mut [T])
     }
 }
 
-/// Fills `into` by one read of the source, which goes through `block`. Each usual width has a loop of its own, in which the width
-/// is known.
+/// Fills `into` with one read of the source, through `block`. Each usual width has a loop of its own, compiled for that
+/// width.
 #[inline(always)]
 fn read_block<T: Spelled, S: Source>(
     src: &mut S,
@@ -152,7 +149,7 @@ fn read_block<T: Spelled, S: Source>(
     Ok(())
 }
 
-/// Fills `into` with many numbers, block by block: `BLOCK` of them at once, by way of a buffer of `ROOM` bytes.
+/// Fills `into` block by block: `BLOCK` numbers at a time, through a buffer of `ROOM` bytes.
 pub(crate) fn read_many<const BLOCK: usize, const ROOM: usize, T: Spelled, S: Source>(
     src: &mut S,
     place: u64,
@@ -181,7 +178,7 @@ pub(crate) fn read_many<const BLOCK: usize, const ROOM: usize, T: Spelled, S: So
     Ok(())
 }
 
-/// Fills `into` with the numbers that stand one behind the other from `place` on.
+/// Fills `into` with consecutive numbers from `place` on.
 pub(crate) fn numbers_in<S: Source>(
     src: &mut S,
     place: u64,

@@ -1,4 +1,4 @@
-//! The offset table, whose entries are the places of the objects.
+//! The offset table, which has the place of each object.
 
 ghost use Rattle.std.specs.Prelude.{◌≡◌, ℕ, ◌+◌, ◌*◌, ◌≤◌, ◌<◌, length, slice_index, IfOk, OnOk, is_err};
 ghost use Rattle.bplist_objects.specs.Prelude.{OnlyReads, Honestly, off, IsSafe, OffsetHigh};
@@ -9,7 +9,7 @@ use crate::numbers::{Width, number_in, numbers_in};
 use crate::rule::Rule;
 use bplist_octets::{ReadFault, Source};
 
-/// The place of an entry of the offset table, in a file of so many bytes.
+/// Returns the place of entry `n` of the offset table, from the start of the file of `len` bytes.
 #[inline(always)]
 pub(crate) fn entry_place(frame: &Frame, n: u32, len: u64) -> u64
     requires safe { IsSafe len frame.now }
@@ -21,9 +21,10 @@ pub(crate) fn entry_place(frame: &Frame, n: u32, len: u64) -> u64
     frame.table + n as u64 * frame.offset_size as u64
 }
 
-/// The place of object `n`, counted from the file's first byte, as its entry in the offset table says.
-/// The frame must fit the source, and `n` must be an object. Nothing else of the entry is looked at: over
-/// the source that the frame was read from it is below `frame.table`, and over another it may be anything.
+/// Returns the place of object `n`, from the start of the file, as its entry in the offset table gives it.
+///
+/// The frame must fit the source, and `n` must be an object. The entry is not checked: over the source whose frame it
+/// is, the place is below `frame.table`. Over another source it may be anything. An error is a failed read.
 pub fn offset_of<S: Source>(src: &mut S, frame: &Frame, n: ObjectNo) -> Result<u64, ReadFault>
     requires safe { IsSafe (length (S.means src.old).octets) frame.now }
     requires within { n.0 < frame.now.objects }
@@ -35,8 +36,8 @@ pub fn offset_of<S: Source>(src: &mut S, frame: &Frame, n: ObjectNo) -> Result<u
     number_in(src, place, Width { bytes })
 }
 
-/// Fills `into` with the places of the objects from number `from` on, as `offset_of` answers each. The
-/// frame must fit the source, and all of them must be objects. After a failed read `into` may hold anything.
+/// Fills `into` with the places of the objects from number `from` on, as `offset_of` returns them. The frame must fit
+/// the source, and all of them must be objects. An error is a failed read, after which `into` may hold anything.
 pub fn read_offsets<S: Source>(
     src: &mut S,
     frame: &Frame,
@@ -55,8 +56,9 @@ pub fn read_offsets<S: Source>(
     numbers_in(src, place, Width { bytes }, into)
 }
 
-/// The fault of object `n` by rule 13 OffsetHigh, in a file of `len` bytes: it stands where the entry does. The
-/// frame must fit the file, and `n` must be an object; whether its entry is too high is the caller's to know.
+/// Returns the fault of object `n` by rule 13 OffsetHigh, in a file of `len` bytes. Its place is that of the entry. The
+/// frame must fit the file, and `n` must be an object. The call does not read the entry: the caller knows that it is
+/// too high.
 #[inline(always)]
 pub fn high_entry(frame: &Frame, n: ObjectNo, len: u64) -> Fault
     requires safe { IsSafe len frame.now }

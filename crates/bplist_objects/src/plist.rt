@@ -1,4 +1,4 @@
-//! What stands in a file, by a source that knows its frame.
+//! The calls that read objects, over a source that has its frame.
 
 ghost use Rattle.std.specs.Prelude.{◌≡◌, ℕ, ◌+◌, ◌*◌, ◌≤◌, ◌<◌, IfOk, OnOk, length, is_err, slice_index};
 ghost use Rattle.bplist_objects.specs.Prelude.{OnlyReads, frame_in, HonestlyIn, off, Gives, read_failed, IsSafeHead, ref_count, nth_number, HasShape, HasHead, KeepsAll, KeepsByObject, IsObjectFault, object_rules, shape_rules};
@@ -12,7 +12,7 @@ use crate::offset_table::{offset_of, read_offsets};
 use crate::refs::read_refs;
 use bplist_octets::ReadFault;
 
-/// The place of object `n`, as `offset_of` answers it.
+/// Returns the place of object `n`, as `offset_of` does.
 pub fn offset_in<P: Framed>(src: &mut P, n: ObjectNo) -> Result<u64, ReadFault>
     requires { n.0 < (frame_in (P.means src.old)).objects }
     ensures reads { OnlyReads (is_err result) (P.means src.old) (P.means src.new) }
@@ -33,7 +33,7 @@ pub fn read_offsets_in<P: Framed>(src: &mut P, from: u32, into: &mut [u64]) -> R
     read_offsets(src, &frame, from, into)
 }
 
-/// The head of object `n`, which stands at `place`, by marker and count alone, as `shape_at` answers it.
+/// Returns the head of object `n` at `place`, from marker and count only, as `shape_at` does.
 #[inline(always)]
 pub fn shape_in<P: Framed>(src: &mut P, n: ObjectNo, place: u64) -> Result<Head, ObjectFault>
     requires { n.0 < (frame_in (P.means src.old)).objects }
@@ -50,7 +50,7 @@ pub fn shape_in<P: Framed>(src: &mut P, n: ObjectNo, place: u64) -> Result<Head,
     shape_at(src, &frame, n, place)
 }
 
-/// The head of object `n`, which stands at `place`, as `head_at` answers it.
+/// Returns the head of object `n` at `place`, as `head_at` does.
 pub fn head_in<P: Framed>(src: &mut P, n: ObjectNo, place: u64) -> Result<Head, ObjectFault>
     requires { n.0 < (frame_in (P.means src.old)).objects }
     ensures reads { OnlyReads (read_failed result) (P.means src.old) (P.means src.new) }
@@ -81,7 +81,7 @@ pub fn read_refs_in<P: Framed>(
     read_refs(src, &frame, head, from, into)
 }
 
-/// The place of reference `i` of an object with this head, counted from the file's first byte.
+/// Returns the place of reference `i` of an object with this head, from the start of the file.
 pub fn ref_place<P: Framed>(src: &P, head: &Head, i: u64) -> u64
     requires head { IsSafeHead (frame_in (P.means src.now)) head.now }
     requires within { i < ref_count head.now.kind head.now.count }

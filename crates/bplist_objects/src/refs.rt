@@ -9,8 +9,8 @@ use crate::kind::Kind;
 use crate::numbers::{Width, number_in, numbers_in};
 use bplist_octets::{ReadFault, Source};
 
-/// How many references an object with this head has: the count of an Array or a Set, twice the count of a
-/// Dict, and none of any other kind. Each reference has to take a byte at least between `body` and `end`.
+/// Returns the number of references of an object with this head: the count of an Array or a Set, twice the count of a
+/// Dict, and 0 for any other kind. There must be at least one byte for each of them between `body` and `end`.
 pub fn refs_of(head: &Head) -> u64
     requires { head.now.body + ref_count head.now.kind head.now.count ≤ head.now.«end» }
     ensures { result ≡ ref_count head.now.kind head.now.count }
@@ -23,9 +23,9 @@ pub fn refs_of(head: &Head) -> u64
     }
 }
 
-/// The number of reference `i` of an object with this head, in the order in which they are written: in a
-/// Dict the keys stand before the values. Over the source that the head was read from by `head_of` it is the
-/// number of an object, over another it may be anything.
+/// Returns the number that is reference `i` of an object with this head, in file order: in a Dict the keys come before
+/// the values. Over the source from which `head_of` returned the head it is the number of an object. Over another
+/// source it may be anything. An error is a failed read.
 pub fn ref_at<S: Source>(src: &mut S, frame: &Frame, head: &Head, i: u64) -> Result<u64, ReadFault>
     requires safe { IsSafe (length (S.means src.old).octets) frame.now }
     requires head { IsSafeHead frame.now head.now }
@@ -41,8 +41,8 @@ pub fn ref_at<S: Source>(src: &mut S, frame: &Frame, head: &Head, i: u64) -> Res
     number_in(src, head.body + i * bytes as u64, Width { bytes })
 }
 
-/// Fills `into` with the numbers of the references from number `from` on, as `ref_at` answers each. After a
-/// failed read `into` may hold anything.
+/// Fills `into` with the references from number `from` on, as `ref_at` returns them. An error is a failed read, after
+/// which `into` may hold anything.
 pub fn read_refs<S: Source>(
     src: &mut S,
     frame: &Frame,

@@ -1,10 +1,10 @@
-//! The rules of files and certificates, 1 to 32.
+//! Rules 1 to 32 of files, certificates and path texts, with their words and numbers.
 
 ghost use Rattle.std.specs.Prelude.{◌≡◌, ◌⊎◌, ◌<◌, MatchOption};
 ghost use Rattle.bplist_objects.specs.Prelude.{number_of, word_of};
 
-/// A rule of a file, a certificate or a path text. A variant's number is the rule's, and its line has the
-/// number too, and says when the rule is broken.
+/// A rule of a file, a certificate or a path text. The number of a variant is the number of the rule. Its line repeats
+/// the number, and says when the rule is broken.
 #[derive(Clone, Copy, Debug, PartialEq, Eq, Drop)]
 pub enum Rule {
     /// 1: the file has more than 4294967295 bytes.
@@ -13,33 +13,33 @@ pub enum Rule {
     TooShort,
     /// 3: the first 8 bytes are not `bplist00`.
     Magic,
-    /// 4: the trailer says that there are no objects.
+    /// 4: the trailer gives 0 objects.
     NoObjects,
     /// 5: the top object's number is not below the number of objects.
     Top,
     /// 6: the offset table starts before place 9.
     TableEarly,
-    /// 7: the offset table starts at or behind the trailer.
+    /// 7: the offset table starts at the trailer's place or later.
     TableLate,
-    /// 8: an entry of the offset table has not 1 to 8 bytes.
+    /// 8: the size of an entry of the offset table is not 1 to 8 bytes.
     OffsetSize,
-    /// 9: a reference has not 1 to 8 bytes.
+    /// 9: the size of a reference is not 1 to 8 bytes.
     RefSize,
-    /// 10: the offset table does not end where the trailer begins.
+    /// 10: the offset table does not end at the trailer's place.
     Length,
     /// 11: a reference has too few bytes for the number of objects.
     RefNarrow,
     /// 12: an entry has too few bytes for the place of the offset table.
     OffsetNarrow,
-    /// 13: an entry of the offset table is not a place before the table.
+    /// 13: an entry of the offset table is the table's place or greater.
     OffsetHigh,
-    /// 14: an object's entry is a place before 8.
+    /// 14: an object's entry is less than 8.
     OffsetLow,
-    /// 15: an object's first byte is the marker of no object.
+    /// 15: an object's first byte is no marker.
     Marker,
-    /// 16: a count that stands behind the marker does not begin as an integer of 1 to 16 bytes.
+    /// 16: a count that follows the marker does not begin as an integer of 1 to 16 bytes.
     Count,
-    /// 17: a byte of an object's count or body would lie in the offset table or behind it.
+    /// 17: an object's count or body does not end before the offset table.
     Extent,
     /// 18: a byte of an Ascii text is 128 or more.
     NotAscii,
@@ -47,37 +47,37 @@ pub enum Rule {
     UidLarge,
     /// 20: a reference is not below the number of objects.
     RefHigh,
-    /// 21: a key reference of a dictionary names an object that spells no text.
+    /// 21: a key of a dictionary is not a text.
     KeyKind,
-    /// 22: a key of a dictionary has the units of an earlier key.
+    /// 22: a key of a dictionary has the same units as an earlier key.
     KeyTwice,
-    /// 23: references lead from an object that the top reaches back to that object.
+    /// 23: references lead from a reachable object back to itself.
     Circle,
     /// 24: the first 8 bytes of a certificate are neither `bplcert1` nor `bplcert2`.
     CertMagic,
     /// 25: a certificate's length does not fit its version and its number of heights.
     CertLength,
-    /// 26: a certificate has not one height for each object.
+    /// 26: a certificate does not have one height for each object.
     CertCount,
     /// 27: the height of the top object is 0.
     TopNotVouched,
-    /// 28: a vouched object has a reference to an object of height 0.
+    /// 28: a vouched object refers to an object of height 0.
     ChildNotVouched,
-    /// 29: a vouched object has a reference to one whose height is not less than its own.
+    /// 29: a vouched object refers to an object whose height is not less than its own.
     HeightNotLess,
     /// 30: a path text does not begin with `/`, or a `~` in it is not followed by `0` or `1`.
     PathText,
-    /// 31: the extents of the reached (or vouched) objects up to this one sum to more than the bytes
-    /// from place 8 to the offset table.
+    /// 31: the extents of the reachable (or vouched) objects up to this one add up to more than the bytes from place 8
+    /// to the offset table.
     Overfull,
-    /// 32: a vouched dictionary's key list in a certificate is not wholly there or not sorted.
+    /// 32: a vouched dictionary's key list in a certificate is incomplete or not sorted.
     KeyOrder,
 }
 
-// From 1 on each variant has the next number, so the last tells that none is missing.
+// Each variant is one more than the one before, so the last number shows that none is missing.
 const _: () = prove!(Rule::KeyOrder as u8 == 32);
 
-/// The word of a rule, as faults are printed: the name of its variant.
+/// Returns the rule's word, as faults are printed: the name of its variant.
 pub fn rule_name(rule: Rule) -> &'static str
     ensures { result.now ≡ word_of rule }
 {
@@ -117,14 +117,14 @@ pub fn rule_name(rule: Rule) -> &'static str
     }
 }
 
-/// The number of a rule.
+/// Returns the rule's number, 1 to 32.
 pub fn rule_number(rule: Rule) -> u32
     ensures { result ≡ number_of rule }
 {
     rule as u32
 }
 
-/// The rule with this number, if there is one.
+/// Returns the rule with this number, or None if there is none.
 pub fn rule_of_number(number: u32) -> Option<Rule>
     ensures { MatchOption result ((number ≡ 0) ⊎ (32 < number)) (λ rule. number_of rule ≡ number) }
 {

@@ -1,10 +1,10 @@
-//! What the rules ask, in plain words.
+//! The rules in plain words, as `bplint explain` prints them.
 ghost use Rattle.std.specs.Prelude.{◌≡◌, ◌<◌, ℕ, List, [], get_or, length, map};
 ghost use Rattle.bplist_objects.specs.RuleTexts.{text_of};
 
 use crate::rule::{Rule, rule_number};
 
-/// What each rule asks, as one sentence, and something that breaks it, in the order of the rules' numbers.
+/// For each rule, in the order of their numbers: a sentence that says what it requires, and an example that breaks it.
 static TEXTS: [(&str, &str); 32] = [
     (
         "A file has at most 4294967295 bytes.",
@@ -133,7 +133,7 @@ static TEXTS: [(&str, &str); 32] = [
     ),
 ];
 
-/// What the rule asks, as one sentence, and something that breaks it.
+/// Returns a sentence that says what the rule requires, and an example that breaks it.
 pub fn texts_of(rule: Rule) -> (&'static str, &'static str)
     ensures asked { result.0.now ≡ (text_of rule).0 }
     ensures broken { result.1.now ≡ (text_of rule).1 }
@@ -141,7 +141,8 @@ pub fn texts_of(rule: Rule) -> (&'static str, &'static str)
     row_at(&TEXTS, rule_number(rule) as usize - 1)
 }
 
-/// A row of a table. The table is lent, since a constant would be copied whole into the function that indexes it.
+/// Returns a row of a table. The table is a parameter, because a constant would be copied into the function that
+/// indexes it.
 fn row_at(
     rows: &'static [(&'static str, &'static str)],
     index: usize,

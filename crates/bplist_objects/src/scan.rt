@@ -1,4 +1,4 @@
-//! The first of many numbers of one size, or of many bytes, that is not below a bound, by blocks.
+//! Searches blocks of numbers or bytes for the first that is not below a bound.
 
 ghost use Rattle.std.specs.Prelude.{◌≡◌, ◌+◌, ◌*◌, ◌≤◌, ◌<◌, length, IsTrue, IfOk, IfSome, MatchOption, is_err};
 ghost use Rattle.bplist_objects.specs.Prelude.{OnlyReads, Honestly, AreBelow, IsFirstNotBelow};
@@ -6,7 +6,7 @@ ghost use Rattle.bplist_objects.specs.Prelude.{OnlyReads, Honestly, AreBelow, Is
 use crate::numbers::{BLOCK_BYTES, FEW, FEW_BYTES, Width, part_of};
 use bplist_octets::{ReadFault, Source, first_high, sized};
 
-/// Whether each number of a block is below the bound. There is no way out of the loop, so that it takes several at a time.
+/// True if each number of a block is below the bound. The loop has no early exit, so that it is vectorized.
 #[inline(always)]
 fn is_block_below(block: &[u8], width: Width, count: usize, bound: u64) -> bool
     requires { length block.now ≡ count * width.bytes }
@@ -22,8 +22,8 @@ fn is_block_below(block: &[u8], width: Width, count: usize, bound: u64) -> bool
     below
 }
 
-/// The first of the numbers of a block that is not below the bound. Most often there is none, and each usual width has a loop of
-/// its own that finds that, in which the width is known.
+/// Returns the index of the first number of a block that is not below the bound. Usually there is none. Each usual
+/// width has a loop of its own for that case, compiled for that width.
 fn first_in_block(block: &[u8], width: Width, count: usize, bound: u64) -> Option<usize>
     requires { length block.now ≡ count * width.bytes }
     ensures { MatchOption result (AreBelow block.now 0 width.bytes count bound) (IsFirstNotBelow block.now 0 width.bytes count bound) }
@@ -46,7 +46,8 @@ fn first_in_block(block: &[u8], width: Width, count: usize, bound: u64) -> Optio
     None
 }
 
-/// The first of `count` numbers that is not below the bound, by blocks that have room in a buffer of so many bytes.
+/// Returns the index of the first of `count` numbers that is not below the bound. They are read in blocks, through a
+/// buffer of `ROOM` bytes.
 fn first_by_blocks<const ROOM: usize, S: Source>(
     src: &mut S,
     place: u64,
@@ -77,7 +78,8 @@ fn first_by_blocks<const ROOM: usize, S: Source>(
     Ok(None)
 }
 
-/// The first of `count` numbers from `place` on that is not below the bound. A few are one read.
+/// Returns the index of the first of `count` numbers from `place` on that is not below the bound. Up to `FEW` numbers
+/// are one read.
 pub(crate) fn first_not_below<S: Source>(
     src: &mut S,
     place: u64,
@@ -100,14 +102,15 @@ pub(crate) fn first_not_below<S: Source>(
     first_by_blocks::<FEW_BYTES, S>(src, place, width, count, bound)
 }
 
-/// How many bytes of a text are read at once at most.
+/// The largest number of bytes of a text in one read.
 const TEXT_PART: usize = 256;
 
-/// A text of up to so many bytes is read by way of a small buffer, since most have no more and a buffer is cleared before it
-/// is used.
+/// A text of up to this many bytes goes through a small buffer. Most texts are no longer, and a buffer is cleared
+/// before use.
 const SHORT_TEXT: usize = 64;
 
-/// The first byte of a part of a text that is 128 or more, where the bytes before the part are below.
+/// Returns the index in the text of the first byte of a part that is 128 or more. The part begins at byte `done` of the
+/// text.
 fn search_part<S: Source>(
     src: &mut S,
     place: u64,
@@ -130,8 +133,8 @@ fn search_part<S: Source>(
     }
 }
 
-/// The first of `count` bytes from `place` on that is 128 or more: its number among them. The bytes lie in the source. An
-/// error is a failed read.
+/// Returns the index of the first of the `count` bytes from `place` on that is 128 or more, or None if there is none.
+/// The bytes must be inside the source. An error is a failed read.
 pub fn first_high_in<S: Source>(
     src: &mut S,
     place: u64,
@@ -146,7 +149,7 @@ pub fn first_high_in<S: Source>(
     if count <= SHORT_TEXT as u64 {
         let mut buffer = [0u8; SHORT_TEXT];
         src.read_at(place, &mut buffer[..count as usize])?;
-        // What the text leaves of the buffer is 0, so that all of it is looked at.
+        // The rest of the buffer is 0, so the whole buffer can be searched.
         return match first_high(&buffer) {
             None => Ok(None),
             Some(_) => search_part(src, place, count, 0, &mut buffer[..count as usize]),

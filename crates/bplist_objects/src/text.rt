@@ -1,4 +1,4 @@
-//! The units of texts, read and compared at a head.
+//! The units of a text with a given head: reading them, and comparing them.
 
 ghost use Rattle.std.specs.Prelude.{◌≡◌, ◌+◌, ◌≤◌, ◌<◌, length, slice_index, min, IfOk, OnOk, is_err};
 ghost use Rattle.bplist_objects.specs.Prelude.{part, OnlyReads, last_count, Honestly, IsSafeBody, IsTextKind, units_of, compare_units};
@@ -9,19 +9,19 @@ use crate::numbers::{Width, read_many};
 use bplist_octets::{ReadFault, Source};
 use std::cmp::Ordering;
 
-/// How many units are read at once at most.
+/// The largest number of units in one read.
 const BLOCK: usize = 128;
 
-/// How many bytes a block of units has at most.
+/// The largest number of bytes in one read.
 const BLOCK_BYTES: usize = 256;
 
-/// How many units of a key are read at once at most.
+/// The largest number of units of a key in one read.
 const KEY_BLOCK: usize = 32;
 
-/// Fills `into` with the units of a text from its unit `from` on.
+/// Fills `into` with the units of a text from unit `from` on.
 ///
-/// The head is that of a text whose body lies in the source, and `into` ends within the text.
-/// An error is a failed read, and then nothing is said of `into`.
+/// The head must be that of a text whose body is inside the source, and `into` must not reach past the end of the text.
+/// An error is a failed read, after which `into` may hold anything.
 pub fn read_units<S: Source>(
     src: &mut S,
     head: &Head,
@@ -40,10 +40,10 @@ pub fn read_units<S: Source>(
     read_many::<BLOCK, BLOCK_BYTES, u16, S>(src, place, Width { bytes }, into)
 }
 
-/// Unit `i` of a text.
+/// Returns unit `i` of a text.
 ///
-/// The head is that of a text whose body lies in the source, and `i` is below its count. An
-/// error is a failed read.
+/// The head must be that of a text whose body is inside the source, and `i` must be below its count. An error is a
+/// failed read.
 pub fn unit_at<S: Source>(src: &mut S, head: &Head, i: u64) -> Result<u16, ReadFault>
     requires kind { IsTextKind head.now.kind }
     requires head { IsSafeBody (length (S.means src.old).octets) head.now }
@@ -56,11 +56,11 @@ pub fn unit_at<S: Source>(src: &mut S, head: &Head, i: u64) -> Result<u16, ReadF
     Ok(unit[0])
 }
 
-/// Compares the units of a text with `units`: unit by unit, and a proper prefix before the longer.
+/// Compares the units of a text with `units`: unit by unit, and a proper prefix comes first.
 ///
-/// The head is that of a text whose body lies in the source. The call adds one to `made`, also
-/// where it answers an error, save at the last value of a `u64`, where `made` stays. It reads the
-/// text by small blocks, up to the first that differs. An error is a failed read.
+/// The head must be that of a text whose body is inside the source. Each call adds 1 to `made`, also if it fails. At
+/// the greatest `u64` it stays. The text is read in small blocks, up to the first that differs. An error is a failed
+/// read.
 pub fn key_cmp<S: Source>(
     src: &mut S,
     head: &Head,

@@ -1,4 +1,4 @@
-//! The first look at an object, which for many leaves is all of it.
+//! The first look at an object, which is enough for most leaves.
 
 ghost use Rattle.std.specs.Prelude.{◌≡◌, ◌<◌, IfOk};
 ghost use Rattle.bplist_objects.specs.Prelude.{OnlyReads, frame_in, HonestlyIn, off, Gives, read_failed, IsObjectFault, shape_rules, size_said, IsVisited, IsSafeVisit};
@@ -9,18 +9,19 @@ use crate::framed::Framed;
 use crate::head::{Head, head_by_marker, marker_at};
 use crate::rule::Rule;
 
-/// What a visit of an object finds.
+/// What a visit finds.
 #[derive(Clone, Copy, Debug, PartialEq, Eq, Drop)]
 pub enum Visit {
-    /// The object's marker says its size, and no rule looks into its body: it keeps all rules of an object by itself, and refers
-    /// to nothing. The place after its last byte, from the file's first byte.
+    /// The object keeps rules 14 to 20 and refers to nothing: its marker gives its size, and no rule is about its body.
+    /// The number is the place after its last byte, from the start of the file.
     Done(u64),
-    /// The head of any other object. Its body is still to be looked at.
+    /// The head of any other object. Its body is not checked yet.
     Body(Head),
 }
 
-/// For each marker the bytes that an object with it takes, where the marker says so and no rule looks into the body; else 0. Each
-/// row has the markers of one high half, and the last those of the high halves from 7 on.
+/// For each marker, the size in bytes of an object that begins with it, if the marker gives the size and no rule is
+/// about the body, and 0 otherwise. Each row has the markers of one high half. The last has those of the high halves
+/// from 7 on.
 static SIZES: [u8; 256] = [
     // Null, False and True.
     1, 0, 0, 0, 0, 0, 0, 0, 1, 1, 0, 0, 0, 0, 0, 0,
@@ -30,13 +31,13 @@ static SIZES: [u8; 256] = [
     0, 0, 5, 9, 0, 0, 0, 0, 0, 0, 0, 0, 0, 0, 0, 0,
     // Date.
     0, 0, 0, 9, 0, 0, 0, 0, 0, 0, 0, 0, 0, 0, 0, 0,
-    // Bytes: one with a count of 15 has its count behind the marker.
+    // Bytes. If the low half is 15, the count follows the marker.
     1, 2, 3, 4, 5, 6, 7, 8, 9, 10, 11, 12, 13, 14, 15, 0,
-    // Ascii: rule 18 looks into it.
+    // Ascii: rule 18 is about its body.
     0, 0, 0, 0, 0, 0, 0, 0, 0, 0, 0, 0, 0, 0, 0, 0,
     // Wide.
     1, 3, 5, 7, 9, 11, 13, 15, 17, 19, 21, 23, 25, 27, 29, 0,
-    // No kind, or Uid, Array, Set and Dict: rules 19 and 20 look into them.
+    // No kind, or Uid, Array, Set and Dict: rules 19 and 20 are about their bodies.
     0, 0, 0, 0, 0, 0, 0, 0, 0, 0, 0, 0, 0, 0, 0, 0, 0, 0, 0, 0, 0, 0, 0, 0, 0, 0, 0, 0, 0, 0, 0, 0,
     0, 0, 0, 0, 0, 0, 0, 0, 0, 0, 0, 0, 0, 0, 0, 0, 0, 0, 0, 0, 0, 0, 0, 0, 0, 0, 0, 0, 0, 0, 0, 0,
     0, 0, 0, 0, 0, 0, 0, 0, 0, 0, 0, 0, 0, 0, 0, 0, 0, 0, 0, 0, 0, 0, 0, 0, 0, 0, 0, 0, 0, 0, 0, 0,
@@ -44,7 +45,7 @@ static SIZES: [u8; 256] = [
     0, 0, 0, 0, 0, 0, 0, 0, 0, 0, 0, 0, 0, 0, 0, 0,
 ];
 
-/// How many bytes an object with this marker takes, where the marker says so and no rule looks into the body.
+/// Returns the size in bytes of an object with this marker, if the marker gives it and no rule is about the body.
 #[inline(always)]
 fn size_said(marker: u8) -> Option<u8>
     ensures { result ≡ size_said marker }
@@ -53,9 +54,10 @@ fn size_said(marker: u8) -> Option<u8>
     if size == 0 { None } else { Some(size) }
 }
 
-/// Visits object `n`, which stands at `place`: reads its marker, and its count where that is still to be looked at. Answered are
-/// the faults that `shape_in` answers, the first of rules 14 to 17, and `Read` where a read failed. Over any source and with any
-/// place what is found lies behind `place` and before the table.
+/// Reads the marker of object `n` at `place`, and its count if its body has yet to be checked.
+///
+/// Returns the fault of the first of rules 14 to 17 that is broken, as `shape_in` does, or `Read` if a read fails. Over
+/// any source and with any place, the object found ends after `place` and not after the table's place.
 #[inline(always)]
 pub fn visit_in<P: Framed>(src: &mut P, n: ObjectNo, place: u64) -> Result<Visit, ObjectFault>
     requires { n.0 < (frame_in (P.means src.old)).objects }

@@ -5,7 +5,7 @@ use Rattle.std.proofs.lemmas.List.{length-map}
 use Rattle.std.proofs.lemmas.Simd.{tops_compared, zip2_splat_left, mask_l-mod, length-chunk, none_from_empty_mask}
 use lib.Lanes.{zip2, mask_l, top, chunk}
 
--- where no lane is above 127, the group is below 128
+-- if no lane is above 127, all bytes of the group are below 128
 pub low_of_mask : (xs : List ℕ) (at : ℕ) → at + 64 ≤ length xs → mask_l (map (top 7) (zip2 (λ a b. cond (ltb a b) 255 0) (replicate 64 127) (chunk at 64 xs))) % 2 ^ 64 ≡ 0 → (k : ℕ) → at ≤ k → k < at + 64 → get_or xs k 0 < 128
 low_of_mask xs at fits e k lo hi =
     let part = chunk at 64 xs in
@@ -18,7 +18,7 @@ low_of_mask xs at fits e k lo hi =
     let low : get_or xs k 0 ≤ 127 = ltb-false 127 (get_or xs k 0) (none_from_empty_mask (λ y. ltb 127 y) xs at 64 0 fits empty k lo hi) in
     omega (arith, low)
 
--- a front of low bytes and a low rest
+-- low bytes followed by low bytes
 pub joined_low : (xs : List ℕ) (front : ℕ) → ((k : ℕ) → k < front → get_or xs k 0 < 128) → ((k : ℕ) → k < length (drop front xs) → get_or (drop front xs) k 0 < 128) → (k : ℕ) → k < length xs → get_or xs k 0 < 128
 joined_low xs zero low rest k lt = rest k lt
 joined_low [] (suc front) low rest k lt = low k (omega arith)

@@ -4,12 +4,12 @@ use Rattle.bplist_octets.specs.Meaning.{Meaning, OnlyReads, last_count}
 use Rattle.bplist_octets.specs.declared.slice.SliceSource.{SliceSource}
 use Rattle.bplist_octets.specs.contracts.slice.SliceSourceSource.TheImpl.{ghosts}
 
--- where the count of failures is 0 before and after, no read has failed
+-- if the count of failures is 0 before and after, no read has failed
 pub never_fails : (b : Bool) (old new : Meaning) → old.failures ≡ 0 → new.failures ≡ 0 → OnlyReads b old new → b ≡ false
 never_fails false old new before after reads = refl
 never_fails true old new before after reads =
     let last : 0 ≡ last_count = sym before ∙ reads.stays_only_at_last (after ∙ sym before) in cc
 
--- no call that only reads meets a failed read over a slice
+-- over a slice no read fails in a call that only reads
 pub slice_never_fails : (b : Bool) (old new : SliceSource) → OnlyReads b (ghosts.means old) (ghosts.means new) → b ≡ false
 slice_never_fails b old new reads = never_fails b (ghosts.means old) (ghosts.means new) refl refl reads

@@ -4,7 +4,7 @@ use Rattle.bplist_octets.specs.Octets.{part}
 use Rattle.bplist_octets.specs.Meaning.{Meaning}
 use Rattle.bplist_octets.specs.declared.windows.Pane.{Pane}
 
--- a pane lies inside the bytes, and holds them if the source is honest
+-- a pane is inside the bytes, and has them if the source is honest
 pub record IsPane (f : List ℕ) (honest : Bool) (pane : Pane) : Type 0 where
   pub fits : pane.filled ≤ 16384
   pub inside : pane.start + pane.filled ≤ length f
@@ -15,6 +15,6 @@ pub record IsEmptyPane (pane : Pane) : Type 0 where
   pub start : pane.start ≡ 0
   pub filled : pane.filled ≡ 0
 
--- the meaning of a source behind the borrow with this ghost name
+-- the meaning of a source that is read through the borrow with this ghost name
 abbrev pub borrowed : ℕ → Meaning → Meaning
 borrowed through m = record { octets = m.octets; honest = m.honest; failures = m.failures; extra = (through ∷ []) ∷ m.extra }

@@ -9,18 +9,18 @@ ghost use Rattle.bplist_octets.specs.declared.source.ReadFault.TheVariants.{Devi
 use crate::slice::SliceSource;
 use crate::source::{ReadFault, Source};
 
-/// A source over a slice, one read of which answers `Device`. It is honest. Its count of failures is 0
-/// before that read and 1 after it. It is public so that callers can test what they do when a read fails.
+/// A source over a slice, one read of which fails with `Device`. It is honest. Its count of failed reads is 0 until
+/// that read and 1 after it. It is public so that callers can test what they do if a read fails.
 #[derive(Drop)]
 pub struct FaultySource<'a> {
     /// The bytes.
     pub octets: &'a [u8],
-    /// How many reads come before the one that fails. None: it has failed.
+    /// The number of reads that succeed before the one that fails, or None if it has failed.
     pub before: Option<u64>,
 }
 
 impl<'a> Source for FaultySource<'a> {
-    // Until the failing read none has failed, and after it one has.
+    // The count of failed reads is 0 until the failing read, and 1 after it.
     ghost means = { λ s. record { octets = s.octets.now; honest = true; failures = option_map_or (λ _. 0) s.before 1; extra = [] } };
 
     fn len(&self) -> u64 {
@@ -49,7 +49,7 @@ impl<'a> Source for FaultySource<'a> {
 }
 
 impl<'a> FaultySource<'a> {
-    /// A source over these bytes whose read number `fails`, counted from 0, fails.
+    /// Returns a source over these bytes whose read number `fails`, counted from 0, fails.
     pub fn new(octets: &'a [u8], fails: u64) -> FaultySource<'a>
         ensures octets { result.octets.now ≡ octets.now }
         ensures before { result.before ≡ Some fails }

@@ -1,4 +1,4 @@
-//! A source over a file.
+//! A source over a file, and the loop that fills a buffer from a reader.
 
 ghost use Rattle.std.specs.Prelude.{◌≡◌, length, false, [], replicate, IfOk, IfSome, MatchResult};
 ghost use Rattle.std.specs.Io.KnownBytes.{Consumes, Keeps};
@@ -9,13 +9,13 @@ use std::fs::{File, Files};
 use std::io::{ErrorKind, Read, Seek, SeekFrom};
 use thiserror::Error;
 
-/// The file could not be opened, its length could not be had, or the runtime lacked memory for it.
+/// The file could not be opened, its length could not be read, or there was no memory for it.
 #[derive(Clone, Copy, Debug, PartialEq, Eq, Drop, Error)]
 #[error("read Open")]
 pub struct OpenFault;
 
-/// A file that is open for reading, and its length when it was opened. It promises no honesty, since
-/// what a file holds between two reads is not known.
+/// A file that is open for reading, with its length at the time when it was opened. It is not honest, because another
+/// program may change the file between two reads.
 #[derive(Drop)]
 pub struct FileSource {
     file: File,
@@ -23,11 +23,12 @@ pub struct FileSource {
     failures: u64,
 }
 
-/// How many reads a whole read may take beyond one for each byte.
+/// The number of reads that filling a buffer may take, beyond one for each byte.
 const SPARE_READS: usize = 64;
 
-/// Fills `into` by at most `into.len() + 64` reads. An interrupted read is tried again. An end of the bytes is `Ended`, and with
-/// bytes still missing after that many reads the answer is `TooManyTurns`.
+/// Fills `into` with at most `into.len() + 64` reads. An interrupted read is repeated. Returns `Ended` if the bytes end
+/// before `into` is full, `TooManyTurns` if it is not full after that many reads, and `Device` after any other error.
+/// After an error `into` may hold anything.
 pub fn fill_from<R: Read>(reader: &mut R, into: &mut [u8]) -> Result<(), ReadFault>
     ensures { MatchResult result
         (λ _. Consumes (R.remaining reader.old) (R.remaining reader.new) into.new)
@@ -55,7 +56,7 @@ pub fn fill_from<R: Read>(reader: &mut R, into: &mut [u8]) -> Result<(), ReadFau
     }
 }
 
-/// Fills `into` with the bytes that follow place `at`.
+/// Fills `into` with the bytes from place `at` on.
 fn fill_at<F: Read + Seek>(file: &mut F, at: u64, into: &mut [u8]) -> Result<(), ReadFault>
     ensures { MatchResult result
         (λ _. (sought : F) × IfSome (F.stream_position file.old) (λ _. F.stream_position sought ≡ Some at)
@@ -69,7 +70,7 @@ fn fill_at<F: Read + Seek>(file: &mut F, at: u64, into: &mut [u8]) -> Result<(),
 }
 
 impl FileSource {
-    /// Opens a file for reading, and takes its length once.
+    /// Opens the file at `path` for reading, and reads its length once. No read has failed yet.
     pub fn open<R: Files<File = File>>(rt: &R, path: &str) -> Result<FileSource, OpenFault>
         ensures { IfOk result (λ source. (⟦<FileSource as Source>⟧.means source).failures ≡ 0) }
     {
@@ -84,14 +85,14 @@ impl FileSource {
 }
 
 impl Source for FileSource {
-    // Any list of this length would do, since no read is promised to give its bytes.
+    // No read promises these bytes, so any list of this length would do.
     ghost means = { λ s. record { octets = replicate s.length 0; honest = false; failures = s.failures; extra = [] } };
 
     fn len(&self) -> u64 {
         self.length
     }
 
-    /// Seeks, and fills `into` as `fill_from` does. A refused seek or read is `Device`.
+    /// Seeks to `at`, and fills `into` as `fill_from` does. A failed seek is `Device`.
     fn read_at(&mut self, at: u64, into: &mut [u8]) -> Result<(), ReadFault> {
         let result = fill_at(&mut self.file, at, into);
         if result.is_err() {

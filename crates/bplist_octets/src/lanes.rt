@@ -1,14 +1,14 @@
-//! The first byte of 0x80 or more, by lanes.
+//! The first byte of 0x80 or more, with 64 bytes compared at a time.
 
 ghost use Rattle.std.specs.Prelude.{ℕ, ◌+◌, ◌<◌, ◌≤◌, length, slice_index, IsTrue, MatchOption};
 ghost use Rattle.bplist_octets.specs.Octets.{AreLow, IsFirstHigh};
 
 use std::simd::prelude::*;
 
-/// How many bytes are looked at together.
+/// The number of bytes compared at a time.
 const GROUP: usize = 64;
 
-/// Whether each byte of the group at place `at` is below 0x80.
+/// True if the 64 bytes at index `at` are all below 0x80.
 fn is_group_low(l: &[u8], at: usize) -> bool
     requires { at + 64 ≤ length l.now }
     ensures { IsTrue result → (k : ℕ) → at ≤ k → k < at + 64 → slice_index l.now k < 128 }
@@ -17,7 +17,7 @@ fn is_group_low(l: &[u8], at: usize) -> bool
     lanes.simd_gt(u8x64::splat(127)).to_bitmask() == 0
 }
 
-/// How many bytes at the front are known to be below 0x80, by whole groups.
+/// Returns the length of a prefix of whole groups whose bytes are all below 0x80.
 fn low_front(l: &[u8]) -> usize
     ensures inside { result ≤ length l.now }
     ensures low { (k : ℕ) → k < result → slice_index l.now k < 128 }
@@ -29,7 +29,7 @@ fn low_front(l: &[u8]) -> usize
     at
 }
 
-/// Whether fewer bytes than a group has are all below 0x80.
+/// True if all bytes are below 0x80. There are at most 64.
 fn is_rest_low(l: &[u8]) -> bool
     requires { length l.now ≤ 64 }
     ensures { IsTrue result → AreLow l.now }
@@ -39,7 +39,7 @@ fn is_rest_low(l: &[u8]) -> bool
     is_group_low(&group, 0)
 }
 
-/// The least place of a byte of 0x80 or more, or None where all bytes are below.
+/// Returns the index of the first byte of 0x80 or more, or None if there is none.
 pub fn first_high(l: &[u8]) -> Option<usize>
     ensures { MatchOption result (AreLow l.now) (IsFirstHigh l.now) }
 {
@@ -51,7 +51,7 @@ pub fn first_high(l: &[u8]) -> Option<usize>
     if rest.len() < GROUP && is_rest_low(rest) {
         return None;
     }
-    // Groups tell only that all of their bytes are low: the first high one is found byte by byte.
+    // A group only says whether all its bytes are low, so the first high byte is found byte by byte.
     for i in front..l.len() {
         if l[i] >= 0x80 {
             return Some(i);

@@ -1,4 +1,5 @@
-//! Bytes by place: sources that are read at a place, and the numbers that bytes spell.
+//! Reads bytes at a place of a slice or a file, and the big-endian numbers that they spell. The crate knows nothing of
+//! property lists: `bplist_objects` reads the format.
 //!
 //! ```
 //! let mut source = SliceSource::new(bytes);
@@ -8,19 +9,24 @@
 //! }
 //! ```
 //!
-//! | what | calls |
-//! |---|---|
-//! | a source: a length, and a read at a place that must lie inside | [`Source`], [`ReadFault`] |
-//! | a source over memory | [`SliceSource::new`], `borrow` |
-//! | a source over a file | [`FileSource::open`], [`OpenFault`] |
-//! | bytes of a reader, in a bounded number of reads | [`fill_from`] |
-//! | larger reads of a source: one window of its own, or panes that the caller lends | [`Window::new`]; [`Windows::new`], [`Pane`] |
-//! | big-endian numbers of up to 8 and 16 bytes | [`sized`], [`wide`] |
-//! | the first byte of 128 or more | [`first_high`] |
-//! | sources for tests: one read fails, the bytes change | [`FaultySource`], [`ShiftingSource`] |
+//! A [`Source`] has a length and a call that fills a buffer with the bytes from a place on. Its `Meaning` is a record:
+//! its bytes, whether it is honest (always returns these bytes), and how many reads have failed. Contracts say exactly
+//! what a call returns if the source is honest. Over any other source a call still returns, and reads only inside the
+//! length.
 //!
-//! Each source means a record, `Meaning`: its bytes, whether it is honest, how many reads have failed. What is proved of a call
-//! over an honest source is exact; over any other it still returns and reads inside the length.
+//! The modules, in the order in which to read them:
+//!
+//! | module | what is in it |
+//! |---|---|
+//! | source | the trait [`Source`], and [`ReadFault`], the reasons why a read fails |
+//! | slice | [`SliceSource`], a source over memory |
+//! | file | [`FileSource`], a source over a file; [`fill_from`], which fills a buffer from a reader |
+//! | numbers | big-endian numbers: [`sized`] of up to 8 bytes, [`wide`] of up to 16 |
+//! | lanes | [`first_high`], the first byte of 128 or more |
+//! | window | [`Window`], a buffer of 4,096 bytes over a source |
+//! | windows | [`Windows`], several buffers ([`Pane`]) over a source, for readers that alternate between places |
+//! | faulty_source | for tests: [`FaultySource`], one read of which fails |
+//! | shifting_source | for tests: [`ShiftingSource`], whose bytes change |
 #![tactic(auto)]
 
 mod faulty_source;

@@ -1,17 +1,17 @@
-//! The numbers that bytes spell, greatest byte first.
+//! Big-endian numbers of up to 16 bytes.
 
 ghost use Rattle.std.specs.Prelude.{◌≡◌, ◌≤◌, length};
 ghost use Rattle.bplist_octets.specs.Octets.{num};
 
 use byteorder::{BigEndian, ByteOrder};
 
-/// The unsigned number that one to eight bytes spell, greatest byte first.
+/// Returns the unsigned big-endian number of one to eight bytes.
 pub fn sized(l: &[u8]) -> u64
     requires low { 1 ≤ length l.now }
     requires high { length l.now ≤ 8 }
     ensures { result ≡ num l.now }
 {
-    // Each usual width by itself, as a copy of a length that is known is no call.
+    // The usual widths are separate, because a copy of constant length compiles to no call.
     match l.len() {
         1 => BigEndian::read_uint(l, 1),
         2 => u64::from(BigEndian::read_u16(l)),
@@ -22,7 +22,7 @@ pub fn sized(l: &[u8]) -> u64
     }
 }
 
-/// The unsigned number that one to sixteen bytes spell, greatest byte first.
+/// Returns the unsigned big-endian number of one to sixteen bytes.
 pub fn wide(l: &[u8]) -> u128
     requires low { 1 ≤ length l.now }
     requires high { length l.now ≤ 16 }

@@ -7,16 +7,16 @@ ghost use Rattle.bplist_octets.specs.Meaning.{OnlyReads};
 use crate::slice::SliceSource;
 use crate::source::{ReadFault, Source};
 
-/// A source over two slices of one length: its first reads are of the first, all later ones of the
-/// second. It promises no honesty, and no read of it fails. It is public so that callers can test what they do when a file
-/// changes between two reads.
+/// A source over two slices of the same length: the first reads come from one, all later reads from the other. It is
+/// not honest, and its reads never fail. It is public so that callers can test what they do if a file changes between
+/// two reads.
 #[derive(Drop)]
 pub struct ShiftingSource<'a> {
-    /// The bytes of the first reads.
+    /// The bytes that the first reads return.
     pub first: &'a [u8],
-    /// The bytes of all later ones.
+    /// The bytes that all later reads return.
     pub second: &'a [u8],
-    /// How many reads of the first slice are left.
+    /// The number of reads that still come from `first`.
     pub left: u64,
     ghost same_length: { length second.now ≡ length first.now },
 }
@@ -52,8 +52,8 @@ impl<'a> Source for ShiftingSource<'a> {
 }
 
 impl<'a> ShiftingSource<'a> {
-    /// A source whose first `reads` reads are of `first`, and all later ones of `second`, which must be
-    /// as long.
+    /// Returns a source whose first `reads` reads come from `first` and all later reads from `second`, which must have
+    /// the same length.
     pub fn new(first: &'a [u8], second: &'a [u8], reads: u64) -> ShiftingSource<'a>
         requires { length first.now ≡ length second.now }
         ensures first { result.first.now ≡ first.now }

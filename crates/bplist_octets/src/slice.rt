@@ -7,7 +7,7 @@ ghost use Rattle.bplist_octets.specs.Slices.{StandsAt, source_over};
 
 use crate::source::{ReadFault, Source};
 
-/// A source over a slice. It is honest, no read of it fails, and its count of failures is 0.
+/// A source over a slice. It is honest, its reads never fail, and its count of failed reads is 0.
 #[derive(Clone, Copy, Debug, Drop)]
 pub struct SliceSource<'a> {
     octets: &'a [u8],
@@ -36,7 +36,7 @@ impl<'a> Source for SliceSource<'a> {
 }
 
 impl<'a> SliceSource<'a> {
-    /// A source over these bytes.
+    /// Returns a source over these bytes.
     pub fn new(octets: &'a [u8]) -> SliceSource<'a>
         ensures octets { (⟦<SliceSource<'a> as Source>⟧.means result).octets ≡ octets.now }
         ensures means { ⟦<SliceSource<'a> as Source>⟧.means result ≡ source_over octets.entry }
@@ -44,7 +44,7 @@ impl<'a> SliceSource<'a> {
         SliceSource { octets }
     }
 
-    /// The `n` bytes from place `at` on, which must lie inside the source.
+    /// Returns the `n` bytes from place `at` on, without a copy. All of them must be inside the source.
     pub fn borrow(&self, at: u64, n: u64) -> &'a [u8]
         requires { at + n ≤ length (⟦<SliceSource<'a> as Source>⟧.means self.now).octets }
         ensures part { result.now ≡ part (⟦<SliceSource<'a> as Source>⟧.means self.now).octets at n }

@@ -1,4 +1,4 @@
-//! What a source is, and why a read fails.
+//! The trait of all sources of bytes, and the reasons why a read fails.
 
 ghost use Rattle.std.specs.Prelude.{◌≡◌, ◌+◌, ◌≤◌, length, IsTrue, OnOk, is_err};
 ghost use Rattle.bplist_octets.specs.Octets.{part};
@@ -7,35 +7,34 @@ ghost use Rattle.bplist_octets.specs.Meaning.{Meaning, OnlyReads};
 /// Why a read failed.
 #[derive(Clone, Copy, Debug, PartialEq, Eq, Drop)]
 pub enum ReadFault {
-    /// The device refused.
+    /// The device reported an error.
     Device,
-    /// The bytes ended before the length that was told.
+    /// The bytes ended before the length that `len` returned.
     Ended,
-    /// Too many reads gave too little.
+    /// The buffer was not full after the allowed number of reads.
     TooManyTurns,
 }
 
 /// Bytes that are read by place.
 ///
-/// A source means a fixed list of `len()` bytes, whether it is honest, and a count of failed reads.
-/// Bytes, length and honesty never change. The count stands still at 18446744073709551615.
+/// A source has a fixed list of `len()` bytes, is honest or not, and counts its failed reads. Bytes, length and honesty
+/// never change. The count stops at 18446744073709551615.
 ///
-/// It is a trait, since a file may be larger than memory and be read where a caller wants it, and since
-/// what is proved over any source holds over a slice, a file and the sources of the tests alike. A
-/// buffered reader of std would know neither honesty nor a place: its position would have to be part of
-/// each contract.
+/// The trait lets a caller read a file that is larger than memory, and lets one proof serve slices, files and the
+/// sources for tests. A buffered reader of std does not fit: its position would be part of each contract, and it does
+/// not say whether it is honest.
 pub trait Source {
-    /// What the source means.
+    /// The bytes, the honesty and the count of failed reads.
     ghost means: { Self → Meaning };
 
-    /// How many bytes there are.
+    /// The number of bytes.
     fn len(&self) -> u64
         ensures { result ≡ length (means self.now).octets };
 
-    /// Fills `into` with the bytes from place `at` on, all of which must lie inside the source.
+    /// Fills `into` with the bytes from place `at` on. All of them must be inside the source.
     ///
-    /// Where the source is honest, `into` holds these bytes after Ok. Ok leaves the count of failed reads
-    /// as it was. An error raises it, and says nothing of `into`.
+    /// After Ok the count of failed reads is unchanged, and if the source is honest `into` holds the source's bytes.
+    /// After an error the count is higher, unless it has stopped, and `into` may hold anything.
     fn read_at(&mut self, at: u64, into: &mut [u8]) -> Result<(), ReadFault>
         requires { at + length into.old ≤ length (means self.old).octets }
         ensures reads { OnlyReads (is_err result) (means self.old) (means self.new) }

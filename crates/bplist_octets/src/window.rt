@@ -1,4 +1,4 @@
-//! A source over a source, with one window of bytes that were read.
+//! A source over another source, with one buffer of bytes that it has read.
 
 ghost use Rattle.std.specs.Prelude.{◌≡◌, ◌↔◌, ◌+◌, ◌-◌, ◌≤◌, length, take, min, IsTrue, MatchOption, OnOk, OnErr, is_err};
 ghost use Rattle.bplist_octets.specs.Octets.{part};
@@ -6,19 +6,21 @@ ghost use Rattle.bplist_octets.specs.Meaning.{OnlyReads};
 
 use crate::source::{ReadFault, Source};
 
-/// How many bytes the window holds at most.
+/// The largest number of bytes in the window.
 const WINDOW: usize = 4096;
 
-/// So many bytes are read at a jump, unless more is asked for: who jumps may not read on.
+/// The number of bytes read after a jump, if the request is no longer: the reader may not go on from there.
 pub(crate) const JUMP: usize = 1024;
 
-/// A source over a source, with one window of 4,096 bytes. It has the bytes, the honesty and the count
-/// of failures of the source below it.
+/// A source over another source, with a window of 4,096 bytes. It has the bytes, the honesty and the count of failed
+/// reads of that source.
 ///
-/// A read of bytes that lie in the window asks the source for nothing. Any other read moves the window
-/// to its place, where it takes 4,096 bytes if the window led there, else 1,024, or as many as are asked for; at the end of a file
-/// there may be fewer. A request longer than the window goes straight to the source. After a failed read the window is empty. A
-/// reader that alternates between a few places is better served by `Windows`.
+/// If the window has all bytes of a request, nothing is read. Otherwise the window moves to the place of the request.
+/// It reads 4,096 bytes if that place is in the old window or up to 1,024 bytes after it, and otherwise 1,024 bytes or
+/// the length of the request, whichever is greater. At the end of the source it may read fewer. A request of more than
+/// 4,096 bytes goes straight to the source. After a failed read the window is empty.
+///
+/// A reader that alternates between a few places is better served by `Windows`.
 #[derive(Drop)]
 pub struct Window<S: Source> {
     source: S,
@@ -31,7 +33,8 @@ pub struct Window<S: Source> {
         take filled octets ≡ part (S.means source).octets start filled },
 }
 
-/// Where a window that has `filled` bytes from place `start` on has `count` bytes from place `at` on, if it has them all.
+/// If a window of `filled` bytes from place `start` on has all of the `count` bytes from place `at` on, returns the
+/// index of the first of them in the window.
 pub(crate) fn offset_in(start: u64, filled: usize, at: u64, count: usize) -> Option<usize>
     ensures { MatchOption result (start ≤ at → at + count ≤ start + filled → ⊥)
         (λ from. (start + from ≡ at) × (from + count ≤ filled)) }
@@ -43,8 +46,8 @@ pub(crate) fn offset_in(start: u64, filled: usize, at: u64, count: usize) -> Opt
     Some(from as usize)
 }
 
-/// The place stands among the `filled` bytes from `start` on, or not far behind them: who reads there reads on. Which bytes are
-/// given does not hang on it.
+/// True if `at` is in the window of `filled` bytes from `start` on, or up to 1,024 bytes after it, which suggests
+/// sequential reading. This decides only how much is read ahead, never which bytes a call returns.
 pub(crate) fn is_near(start: u64, filled: usize, at: u64) -> bool
     ensures { IsTrue result ↔ ((start ≤ at) × (at ≤ start + filled + 1024)) }
 {
@@ -52,7 +55,7 @@ pub(crate) fn is_near(start: u64, filled: usize, at: u64) -> bool
         .is_some_and(|from| from <= (filled as u64).saturating_add(JUMP as u64))
 }
 
-/// Reads `count` bytes from place `at` on to the front of `into`.
+/// Reads the `count` bytes from place `at` on into the first bytes of `into`.
 fn read_front<S: Source>(
     source: &mut S,
     at: u64,
@@ -69,7 +72,7 @@ fn read_front<S: Source>(
 }
 
 impl<S: Source> Window<S> {
-    /// A source over `source`, with an empty window.
+    /// Returns a source over `source`, with an empty window.
     pub fn new(source: S) -> Window<S>
         ensures { ⟦<Window<S> as Source>⟧.means result ≡ S.means source }
     {
@@ -81,7 +84,7 @@ impl<S: Source> Window<S> {
         }
     }
 
-    /// Gives the window's bytes from its byte `from` on.
+    /// Copies the window's bytes from index `from` on.
     fn copy_part(&self, from: usize, into: &mut [u8])
         requires { from + length into.old ≤ self.now.filled }
         ensures { IsTrue (S.means self.now.source).honest →
@@ -90,7 +93,8 @@ impl<S: Source> Window<S> {
         into.copy_from_slice(&self.octets[from..from + into.len()]);
     }
 
-    /// Moves the window to place `at`, where it takes so many bytes. It is empty after a failed read.
+    /// Moves the window to place `at` and reads `room` bytes, or as many as the source has there. After a failed read
+    /// the window is empty.
     fn refill(&mut self, at: u64, room: usize) -> Result<(), ReadFault>
         requires inside { at ≤ length (S.means self.old.source).octets }
         requires fits { room ≤ 4096 }
@@ -108,7 +112,7 @@ impl<S: Source> Window<S> {
         Ok(())
     }
 
-    /// Reads from the source itself. The window is empty after a failed read.
+    /// Reads straight from the source. After a failed read the window is empty.
     fn read_past(&mut self, at: u64, into: &mut [u8]) -> Result<(), ReadFault>
         requires { at + length into.old ≤ length (S.means self.old.source).octets }
         ensures reads { OnlyReads (is_err result) (S.means self.old.source) (S.means self.new.source) }

@@ -1,7 +1,7 @@
-//! A source over a borrowed source, with several panes of bytes that were read.
+//! A source over a borrowed source, with several buffers (panes) of bytes that it has read.
 //!
-//! A reader that alternates between a few places, such as the offset table, an object and its keys, would read the file
-//! each time with a single window.
+//! A reader that alternates between a few places, such as the offset table, an object and its keys, would refill a
+//! single window each time.
 
 ghost use Rattle.std.specs.Prelude.{◌≡◌, ℕ, ◌+◌, ◌%◌, ◌<◌, ◌≤◌, All, IsTrue, length, OnOk, is_err};
 ghost use Rattle.bplist_octets.specs.Octets.{part};
@@ -11,27 +11,27 @@ ghost use Rattle.bplist_octets.specs.Windows.{IsEmptyPane, IsPane, borrowed};
 use crate::source::{ReadFault, Source};
 use crate::window::{JUMP, is_near, offset_in};
 
-/// How many bytes a pane holds at most.
+/// The largest number of bytes in a pane.
 const PANE: usize = 16_384;
 
-/// A longer request goes straight to the source.
+/// The longest request that goes through a pane.
 const LONGEST: usize = 8192;
 
-/// For so many blocks of `LONGEST` bytes the pane that was taken last is known.
+/// The number of blocks of `LONGEST` bytes for which `Windows` remembers the pane used last.
 const LIKELY: usize = 16;
 
-/// Room for 16,384 bytes of a source, which `Windows` is lent.
+/// A buffer for 16,384 bytes of a source. The caller lends it to `Windows`.
 #[derive(Clone, Copy, Debug, Drop)]
 pub struct Pane {
     start: u64,
     filled: usize,
-    /// The turn in which it was taken last.
+    /// The turn in which it was used last.
     taken: u64,
     octets: [u8; PANE],
 }
 
 impl Pane {
-    /// A pane that holds no bytes.
+    /// An empty pane.
     pub const EMPTY: Pane = Pane {
         start: 0,
         filled: 0,
@@ -40,7 +40,7 @@ impl Pane {
     };
 }
 
-/// Gives the pane's bytes from its byte `from` on.
+/// Copies the pane's bytes from index `from` on.
 fn copy_part(pane: &Pane, from: usize, into: &mut [u8])
     requires fits { pane.now.filled ≤ 16384 }
     requires inside { from + length into.old ≤ pane.now.filled }
@@ -49,15 +49,16 @@ fn copy_part(pane: &Pane, from: usize, into: &mut [u8])
     into.copy_from_slice(&pane.octets[from..from + into.len()]);
 }
 
-/// The bytes that a pane takes.
+/// The bytes that a pane is to read: `room` of them from place `start` on.
 #[derive(Clone, Copy, Debug)]
 struct Span {
     start: u64,
     room: usize,
 }
 
-/// What a pane takes to have `count` bytes from place `at` on. At a jump these are the 1,024 bytes around that place. Who reads on
-/// behind a pane, or before it, gets four times as many as that one has, since more will be asked for there.
+/// Chooses what a pane reads to have the `count` bytes from place `at` on. After a jump it reads the block of 1,024
+/// bytes with that place, and more if the request ends after the block. Near the end of a pane, or just before a pane,
+/// it reads four times as many bytes as that pane has, because sequential reading will ask for them.
 fn span_of(panes: &[Pane], at: u64, count: usize) -> Span
     requires { count ≤ 8192 }
     ensures start { result.start ≤ at }
@@ -82,8 +83,8 @@ fn span_of(panes: &[Pane], at: u64, count: usize) -> Span
     }
 }
 
-/// Moves a pane that has not all of the `count` bytes from place `at` on, so that it takes these bytes. It is empty after a
-/// failed read.
+/// Makes the pane hold the `count` bytes from place `at` on: if it lacks one of them, it reads `span`. After a failed
+/// read the pane is empty.
 fn hold<S: Source>(
     source: &mut S,
     pane: &mut Pane,
@@ -112,7 +113,7 @@ fn hold<S: Source>(
     Ok(())
 }
 
-/// The pane that was taken longest ago.
+/// Returns the index of the pane that was used longest ago.
 fn oldest(panes: &[Pane]) -> usize
     requires { 0 < length panes.now }
     ensures { result < length panes.now }
@@ -128,8 +129,8 @@ fn oldest(panes: &[Pane]) -> usize
     oldest
 }
 
-/// A pane that has `count` bytes from place `at` on, and where none has them the one that was taken longest ago, with the bytes that
-/// it takes. The likely one is asked first.
+/// Chooses a pane for the `count` bytes from place `at` on: one that has all of them, or the one that was used longest
+/// ago. Also returns the bytes that it is to read. The pane `likely` is tried first.
 fn choose(panes: &[Pane], likely: usize, at: u64, count: usize) -> (usize, Span)
     requires likely { likely < length panes.now }
     requires count { count ≤ 8192 }
@@ -154,7 +155,7 @@ fn choose(panes: &[Pane], likely: usize, at: u64, count: usize) -> (usize, Span)
     (oldest(panes), span_of(panes, at, count))
 }
 
-/// Empties panes that may hold bytes of another source.
+/// Empties the panes, which may hold bytes of another source.
 fn empty_all(panes: &mut [Pane])
     ensures { All IsEmptyPane panes.new }
 {
@@ -165,26 +166,27 @@ fn empty_all(panes: &mut [Pane])
     }
 }
 
-/// A source over a borrowed source, with panes of bytes that are borrowed too. It has the bytes, the honesty and the count
-/// of failures of that source.
+/// A source over a borrowed source, with borrowed panes. It has the bytes, the honesty and the count of failed reads of
+/// that source.
 ///
-/// A read of bytes that lie in one pane asks the source for nothing. Any other read moves the pane that was used longest ago. It
-/// takes 1,024 bytes at a jump, or as many as are asked for, and where the read goes on from a pane, forward or backward, four
-/// times as many as that one has, at most 16,384. A request of more than 8,192 bytes goes straight to the source. After a failed
-/// read that pane is empty.
+/// If one pane has all bytes of a request, nothing is read. Otherwise the pane that was used longest ago moves there.
+/// After a jump it reads the block of 1,024 bytes with that place, and more if the request ends after the block. If the
+/// request goes on from the bytes of a pane, forward or backward, it reads four times as many bytes as that pane has,
+/// at most 16,384. A request of more than 8,192 bytes goes straight to the source. After a failed read the pane is
+/// empty.
 #[derive(Drop)]
 pub struct Windows<'a, S: Source> {
-    /// The source that is read.
+    /// The source that the panes read.
     pub source: &'a mut S,
-    /// How many bytes the source has.
+    /// The number of bytes of the source.
     len: u64,
     panes: &'a mut [Pane],
-    /// The pane that was taken last.
+    /// The index of the pane used last.
     last: usize,
-    /// The pane that was taken last for a block of 8,192 bytes, by its number modulo 16, so that a reader which alternates between
-    /// a few places finds their panes at once.
+    /// For each block of 8,192 bytes, by its number modulo 16: the pane used last for it. With it, a reader that
+    /// alternates between a few places finds the pane of each place at the first try.
     likely: [usize; LIKELY],
-    /// How many panes were taken.
+    /// The number of turns: how often a pane was chosen.
     turn: u64,
     ghost panes_hold: { All (IsPane (S.means source.now).octets (S.means source.now).honest) panes.now },
     ghost whole: { len ≡ length (S.means source.now).octets },
@@ -193,7 +195,7 @@ pub struct Windows<'a, S: Source> {
 }
 
 impl<'a, S: Source> Windows<'a, S> {
-    /// A source over `source`, with these panes, of which there must be one at least. What they held is forgotten.
+    /// Returns a source over `source` with these panes, of which there must be at least one. The panes are emptied.
     pub fn new(source: &'a mut S, panes: &'a mut [Pane]) -> Windows<'a, S>
         requires { 0 < length panes.old }
         ensures same_source { result.source.ghost_name ≡ source.entry.ghost_name }
@@ -211,7 +213,7 @@ impl<'a, S: Source> Windows<'a, S> {
         }
     }
 
-    /// Gives at most 8,192 bytes by a pane.
+    /// Reads at most 8,192 bytes through a pane.
     fn read_pane(&mut self, at: u64, into: &mut [u8]) -> Result<(), ReadFault>
         requires inside { at + length into.old ≤ length (S.means self.old.source.now).octets }
         requires fits { length into.old ≤ 8192 }
@@ -241,7 +243,7 @@ impl<S: Source> Source for Windows<'_, S> {
         self.len
     }
 
-    // Inlined, so that a read of one byte is no call where a pane has it.
+    // Inlined, so that reading one byte costs no call if the last pane has it.
     #[inline(always)]
     fn read_at(&mut self, at: u64, into: &mut [u8]) -> Result<(), ReadFault> {
         if into.len() > LONGEST {

@@ -6,7 +6,7 @@ use std::io::{ErrorKind, Read};
 use std::test::Fail;
 use std::{env, fs, io};
 
-/// Answers Interrupted some times, and then one byte a read.
+/// A reader that is interrupted some times, and then gives one byte for each read.
 #[derive(Drop)]
 struct Slow {
     interrupts: u64,
@@ -30,7 +30,7 @@ impl Read for Slow {
     }
 }
 
-/// How often a reader is interrupted, how five bytes are read of it then, and in how many reads.
+/// How often a reader is interrupted, the result of reading five bytes after that, and the number of reads it takes.
 const INTERRUPTED: &[(u64, Result<(), ReadFault>, u64)] = &[
     (0, Ok(()), 5),
     (64, Ok(()), 69),

@@ -1,6 +1,7 @@
-//! The tests of bplist_octets: sources over memory and files, interrupted readers, what windows ask their source for, numbers.
+//! The tests of bplist_octets: sources over memory and files, interrupted readers, what windows ask of their source,
+//! and numbers.
 //!
-//! It has no code of its own, and is a crate of its own so that a check of the sources need not prove its tests.
+//! The tests are a crate of their own so that checking the sources does not prove them again.
 #![tactic(auto)]
 
 #[cfg(test)]

@@ -5,10 +5,11 @@ ghost use Rattle.std.specs.Prelude.{◌+◌, ◌≤◌, length};
 use bplist_octets::{FaultySource, ReadFault, ShiftingSource, SliceSource, Source};
 use std::process::Abort;
 
-/// A read: its place, how many bytes, and its answer.
+/// A read: its place, the number of bytes, and its result.
 pub(crate) type Read = (u64, usize, Result<(), ReadFault>);
 
-/// The source has these bytes, and answers this read so: with the bytes at its place exactly where that is Ok.
+/// Tests that the source has these bytes, and gives this result for the read. The buffer has the bytes at the place if
+/// and only if the result is `Ok`.
 pub(crate) fn answers<S: Source>(rt: &impl Abort, source: &mut S, bytes: &[u8], read: Read) {
     let (at, count, want) = read;
     let from = at as usize;
@@ -18,7 +19,7 @@ pub(crate) fn answers<S: Source>(rt: &impl Abort, source: &mut S, bytes: &[u8], 
     assert_eq!(rt; answer, (want, want.is_ok()), "at {at}");
 }
 
-/// What a read at this place answers, and whether it gives the bytes that stand there.
+/// Returns the result of a read at this place, and whether it gives the bytes that are there.
 fn answer_of<S: Source>(source: &mut S, at: u64, stand: &[u8]) -> (Result<(), ReadFault>, bool)
     requires inside { at + length stand.now ≤ length (S.means source.old).octets }
     requires short { length stand.now ≤ 9000 }
@@ -29,7 +30,7 @@ fn answer_of<S: Source>(source: &mut S, at: u64, stand: &[u8]) -> (Result<(), Re
     (answer, *part == *stand)
 }
 
-/// The source has these bytes, and answers these reads so, one after the other.
+/// Tests that the source has these bytes, and gives these results one after the other.
 pub(crate) fn all_answer<S: Source>(rt: &impl Abort, source: &mut S, bytes: &[u8], reads: &[Read]) {
     for read in reads {
         answers(rt, source, bytes, *read);

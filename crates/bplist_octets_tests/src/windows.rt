@@ -1,9 +1,9 @@
-//! What windows give, and what they ask their source for.
+//! What windows give, and what they ask of their source.
 
 use crate::sources::{Read, all_answer, answers};
 use bplist_octets::{FaultySource, Pane, ReadFault, SliceSource, Window, Windows};
 
-/// Bytes that tell their place.
+/// Bytes from which their place can be told.
 fn numbered() -> [u8; 70_000] {
     let mut bytes = [0; 70_000];
     for (i, byte) in bytes.iter_mut().enumerate() {
@@ -12,10 +12,10 @@ fn numbered() -> [u8; 70_000] {
     bytes
 }
 
-/// The number of a read of the source that would fail, which no window makes.
+/// The number of a read that no window makes, so that none fails.
 const NONE: u64 = 100;
 
-/// Which read of the source fails, counted from 0, and reads of a window.
+/// Which read of the source fails, counted from 0, and the reads of a window.
 const WINDOW: &[(u64, &[Read])] = &[
     (
         NONE,
@@ -46,7 +46,7 @@ const WINDOW: &[(u64, &[Read])] = &[
             (1, 2, Ok(())),
         ],
     ),
-    // It asks for what it lacks alone.
+    // It asks only for what it lacks.
     (
         1,
         &[
@@ -69,7 +69,7 @@ fn one_window(rt: HostRuntime) {
     }
 }
 
-/// The number of panes, which read of the source fails, and reads.
+/// The number of panes, which read of the source fails, and the reads.
 const PANES: &[(usize, u64, &[Read])] = &[
     (
         2,
@@ -87,7 +87,7 @@ const PANES: &[(usize, u64, &[Read])] = &[
             (70_000, 0, Ok(())),
         ],
     ),
-    // The pane used longest ago moves.
+    // The pane that was used longest ago moves.
     (
         3,
         4,
@@ -127,7 +127,7 @@ fn panes(rt: HostRuntime) {
     }
 }
 
-/// Of 1,024 bytes, of 4,096, and five of 16,384. The eighth read of the source would fail.
+/// Reads 1,024 bytes, then 4,096, then 16,384 five times. The eighth read of the source would fail.
 #[test]
 fn forward_in_whole_panes(rt: HostRuntime) {
     let bytes = numbered();
@@ -139,7 +139,8 @@ fn forward_in_whole_panes(rt: HostRuntime) {
     }
 }
 
-/// The same backward: of the last 368 bytes, of four times as many twice, and five of 15,360. The ninth read would fail.
+/// The same backward: reads the last 368 bytes, then four times as many twice, then 15,360 five times. The ninth read
+/// would fail.
 #[test]
 fn backward_in_large_parts(rt: HostRuntime) {
     let bytes = numbered();

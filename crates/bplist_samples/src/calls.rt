@@ -12,7 +12,7 @@ use bplist_octets::Source;
 use std::alloc::{AllocError, Global};
 use std::fmt::Debug;
 
-/// A call on a checked file, or one that looks at no file.
+/// A call on a checked file, or one that needs no file.
 #[derive(Drop)]
 pub enum Call {
     /// The linter, which reads the checked file as a source.
@@ -26,16 +26,16 @@ pub enum Call {
     Answer(Query),
     AnswerAll(Vec<Query>),
     Measure,
-    /// Print of an object with this limit, behind the measures that it asks for, to a writer that takes no memory.
+    /// Prints an object with this limit, after measuring it, to a writer that takes no memory.
     Print(Node, u64),
-    /// The path that a text spells.
+    /// Parses a path text.
     Parse(&'static str),
     TextOfUnits(&'static [u16]),
     TextOfBytes(&'static [u8]),
 }
 
 impl Call {
-    /// The variant's name.
+    /// Returns the name of the variant.
     pub fn name(&self) -> &'static str {
         match self {
             Call::Lint => "Lint",
@@ -55,7 +55,7 @@ impl Call {
         }
     }
 
-    /// Makes the call, and gives its answer as text: `Err(..)` for a fault.
+    /// Makes the call. Returns its answer as text, `Err(..)` for an error.
     pub fn answer_text<S: Source>(
         &self,
         alloc: Global,
@@ -80,12 +80,12 @@ impl Call {
     }
 }
 
-/// The text of an answer, which is taken so that its caller has none to drop.
+/// Returns the text of an answer. It takes the answer, so that the caller has none to drop.
 fn text_of<T: Debug + Drop>(alloc: Global, answer: T) -> Result<String, AllocError> {
     format!(in alloc; "{answer:?}")
 }
 
-/// All numbers of a certificate.
+/// Returns all numbers of a certificate as text.
 fn certificate_text(alloc: Global, certificate: &Certificate) -> Result<String, AllocError> {
     let heights = &certificate.heights;
     match &certificate.keys {
@@ -125,7 +125,7 @@ fn octets_text(alloc: Global, octets: Result<Vec<u8>, AllocError>) -> Result<Str
     }
 }
 
-/// What print answers, to a writer that takes no memory, behind the measures.
+/// Returns the answer of `print` as text, after measuring, with a writer that takes no memory.
 fn print_text<S: Source>(
     alloc: Global,
     checked: &mut Checked<S>,
@@ -142,7 +142,7 @@ fn print_text<S: Source>(
     }
 }
 
-/// What a checked file is: its frame and its certificate.
+/// Returns a checked file as text: its frame and its certificate.
 pub fn checked_text<S: Source>(alloc: Global, checked: &Checked<S>) -> Result<String, AllocError> {
     let frame = checked.frame();
     let certificate = certificate_text(alloc, checked.certificate())?;
@@ -152,7 +152,7 @@ pub fn checked_text<S: Source>(alloc: Global, checked: &Checked<S>) -> Result<St
 /// Paths that lead somewhere in some of the tested files.
 const PATHS: &[&str] = &["", "/0/1/0", "/a", "/a~1b/0", "/s/0", "/x", "/"];
 
-/// Three queries for each path.
+/// Makes three queries for each path.
 fn queries(alloc: Global) -> Result<Vec<Query>, PathFault> {
     let mut queries = Vec::new(alloc);
     for text in PATHS {
@@ -163,14 +163,14 @@ fn queries(alloc: Global) -> Result<Vec<Query>, PathFault> {
     Ok(queries)
 }
 
-/// The node of an object.
+/// Returns the node of an object.
 fn node(n: u32) -> Node {
     Node {
         object: ObjectNo(n),
     }
 }
 
-/// The calls that ask for no node and no path of their own, but one query of many.
+/// The calls that need no node and no path of their own, and one call with many queries.
 fn calls_at_large(alloc: Global) -> Result<Vec<Call>, PathFault> {
     let queries = queries(alloc)?;
     let calls = vec![in alloc;

@@ -1,20 +1,20 @@
-//! A source that counts what is asked of it.
+//! A source that counts its reads.
 
 ghost use Rattle.std.specs.Prelude.{◌≡◌};
 
 use bplist_octets::{ReadFault, SliceSource, Source};
 use std::cell::Cell;
 
-/// How many reads were made, and of how many bytes in all.
+/// The number of reads, and of bytes in all.
 #[derive(Clone, Copy, Default)]
 pub struct Counts {
     pub reads: u64,
     pub bytes: u64,
 }
 
-/// A source over a slice, which counts the reads that are made of it. It means what the `SliceSource` means.
+/// A source over a slice that counts the reads. In contracts it is what a `SliceSource` is.
 ///
-/// The counts lie outside of it, since a `Checked` lends its source to nobody.
+/// The counts are outside of it, because a `Checked` does not give access to its source.
 #[derive(Drop)]
 pub struct CountingSource<'a> {
     source: SliceSource<'a>,
@@ -39,7 +39,7 @@ impl<'a> Source for CountingSource<'a> {
 }
 
 impl<'a> CountingSource<'a> {
-    /// A source over these bytes, which adds to these counts.
+    /// Makes a source over these bytes that adds to these counts.
     pub fn new(octets: &'a [u8], counts: &'a Cell<Counts>) -> CountingSource<'a>
         ensures { (⟦<CountingSource<'a> as Source>⟧.means result).octets ≡ octets.now }
     {

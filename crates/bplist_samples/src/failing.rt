@@ -7,13 +7,13 @@ use bplist_octets::{FaultySource, ReadFault, Source};
 /// Which read of a source fails, and how.
 #[derive(Clone, Copy, Debug)]
 pub struct FailingRead {
-    /// How many reads come before it.
+    /// The number of reads before it.
     pub before: u64,
     pub fault: ReadFault,
 }
 
 impl FailingRead {
-    /// The read that comes so many reads later, with the same fault.
+    /// Returns the read that comes `reads` later, with the same fault.
     pub fn later(self, reads: u64) -> FailingRead {
         FailingRead {
             before: self.before.saturating_add(reads),
@@ -21,7 +21,7 @@ impl FailingRead {
         }
     }
 
-    /// How a call of the library tells it.
+    /// Returns how a call of the library reports the fault.
     pub fn text(self) -> &'static str {
         match self.fault {
             ReadFault::Device => "Err(Read(Device))",
@@ -38,7 +38,7 @@ pub const READ_FAULTS: &[ReadFault] = &[
     ReadFault::TooManyTurns,
 ];
 
-/// A source over a slice, with one read that fails. It means what the `FaultySource` means.
+/// A source over a slice with one read that fails. In contracts it is what a `FaultySource` is.
 #[derive(Drop)]
 pub struct FailingSource<'a> {
     source: FaultySource<'a>,
@@ -61,7 +61,7 @@ impl<'a> Source for FailingSource<'a> {
 }
 
 impl<'a> FailingSource<'a> {
-    /// A source over these bytes, with this read.
+    /// Makes a source over these bytes with this failing read.
     pub fn new(octets: &'a [u8], read: FailingRead) -> FailingSource<'a>
         ensures { (⟦<FailingSource<'a> as Source>⟧.means result).octets ≡ octets.now }
     {

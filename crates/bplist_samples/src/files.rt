@@ -5,13 +5,13 @@ use std::alloc::{AllocError, Global};
 /// The objects and the table of a file with offsets and references of one byte.
 pub type Parts = (&'static [u8], &'static [u8]);
 
-/// A True.
+/// The value true.
 pub const SMALLEST_FILE: Parts = (&[9], &[8]);
 
-/// An array with the same True twice.
+/// An array with the same true twice.
 pub const TWO_TRUES: Parts = (&[0xa2, 1, 1, 9], &[8, 11]);
 
-/// A dictionary, its keys `a/b`, the empty text and `s`, an array, False, a set, and True.
+/// A dictionary with the keys `a/b`, the empty text and `s`, an array, false, a set, and true.
 pub const THREE_KEYS: Parts = (
     &[
         0xd3, 1, 2, 3, 4, 5, 6, 0x53, 0x61, 0x2f, 0x62, 0x50, 0x51, 0x73, 0xa1, 7, 8, 0xc1, 7, 9,
@@ -46,7 +46,7 @@ pub(crate) fn close(
     file.extend_from_slice(&place.to_be_bytes())
 }
 
-/// The file of these objects and this table, with offsets and references of one byte.
+/// Makes the file of these objects and this table, with offsets and references of one byte.
 pub fn small(alloc: Global, objects: &[u8], table: &[u8]) -> Result<Vec<u8>, AllocError> {
     let mut file = Vec::from_slice(alloc, b"bplist00")?;
     file.extend_from_slice(objects)?;
@@ -54,7 +54,7 @@ pub fn small(alloc: Global, objects: &[u8], table: &[u8]) -> Result<Vec<u8>, All
     Ok(file)
 }
 
-/// 64 arrays, each with the next object as its member twice, and at last this leaf.
+/// Makes a file of 64 arrays, each with the next object as its member twice; the last one has this leaf.
 pub fn doubling(alloc: Global, leaf: &[u8]) -> Result<Vec<u8>, AllocError> {
     let mut objects = Vec::new(alloc);
     let mut table = Vec::new(alloc);
@@ -67,7 +67,7 @@ pub fn doubling(alloc: Global, leaf: &[u8]) -> Result<Vec<u8>, AllocError> {
     small(alloc, &objects, &table)
 }
 
-/// A dictionary of the keys `0000` to `0999` and one True, with offsets and references of two bytes.
+/// Makes a dictionary with the keys `0000` to `0999` and one true, with offsets and references of two bytes.
 pub(crate) fn keys_by_number(alloc: Global) -> Result<Vec<u8>, AllocError> {
     let mut file = Vec::from_slice(alloc, b"bplist00\xdf\x11\x03\xe8")?;
     for key in 1..1001u16 {

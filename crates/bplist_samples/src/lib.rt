@@ -1,5 +1,6 @@
-//! Samples that the test crates share. It is no part of the library: its functions are proved to be safe and to end, and only its
-//! sources have clauses.
+//! Samples that the test crates share: small files, calls with their answers as text, and sources and writers that
+//! fail. It is not part of the library: its functions are proved to be safe and to end, and only its sources have
+//! contracts.
 //!
 //! ```
 //! for row in tested_rows(alloc)? {
@@ -10,16 +11,19 @@
 //! }
 //! ```
 //!
-//! | what | calls |
+//! | what | items |
 //! |---|---|
 //! | small files as bytes | [`SMALLEST_FILE`], [`TWO_TRUES`], [`A_TO_ONE`], [`THREE_KEYS`], [`small`] |
 //! | dictionaries with and without a text | [`PRINTABLE_DICT`], [`UNPRINTABLE_DICT`] |
 //! | a file whose tree is too large to walk | [`doubling`] |
 //! | files with their certificates | [`Row`], [`tested_rows`], [`thousand_keys`] |
 //! | a call of each kind, with its answer as text | [`Call`], [`all_calls`], [`checked_text`] |
-//! | a source that counts what is asked of it | [`CountingSource`], [`Counts`] |
+//! | a source that counts its reads | [`CountingSource`], [`Counts`] |
 //! | a source with one read that fails, with any fault | [`FailingSource`], [`FailingRead`], [`READ_FAULTS`] |
 //! | a writer with little room, or with writes that fail at first | [`ShortWriter`], [`Trouble`] |
+//!
+//! The modules, in reading order: `files` (bytes of files), `rows` (files with certificates), `calls` (calls and their
+//! answers), `counting` and `failing` (sources), `writers`.
 #![tactic(auto)]
 
 mod calls;

@@ -10,7 +10,7 @@ use bplist_octets::{SliceSource, Source};
 use std::alloc::Global;
 use std::test::Fail;
 
-/// A file with its name and the bytes of a certificate for it.
+/// A file with its name and the bytes of a certificate.
 #[derive(Drop)]
 pub struct Row {
     pub name: &'static str,
@@ -19,7 +19,7 @@ pub struct Row {
 }
 
 impl Row {
-    /// A file with the certificate that `lint` gives it.
+    /// Makes a file with the certificate that `lint` gives it.
     pub fn new(alloc: Global, name: &'static str, octets: Vec<u8>) -> Result<Row, Fail> {
         let lint = lint(alloc, &mut SliceSource::new(&octets)).map_err(|_| Fail::new(name))?;
         let certificate = lint.certificate.to_octets(alloc)?;
@@ -30,12 +30,12 @@ impl Row {
         })
     }
 
-    /// A small file with the certificate that `lint` gives it.
+    /// Makes a small file with the certificate that `lint` gives it.
     pub fn small(alloc: Global, name: &'static str, (objects, table): Parts) -> Result<Row, Fail> {
         Row::new(alloc, name, small(alloc, objects, table)?)
     }
 
-    /// The same file with its certificate of version 2.
+    /// Returns the same file with its certificate of version 2.
     pub fn sorted(self, alloc: Global) -> Result<Row, Fail> {
         let certificate = self.sorted_certificate(alloc)?;
         Ok(Row {
@@ -51,12 +51,12 @@ impl Row {
         Ok(certificate.to_octets(alloc)?)
     }
 
-    /// The row's certificate.
+    /// Returns the certificate of the row.
     pub fn certificate(&self, alloc: Global) -> Result<Certificate, CertRefusal> {
         Certificate::from_octets(alloc, &self.certificate)
     }
 
-    /// A source of the row's bytes, checked with the row's certificate.
+    /// Checks a source of the row's bytes with the row's certificate.
     pub fn checked<S: Source + Drop>(&self, alloc: Global, source: S) -> Result<Checked<S>, Fail> {
         match check(alloc, source, self.certificate(alloc)?) {
             Ok(checked) => Ok(checked),
@@ -65,7 +65,7 @@ impl Row {
     }
 }
 
-/// Names, and leaves of files that double.
+/// Names, and the leaves of files that double.
 const DOUBLING: &[(&str, &[u8])] = &[("doubling-64", b"\x09"), ("doubling-64-text", b"\x51a")];
 
 /// Names, and small files.
@@ -77,7 +77,7 @@ const SMALL: &[(&str, Parts)] = &[
     ("a-to-one", A_TO_ONE),
 ];
 
-/// The files on which reads are made to fail and bytes are changed.
+/// Returns the files on which reads fail and bytes are changed.
 pub fn tested_rows(alloc: Global) -> Result<Vec<Row>, Fail> {
     let mut rows = Vec::new(alloc);
     for (name, leaf) in DOUBLING {
@@ -89,7 +89,7 @@ pub fn tested_rows(alloc: Global) -> Result<Vec<Row>, Fail> {
     Ok(rows)
 }
 
-/// A dictionary of the keys `0000` to `0999`.
+/// Returns a dictionary with the keys `0000` to `0999`.
 pub fn thousand_keys(alloc: Global) -> Result<Row, Fail> {
     Row::new(alloc, "thousand-keys", keys_by_number(alloc)?)
 }

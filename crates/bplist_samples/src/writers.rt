@@ -4,7 +4,7 @@ ghost use Rattle.std.specs.Prelude.{◌≡◌, IfOk};
 use arrayvec::ArrayVec;
 use std::io::{self, ErrorKind, Write};
 
-/// How a write goes wrong.
+/// How a write fails.
 #[derive(Clone, Copy)]
 pub enum Trouble {
     Interrupted,
@@ -26,8 +26,8 @@ impl Trouble {
     }
 }
 
-/// Answers `first` to so many writes, then takes `step` bytes at most a write and `room` bytes in all, and then answers
-/// `last`. It holds 64 bytes at most, and takes no memory.
+/// A writer that gives `first` for some writes, then takes at most `step` bytes for each write and `room` bytes in all,
+/// and then gives `last`. It holds at most 64 bytes, and takes no memory.
 #[derive(Drop)]
 pub struct ShortWriter {
     pub troubles: u64,
@@ -39,7 +39,7 @@ pub struct ShortWriter {
 }
 
 impl ShortWriter {
-    /// Takes `room` bytes, as many as it can at a write, and then fails.
+    /// Makes a writer that takes `room` bytes, as many as it can with each write, and then fails.
     pub fn with_room(room: usize) -> ShortWriter {
         ShortWriter {
             troubles: 0,

@@ -1,4 +1,4 @@
-//! What a check hands out and hands back, and a checked file that changes.
+//! What a check lends and hands back, and a checked file that changes.
 
 use bplist_cert::{Certificate, Refusal, check};
 use bplist_lint::{UpgradeFault, upgrade};
@@ -62,10 +62,11 @@ const TWO_KEYS: Parts = (
     &[8, 13, 15, 17],
 );
 
-/// The same bytes, but for the second key, which is `a` too.
+/// The same bytes, except that the second key is `a` too.
 const KEY_TWICE: &[u8] = &[0xd2, 1, 2, 3, 3, 0x51, 0x61, 0x51, 0x61, 9];
 
-/// What a file of two keys that is another one after so many reads gets: its key list, `Changed`, or no certificate at all.
+/// Returns the result for a file of two keys that becomes another file after some reads: its key list, `Changed`, or no
+/// certificate.
 fn key_list(
     alloc: Global,
     row: &Row,
@@ -89,7 +90,7 @@ fn lists_two_keys(certificate: &Certificate) -> bool {
     }
 }
 
-/// A key list never has two keys of equal texts, also where the second becomes equal after the check.
+/// A key list never has two equal keys, even if the second key becomes equal after the check.
 #[test]
 fn keys_that_become_equal(rt: HostRuntime) -> Result<(), Fail> {
     let alloc = rt.alloc();

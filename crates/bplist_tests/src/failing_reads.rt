@@ -1,5 +1,6 @@
-//! One failing read at each turn: in the first run read number 0 fails, in the next one read number 1, and so on up to
-//! the first run in which none fails. The call tells the fault of that read, and made again it answers as over a slice.
+//! Calls with one failing read: in the first run read 0 fails, in the next run read 1, and so on up to the first run
+//! without a failure. The call reports the fault of that read, and gives the same answer as over a slice if it is
+//! repeated.
 
 use bplist_cert::{Certificate, check};
 use bplist_lint::lint;
@@ -12,17 +13,17 @@ use std::alloc::{AllocError, Global};
 use std::process::Abort;
 use std::test::Fail;
 
-/// More reads than any of the calls makes.
+/// More reads than any call makes.
 const MOST_READS: u64 = 100_000;
 
-/// What a call said where a read may have failed, and what the same call said when it was made again.
+/// The result of a call with a read that may fail, and the result of the same call when it is repeated.
 #[derive(Drop)]
 struct Turn {
     first: String,
     again: String,
 }
 
-/// A check over a source with this read, and another of what it hands back.
+/// Checks a source with this read, and then checks again what the first check handed back.
 fn check_turn(alloc: Global, row: &Row, read: FailingRead) -> Result<Turn, Fail> {
     let source = FailingSource::new(&row.octets, read);
     match check(alloc, source, row.certificate(alloc)?) {
@@ -37,7 +38,7 @@ fn check_turn(alloc: Global, row: &Row, read: FailingRead) -> Result<Turn, Fail>
     }
 }
 
-/// What a check says that meets no failing read.
+/// Returns the result of a check without a failing read.
 fn accepted_text<S: Source + Drop>(
     alloc: Global,
     name: &'static str,
@@ -50,7 +51,7 @@ fn accepted_text<S: Source + Drop>(
     }
 }
 
-/// A call on a file that is checked over a source with this read, made twice.
+/// Makes a call twice on a file that is checked over a source with this read.
 fn call_turn(alloc: Global, row: &Row, call: &Call, read: FailingRead) -> Result<Turn, Fail> {
     let mut checked = row.checked(alloc, FailingSource::new(&row.octets, read))?;
     let first = call.answer_text(alloc, &mut checked)?;
@@ -58,7 +59,7 @@ fn call_turn(alloc: Global, row: &Row, call: &Call, read: FailingRead) -> Result
     Ok(Turn { first, again })
 }
 
-/// Whether the first call of a turn did not come to this read.
+/// Returns true if the first call of a turn did not come to this read.
 fn is_whole(rt: &impl Abort, name: &str, turn: &Turn, read: FailingRead, want: &str) -> bool {
     if turn.first.as_str() == want {
         return true;
@@ -68,7 +69,7 @@ fn is_whole(rt: &impl Abort, name: &str, turn: &Turn, read: FailingRead, want: &
     false
 }
 
-/// How many reads a check makes, each of which fails so in its turn.
+/// Lets each read of a check fail in its turn. Returns how many reads the check makes.
 fn check_at_each_turn(
     rt: &impl Abort,
     alloc: Global,
@@ -86,13 +87,13 @@ fn check_at_each_turn(
     Err(Fail::new(row.name))
 }
 
-/// What a call answers over a slice.
+/// Returns the answer of a call over a slice.
 fn whole_answer(alloc: Global, row: &Row, call: &Call) -> Result<String, Fail> {
     let mut whole = row.checked(alloc, SliceSource::new(&row.octets))?;
     Ok(call.answer_text(alloc, &mut whole)?)
 }
 
-/// How many reads a call makes on a file whose check ends before the first of them. Each fails in its turn.
+/// Lets each read of a call fail in its turn, after the check has ended. Returns how many reads the call makes.
 fn call_at_each_turn(
     rt: &impl Abort,
     alloc: Global,
@@ -134,7 +135,7 @@ fn row_at_each_turn(
     Ok(())
 }
 
-/// Lets each read of the check and of each call on these files fail so.
+/// Lets each read of the check, and of each call on these files, fail in its turn.
 fn rows_at_each_turn(
     rt: &impl Abort,
     alloc: Global,
@@ -148,7 +149,7 @@ fn rows_at_each_turn(
     Ok(())
 }
 
-/// By certificates of version 1.
+/// With certificates of version 1.
 #[test]
 fn each_read_of_each_call(rt: HostRuntime) -> Result<(), Fail> {
     let alloc = rt.alloc();
@@ -159,7 +160,7 @@ fn each_read_of_each_call(rt: HostRuntime) -> Result<(), Fail> {
     Ok(())
 }
 
-/// By certificates of version 2.
+/// With certificates of version 2.
 #[test]
 fn each_read_of_each_call_with_key_lists(rt: HostRuntime) -> Result<(), Fail> {
     let alloc = rt.alloc();
@@ -181,13 +182,13 @@ const REFUSED: &[(&str, Parts)] = &[
     ("circle", (&[0xa1, 1, 0xa2, 2, 2, 9, 9], &[8, 10, 8])),
 ];
 
-/// Why the linter refuses what this source gives.
+/// Returns why the linter refuses the bytes of this source.
 fn refusal<S: Source>(alloc: Global, source: &mut S) -> Result<String, AllocError> {
     let refused = lint(alloc, source).map(|_| ());
     format!(in alloc; "{refused:?}")
 }
 
-/// What the linter says, over a source with this read, and then once more.
+/// Lints over a source with this read, and then once more.
 fn lint_turn(alloc: Global, octets: &[u8], read: FailingRead) -> Result<Turn, AllocError> {
     let mut source = FailingSource::new(octets, read);
     let first = refusal(alloc, &mut source)?;
@@ -195,7 +196,7 @@ fn lint_turn(alloc: Global, octets: &[u8], read: FailingRead) -> Result<Turn, Al
     Ok(Turn { first, again })
 }
 
-/// How many reads the linter makes of a file that it refuses, each of which fails so in its turn.
+/// Lets each read of the linter on a file that it refuses fail in its turn. Returns how many reads the linter makes.
 fn lint_at_each_turn(
     rt: &impl Abort,
     alloc: Global,
@@ -213,7 +214,7 @@ fn lint_at_each_turn(
     Err(Fail::new(name))
 }
 
-/// By the linter, also on the way that it goes to find the first fault.
+/// The linter, including its way to the first fault.
 #[test]
 fn each_read_of_the_linter(rt: HostRuntime) -> Result<(), Fail> {
     let alloc = rt.alloc();

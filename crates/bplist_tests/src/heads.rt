@@ -5,7 +5,7 @@ use bplist_octets::SliceSource;
 use bplist_samples::{Parts, THREE_KEYS, TWO_TRUES, small};
 use std::test::Fail;
 
-/// A head by its kind and its count, body and end, or the rule that object 0 breaks and the place.
+/// A head as its kind, count, body and end, or the rule that object 0 breaks and the place.
 type Want = Result<(Kind, u64, u64, u64), (Rule, u64)>;
 
 fn answer_of(want: Want) -> Result<Head, ObjectFault> {
@@ -24,7 +24,7 @@ fn answer_of(want: Want) -> Result<Head, ObjectFault> {
     }
 }
 
-/// What is said of object `n`; a number that is none is answered as Top.
+/// Returns the head of object `n`. An object number that does not exist gives a fault of rule `Top`.
 fn head(file: &[u8], n: u32) -> Result<Head, ObjectFault> {
     let mut src = SliceSource::new(file);
     let frame = frame_of(&mut src)?;
@@ -38,7 +38,7 @@ fn head(file: &[u8], n: u32) -> Result<Head, ObjectFault> {
     head_of(&mut src, &frame, ObjectNo(n))
 }
 
-/// Files, objects, and what is said.
+/// Files, objects, and their heads or faults.
 const HEADS: &[(Parts, u32, Want)] = &[
     (TWO_TRUES, 0, Ok((Kind::Array, 2, 9, 11))),
     (TWO_TRUES, 1, Ok((Kind::True, 0, 12, 12))),

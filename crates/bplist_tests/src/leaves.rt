@@ -1,5 +1,5 @@
-//! The readers of objects: places and references, integers, UIDs, data, and units of texts and their order. Their reads fail
-//! one by one.
+//! The readers of objects: places and references, integers, UIDs, data, and units of texts and their order. Their reads
+//! fail one by one.
 
 ghost use Rattle.std.specs.Prelude.{◌≡◌, ◌≤◌, ◌<◌, length, IfOk};
 ghost use Rattle.bplist_octets.specs.Meaning.{OnlyReads};
@@ -17,7 +17,7 @@ use bplist_samples::{Parts, TWO_TRUES, small};
 use std::cmp::Ordering;
 use std::test::Fail;
 
-/// What is read of the object that is the top.
+/// What is read of the top object.
 #[derive(Debug, Clone, Copy, PartialEq, Eq)]
 enum Leaf {
     Int(i128),
@@ -26,12 +26,13 @@ enum Leaf {
     Data([u8; 2]),
     /// The first three units, read one by one and all at once.
     Units([u16; 3], [u16; 3]),
-    /// The place of the array, its body's, its place again in a block, and its first reference, alone and in a block.
+    /// The place of the array and of its body; the same place from a block; its first reference, alone and from a
+    /// block.
     Array([u64; 5]),
     Other,
 }
 
-/// The head of the top.
+/// Returns the head of the top.
 #[tactic(auto, using(bplist_objects::proofs::SafeHeads::safe_body))]
 fn top_head<S: Source>(src: &mut S) -> Result<Head, ObjectFault>
     ensures reads { OnlyReads (read_failed result) (S.means src.old) (S.means src.new) }
@@ -66,7 +67,7 @@ fn units_at<S: Source>(src: &mut S, head: &Head) -> Result<Leaf, ReadFault>
     Ok(Leaf::Units(each, all))
 }
 
-/// The place of the top, read alone and in a block.
+/// Returns the place of the top, read alone and in a block.
 fn places<S: Source>(src: &mut S, frame: &Frame) -> Result<[u64; 2], ObjectFault>
     requires safe { IsSafe (length (S.means src.old).octets) frame.now }
     requires top { frame.now.top.0 < frame.now.objects }
@@ -78,7 +79,7 @@ fn places<S: Source>(src: &mut S, frame: &Frame) -> Result<[u64; 2], ObjectFault
     Ok([place, offsets[0]])
 }
 
-/// The first reference of an array, read alone and in a block.
+/// Returns the first reference of an array, read alone and in a block.
 fn first_refs<S: Source>(src: &mut S, frame: &Frame, head: &Head) -> Result<[u64; 2], ObjectFault>
     requires safe { IsSafe (length (S.means src.old).octets) frame.now }
     requires head { IsSafeHead frame.now head.now }
@@ -113,7 +114,7 @@ fn leaf_in<S: Source>(src: &mut S) -> Result<Leaf, ObjectFault> {
     }
 }
 
-/// Files, and what is read of their tops.
+/// Files, and what is read of their top objects.
 const LEAVES: &[(Parts, Leaf)] = &[
     ((&[0x10, 255], &[8]), Leaf::Int(255)),
     ((&[0x11, 255, 254], &[8]), Leaf::Int(65534)),
@@ -156,7 +157,7 @@ const LEAVES: &[(Parts, Leaf)] = &[
     (TWO_TRUES, Leaf::Array([8, 9, 8, 1, 1])),
 ];
 
-/// Each read fails in turn: the fault of the source is handed on, and the same call again answers.
+/// Each read fails in its turn: the fault of the source is reported, and the repeated call gives the answer.
 #[test]
 fn leaves(rt: HostRuntime) -> Result<(), Fail> {
     let failed = Err(ObjectFault::Read(ReadFault::Device));
@@ -176,7 +177,7 @@ fn leaves(rt: HostRuntime) -> Result<(), Fail> {
     Ok(())
 }
 
-/// How the text that is the top compares with units.
+/// Compares the text of the top with units.
 fn compared<S: Source>(
     src: &mut S,
     units: &[u16],
@@ -192,17 +193,17 @@ fn compared<S: Source>(
 /// The text `ab`.
 const AB: &[u8] = &[0x52, 0x61, 0x62];
 
-/// A text of 40 units, so more than one block of a comparison.
+/// A text of 40 units, which is more than one block of a comparison.
 const LONG: &[u8] = b"\x5f\x10\x28aaaaaaaaaaaaaaaaaaaaaaaaaaaaaaaaaaaaaaaa";
 
-/// The units of `LONG`, but the last is greater.
+/// The units of `LONG`, except that the last one is greater.
 const ABOVE_LONG: &[u16] = &[
     0x61, 0x61, 0x61, 0x61, 0x61, 0x61, 0x61, 0x61, 0x61, 0x61, 0x61, 0x61, 0x61, 0x61, 0x61, 0x61,
     0x61, 0x61, 0x61, 0x61, 0x61, 0x61, 0x61, 0x61, 0x61, 0x61, 0x61, 0x61, 0x61, 0x61, 0x61, 0x61,
     0x61, 0x61, 0x61, 0x61, 0x61, 0x61, 0x61, 0x62,
 ];
 
-/// A text, the units that it is compared with, what the counter shows before, the order, and what it shows then.
+/// A text, the units to compare it with, the counter before, the order, and the counter after.
 const ORDERS: &[(&[u8], &[u16], u64, (Ordering, u64))] = &[
     (AB, &[0x61, 0x62], 4, (Ordering::Equal, 5)),
     (AB, &[0x61], 4, (Ordering::Greater, 5)),
@@ -233,7 +234,7 @@ fn order_of_keys(rt: HostRuntime) -> Result<(), Fail> {
     Ok(())
 }
 
-/// The reads of the head do not count, and the one read of the comparison does, which fails here as the last.
+/// Reads of the head do not count. The one read of the comparison does, even though it fails.
 #[test]
 fn a_failed_read_counts_too(rt: HostRuntime) -> Result<(), Fail> {
     let file = small(rt.alloc(), &[0x51, 0x61], &[8])?;

@@ -1,8 +1,8 @@
-//! The tests of the library: heads and leaves, checked files, paths and nodes, sinks, reads that fail one by one, and how
-//! much a look-up among many keys reads.
+//! The tests of the library: heads and leaves, checked files, paths and nodes, sinks, reads that fail one by one, and
+//! how much a look-up among many keys reads. Not here: what the bytes of a file alone can show, which is in the tables
+//! of tests/vectors.
 //!
-//! It has no code of its own, and is a crate of its own so that a check of the library need not prove its tests. What bytes
-//! alone can show is in the tables of tests/vectors.
+//! The tests are a crate of their own so that checking the library does not prove them again.
 #![tactic(auto)]
 
 #[cfg(test)]

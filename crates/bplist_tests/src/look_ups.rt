@@ -1,5 +1,4 @@
-//! How many comparisons, and how many reads of the source, the look-up of a key among a thousand takes, and how many reads
-//! sizes take.
+//! Counts comparisons and reads of the look-up of a key among a thousand keys, and the reads that sizes take.
 
 use bplist_cert::Checked;
 use bplist_cursor::{Found, Node, Path, Query, Why, answer_all, locate_counted};
@@ -10,10 +9,10 @@ use std::cell::Cell;
 use std::process::Abort;
 use std::test::Fail;
 
-/// The greatest number of comparisons and of reads.
+/// The largest allowed number of comparisons and of reads.
 const MOST: (u64, u64) = (10, 400);
 
-/// The look-up of this key finds what it is to find, and takes no more than `MOST`.
+/// The look-up of this key finds what it should, within `MOST`.
 fn is_by_halving(
     rt: &impl Abort,
     alloc: Global,
@@ -60,7 +59,7 @@ fn thousand_keys_by_halving(rt: HostRuntime) -> Result<(), Fail> {
     Ok(())
 }
 
-/// How many reads it takes to tell the size of the file's value so many times in one call.
+/// Returns the number of reads for asking for the size of the file's value this often in one call.
 fn reads_for_sizes(alloc: Global, row: &Row, sizes: usize) -> Result<u64, Fail> {
     let counts = Cell::new(Counts::default());
     let source = CountingSource::new(&row.octets, &counts);

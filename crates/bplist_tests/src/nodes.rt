@@ -1,4 +1,4 @@
-//! Nodes that a certificate does not vouch for, or that are of no file, and what is lent.
+//! Nodes that are not vouched or do not exist, and bytes that are lent.
 
 use bplist_ascii::{PrintFault, print};
 use bplist_cert::Checked;
@@ -9,7 +9,7 @@ use bplist_samples::{Parts, Row, ShortWriter, THREE_KEYS};
 use std::alloc::Global;
 use std::test::Fail;
 
-/// Whether every call on a node answers `Changed`, and no bytes are lent.
+/// Returns true if every call on a node returns `Changed`, and no bytes are lent.
 fn is_no_node(alloc: Global, checked: &mut Checked<SliceSource<'_>>, node: Node) -> bool {
     let Ok(measures) = measure(alloc, checked) else {
         return false;
@@ -26,7 +26,7 @@ fn is_no_node(alloc: Global, checked: &mut Checked<SliceSource<'_>>, node: Node)
         && bytes_of(checked, node).is_none()
 }
 
-/// Files, and objects that are there and not reached, or that are of no file.
+/// Files, and objects that are not reachable or do not exist.
 const NO_NODES: &[(Parts, u32)] = &[
     (THREE_KEYS, 8),
     (THREE_KEYS, u32::MAX),

@@ -20,7 +20,7 @@ const TEXTS: &[(&str, &[&[u16]])] = &[
     ("/\u{FFFF}~0", &[&[0xFFFF, 0x7E]]),
 ];
 
-/// The path of these steps.
+/// Returns the path of these steps.
 fn path_of(alloc: Global, steps: &[&[u16]]) -> Result<Path, AllocError> {
     let mut own = Vec::new(alloc);
     for step in steps {
@@ -29,7 +29,7 @@ fn path_of(alloc: Global, steps: &[&[u16]]) -> Result<Path, AllocError> {
     Ok(Path::from_steps(own))
 }
 
-/// `Debug` writes the path so.
+/// `Debug` writes the path like this.
 fn is_shown(
     rt: &impl Abort,
     alloc: Global,
@@ -42,7 +42,7 @@ fn is_shown(
     Ok(())
 }
 
-/// The path of a text and that of the steps are the same.
+/// The path of a text equals the path of its steps.
 #[test]
 fn texts(rt: HostRuntime) -> Result<(), Fail> {
     let alloc = rt.alloc();

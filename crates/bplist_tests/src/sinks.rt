@@ -17,7 +17,8 @@ fn send_all(sink: &mut Sink, out: &mut ShortWriter, pieces: &[&[u8]]) -> Result<
 
 const DICT: &[&[u8]] = &[b"{", b"a", b"=", b"\"b c\"", b";", b"}", b"\n"];
 
-/// Interrupted writes, the most bytes of a write, the room, and what comes then; and what it says of `DICT` and holds.
+/// Interrupted writes, the most bytes of a write, the room, and what comes then; the result for `DICT`, and what is
+/// held.
 const WRITERS: &[(u64, usize, usize, Trouble, Result<(), WriteFault>, &[u8])] = &[
     (0, 100, 100, Trouble::Fails, Ok(()), b"{a=\"b c\";}\n"),
     (
@@ -81,8 +82,8 @@ fn writers_that_fail(rt: HostRuntime) -> Result<(), Fail> {
     Ok(())
 }
 
-/// Only an interrupted write is tried again: a writer that fails once in another way, or takes nothing once, and would take
-/// all from then on, is asked no more.
+/// Only an interrupted write is repeated. A writer that fails once in another way, or takes nothing once, is not asked
+/// again, even if it would take everything from then on.
 #[test]
 fn writers_that_fail_once(rt: HostRuntime) -> Result<(), Fail> {
     for first in [Trouble::WouldBlock, Trouble::Fails, Trouble::TakesNothing] {
@@ -96,7 +97,7 @@ fn writers_that_fail_once(rt: HostRuntime) -> Result<(), Fail> {
     Ok(())
 }
 
-/// One sink counts the interrupted writes of all that goes through it.
+/// One sink counts the interrupted writes of everything that goes through it.
 #[test]
 fn interrupts_are_counted_over_the_whole_sink(rt: HostRuntime) -> Result<(), Fail> {
     let mut sink = Sink::new();
@@ -124,7 +125,7 @@ fn long_texts_go_past_the_buffer(rt: HostRuntime) -> Result<(), Fail> {
     Ok(())
 }
 
-/// How much room a writer has for the text of the printable dictionary, what print says, and what that writer holds.
+/// The room of a writer for the text of the printable dictionary, the result of `print`, and what the writer holds.
 const ROOMS: &[(usize, Result<(), PrintFault>, &[u8])] = &[
     (4, Err(PrintFault::Write { sent: 4 }), b"{a=\""),
     (10, Ok(()), b"{a=\"b c\";}"),

@@ -1,7 +1,7 @@
-//! The library in use: queries about a property list, without its tree.
+//! An example of the library: queries about a property list, without building its tree.
 //!
 //! 1. `lint` says whether the file holds a value, and gives its certificate.
-//! 2. `Path::parse` reads a key path, and a `Query` asks about the value that it leads to.
+//! 2. `Path::parse` reads a path, and a `Query` asks about the value under it.
 //! 3. `answer_certified` checks file and certificate, whoever made them, and replies to the queries.
 #![tactic(auto)]
 
@@ -15,7 +15,7 @@ use std::alloc::Global;
 const FILE: &[u8] = b"bplist00\xd1\x01\x02\x51n\x10\x2a\x08\x0b\x0d\
     \0\0\0\0\0\0\x01\x01\0\0\0\0\0\0\0\x03\0\0\0\0\0\0\0\0\0\0\0\0\0\0\0\x0f";
 
-/// The replies to queries about a file, one a query.
+/// Returns the replies to queries about a file, one for each query.
 fn replies_to(alloc: Global, file: &[u8], queries: &[Query]) -> Result<Vec<Reply>> {
     let mut source = SliceSource::new(file);
     let sound = lint(alloc, &mut source).map_err(|refusal| anyhow!("no value: {refusal:?}"))?;

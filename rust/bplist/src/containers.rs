@@ -7,15 +7,15 @@ use crate::ffi::{Session, Status};
 use crate::text::Text;
 use crate::value::{known, Value};
 
-/// How many members are asked for at once.
+/// The number of members that one call of the library gives.
 const BLOCK: usize = 64;
 
-/// The container of an object.
+/// The object of a container, and the number of its members.
 #[derive(Clone, Copy)]
 pub(crate) struct Members<'a> {
     pub(crate) session: &'a Session<'a>,
     pub(crate) object: u32,
-    /// How many members an array or a set has, or how many pairs a dictionary.
+    /// The number of members of an array or a set, or of pairs of a dictionary.
     pub(crate) count: u64,
 }
 
@@ -53,15 +53,15 @@ impl<'a> Members<'a> {
     }
 }
 
-/// The objects of members, which are asked for in blocks.
+/// An iterator over the objects of members. It asks for them in blocks.
 #[derive(Clone)]
 struct Objects<'a> {
     of: Members<'a>,
     block: [u32; BLOCK],
-    /// Which of the block is next, and how many it has.
+    /// The position in the block, and the length of the block.
     next: usize,
     filled: usize,
-    /// Which member stands behind the block.
+    /// The number of the first member after the block.
     behind: u64,
 }
 
@@ -94,7 +94,7 @@ impl<'a> Objects<'a> {
         Some(self.of.value(object))
     }
 
-    /// How many members were given.
+    /// The number of members that were given.
     fn given(&self) -> usize {
         self.behind as usize - (self.filled - self.next)
     }
@@ -115,22 +115,22 @@ pub struct Dict<'a>(pub(crate) Members<'a>);
 macro_rules! container {
     ($name:ident, $iter:ident, $item:ty) => {
         impl<'a> $name<'a> {
-            /// How many there are.
+            /// Returns the number of members, or of pairs.
             pub fn len(&self) -> usize {
                 self.0.len()
             }
 
-            /// Whether there are none.
+            /// Returns true if it is empty.
             pub fn is_empty(&self) -> bool {
                 self.0.count == 0
             }
 
-            /// The number of the object that holds this container. An object may be a member of many others.
+            /// Returns the number of the object that holds this container. An object may be a member of many others.
             pub fn object(&self) -> u32 {
                 self.0.object
             }
 
-            /// From the first to the last, in the order of the file.
+            /// Iterates in the order of the file.
             pub fn iter(&self) -> $iter<'a> {
                 $iter(Objects::new(self.0))
             }
@@ -155,7 +155,8 @@ macro_rules! container {
         }
 
         impl Debug for $name<'_> {
-            /// Writes the number of the object and how many there are, since a small file may hold a very large tree.
+            /// Writes the number of the object and the number of members, but not the members: a small file may hold a
+            /// very large tree.
             fn fmt(&self, f: &mut Formatter<'_>) -> fmt::Result {
                 self.0.debug(stringify!($name), f)
             }
@@ -168,33 +169,33 @@ container!(Set, Iter, Value<'a>);
 container!(Dict, Pairs, (Text<'a>, Value<'a>));
 
 impl<'a> Array<'a> {
-    /// The member with this index, or `None` from the end on.
+    /// Returns the member with this index, or `None` if the index is not below `len`.
     pub fn get(&self, index: usize) -> Option<Value<'a>> {
         self.0.get(index)
     }
 }
 
 impl<'a> Dict<'a> {
-    /// The value for a key, or `None` if the dictionary has no such key.
+    /// Returns the value for a key, or `None` if the dictionary has no such key.
     ///
-    /// The call halves the keys if the file was opened with [`sorted`](crate::Options::sorted), and looks at one key after
-    /// the other if not.
+    /// If the file was opened with [`sorted`](crate::Options::sorted), the call does a binary search. Otherwise it
+    /// looks at one key after the other.
     pub fn get(&self, key: &str) -> Option<Value<'a>> {
         self.0.find(key)
     }
 
-    /// The keys, in the order of the file.
+    /// Iterates over the keys, in the order of the file.
     pub fn keys(&self) -> impl ExactSizeIterator<Item = Text<'a>> + 'a {
         self.iter().map(|(key, _)| key)
     }
 
-    /// The values, in the order of the file.
+    /// Iterates over the values, in the order of the file.
     pub fn values(&self) -> impl ExactSizeIterator<Item = Value<'a>> + 'a {
         self.iter().map(|(_, value)| value)
     }
 }
 
-/// The members of an array or a set.
+/// Iterates over the members of an array or a set.
 #[derive(Clone)]
 pub struct Iter<'a>(Objects<'a>);
 
@@ -211,7 +212,7 @@ impl<'a> Iterator for Iter<'a> {
     }
 }
 
-/// The pairs of a dictionary, each a key and a value.
+/// Iterates over the pairs of a dictionary, as key and value.
 #[derive(Clone)]
 pub struct Pairs<'a>(Objects<'a>);
 

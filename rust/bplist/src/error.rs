@@ -1,41 +1,41 @@
-//! Why a file is refused, and why a path leads nowhere.
+//! Why a file is refused, and why a path leads to no value.
 
 use std::error;
 use std::fmt::{self, Display, Formatter};
 
 use crate::ffi::{self, Status, Verdict};
 
-/// The rule about circles of references, which has no place.
+/// The rule about circles of references. Its faults have no place.
 const CIRCLE: u32 = 23;
 
-/// The first rule about certificates, and the last one but one; [`KEY_ORDER`] is the last.
+/// The rules about certificates, except [`KEY_ORDER`].
 const CERTIFICATES: std::ops::RangeInclusive<u32> = 24..=27;
 
 /// The rule about key lists in a certificate.
 const KEY_ORDER: u32 = 32;
 
-/// A rule of property lists, or of certificates, which has a number from 1 to 32.
+/// A rule about property lists or certificates. Rules have numbers from 1 to 32.
 #[derive(Clone, Copy, Debug, PartialEq, Eq, Hash, PartialOrd, Ord)]
 pub struct Rule(u32);
 
 impl Rule {
-    /// The number of the rule.
+    /// Returns the number of the rule.
     pub fn number(self) -> u32 {
         self.0
     }
 
-    /// The name of the rule, for example `Marker`.
+    /// Returns the name of the rule, for example `Marker`.
     pub fn name(self) -> String {
         ffi::rule_name(self.0)
     }
 
-    /// What the rule asks, as one sentence, for example `The keys of a dictionary differ.`
+    /// Returns what the rule requires, as one sentence, for example `The keys of a dictionary differ.`
     pub fn sentence(self) -> String {
         ffi::rule_text(self.0)
     }
 }
 
-/// The first broken rule of a file or of a certificate, and what breaks it.
+/// The first rule that a file or certificate breaks, and where.
 #[derive(Clone, Debug, PartialEq, Eq)]
 pub struct Fault {
     rule: Rule,
@@ -45,7 +45,7 @@ pub struct Fault {
 }
 
 impl Fault {
-    /// The fault that a verdict tells.
+    /// Returns the fault that a verdict describes.
     fn told(file: &[u8], verdict: &Verdict) -> Result<Fault, Status> {
         let circle = match verdict.rule {
             CIRCLE => ffi::circle(file, verdict.circle)?,
@@ -59,29 +59,29 @@ impl Fault {
         })
     }
 
-    /// The broken rule.
+    /// Returns the broken rule.
     pub fn rule(&self) -> Rule {
         self.rule
     }
 
-    /// The number of the object that breaks the rule, if one does. Of a circle it is the first object.
+    /// Returns the number of the object that breaks the rule, if there is one. For a circle this is the first object.
     pub fn object(&self) -> Option<u32> {
         self.object
     }
 
-    /// The place that shows the fault, counted in bytes from the first byte of the file, or of the certificate if
-    /// [`is_of_certificate`](Fault::is_of_certificate). A circle has no place.
+    /// Returns the place of the fault: the number of a byte, counted from 0, in the file, or in the certificate if
+    /// [`is_of_certificate`](Fault::is_of_certificate) is true. A circle has no place.
     pub fn place(&self) -> Option<u64> {
         self.place
     }
 
-    /// The objects of the circle if the file is refused because references go round in one: each refers to the next, and the
-    /// last to the first. It is empty for all other faults.
+    /// Returns the objects of the circle if the file is refused for a circle of references. Each refers to the next,
+    /// and the last to the first. The slice is empty for all other faults.
     pub fn circle(&self) -> &[u32] {
         &self.circle
     }
 
-    /// Whether the certificate is at fault, and not the file.
+    /// Returns true if the certificate is at fault, and not the file.
     pub fn is_of_certificate(&self) -> bool {
         CERTIFICATES.contains(&self.rule.0) || self.rule.0 == KEY_ORDER
     }
@@ -110,18 +110,18 @@ impl Display for Fault {
     }
 }
 
-/// Why a file is not opened.
+/// Why a file could not be opened.
 #[derive(Clone, Debug, PartialEq, Eq)]
 #[non_exhaustive]
 pub enum Error {
-    /// The file holds no value, or the certificate is not one of the file.
+    /// The file holds no value, or the certificate is not valid for the file.
     Refused(Fault),
-    /// Memory was refused. The call can be made again.
+    /// Memory was refused. The call can be repeated.
     OutOfMemory,
 }
 
 impl Error {
-    /// The error that a status and a verdict tell.
+    /// Returns the error that a status and a verdict describe.
     pub(crate) fn told(file: &[u8], status: Status, verdict: &Verdict) -> Error {
         match status {
             Status::FAULT => match Fault::told(file, verdict) {
@@ -150,30 +150,30 @@ impl error::Error for Error {}
 pub enum PathError {
     /// The dictionary at this step has no such key.
     NoKey {
-        /// The step that cannot be taken.
+        /// The number of the step.
         step: u64,
     },
     /// The step is not an index of the array.
     NoIndex {
-        /// The step that cannot be taken.
+        /// The number of the step.
         step: u64,
     },
     /// The value at this step is neither a dictionary nor an array.
     NotSteppable {
-        /// The step that cannot be taken.
+        /// The number of the step.
         step: u64,
     },
     /// The text is not a JSON Pointer.
     Text {
-        /// The byte at which it is wrong.
+        /// The number of the wrong byte, counted from 0.
         place: u64,
     },
-    /// Memory was refused. The call can be made again.
+    /// Memory was refused. The call can be repeated.
     OutOfMemory,
 }
 
 impl PathError {
-    /// The error of a status, with the step or the place that the call told.
+    /// Returns the error for a status, with the step or place that the call gave.
     pub(crate) fn told(status: Status, step: u64) -> PathError {
         match status {
             Status::NO_KEY => PathError::NoKey { step },

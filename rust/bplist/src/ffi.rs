@@ -1,14 +1,14 @@
-//! The C library: its calls as `bplist.h` declares them, and a safe function over each.
+//! Declares the calls of the C library as `bplist.h` does, and wraps each in a safe function.
 //!
-//! This is the only module with unsafe code. What `bplist.h` asks of a caller is kept here: slices give pointers that are
-//! not null and lengths that are theirs, what a call writes to is borrowed by that call alone, and a [`Session`] holds the
-//! bytes that its handle was opened with, which no one changes while it is borrowed.
+//! This is the only module with unsafe code, and it ensures what `bplist.h` requires of a caller. Slices give pointers
+//! that are not null, with the right lengths. What a call writes to is borrowed by that call alone. A [`Session`] holds
+//! the bytes that its handle was opened with, and nobody changes them while they are borrowed.
 
 use std::cell::UnsafeCell;
 use std::ffi::c_void;
 use std::ptr;
 
-/// What a call returns.
+/// The status that a call returns.
 #[derive(Clone, Copy, Debug, PartialEq, Eq)]
 #[repr(transparent)]
 pub(crate) struct Status(u32);
@@ -24,13 +24,13 @@ impl Status {
     pub(crate) const PATH_TEXT: Status = Status(12);
     pub(crate) const SHORT: Status = Status(14);
 
-    /// What the status means, as one sentence.
+    /// Returns what the status means, as one sentence.
     pub(crate) fn sentence(self) -> String {
         sentence(bplist_status_text, self.0)
     }
 }
 
-/// The numbers of kinds, as [`Body::kind`] has them.
+/// The numbers of kinds, as in [`Body::kind`].
 pub(crate) mod kind {
     pub(crate) const NULL: u32 = 1;
     pub(crate) const FALSE: u32 = 2;
@@ -53,7 +53,7 @@ struct Handle {
     length: u64,
 }
 
-/// What was found of a file.
+/// The verdict on a file.
 #[derive(Clone, Copy, Default)]
 #[repr(C)]
 pub(crate) struct Verdict {
@@ -70,7 +70,7 @@ pub(crate) struct Verdict {
     pub(crate) references: u64,
 }
 
-/// Where a path leads.
+/// The object that a path leads to, or where the path fails.
 #[derive(Default)]
 #[repr(C)]
 pub(crate) struct Found {
@@ -78,7 +78,7 @@ pub(crate) struct Found {
     pub(crate) step: u64,
 }
 
-/// What an object shows of itself.
+/// The kind of an object, and its body.
 #[derive(Default)]
 #[repr(C)]
 pub(crate) struct Body {
@@ -95,7 +95,7 @@ struct Integer {
     high: u64,
 }
 
-/// How large a value is.
+/// The size of a value.
 #[derive(Default)]
 #[repr(C)]
 pub(crate) struct Sizes {
@@ -104,7 +104,7 @@ pub(crate) struct Sizes {
     pub(crate) has_text: u32,
 }
 
-/// A call that tells one thing of an object.
+/// A call that gives one thing about an object.
 type Tells<T> = unsafe extern "C" fn(*mut Handle, *const u8, usize, u32, *mut T) -> Status;
 
 /// A call that writes a name or a sentence.
@@ -203,7 +203,7 @@ extern "C" {
     ) -> Status;
 }
 
-/// The answer of a call, where its status is `OK`.
+/// Returns the answer of a call if its status is `OK`.
 fn answer<T>(status: Status, found: T) -> Result<T, Status> {
     match status {
         Status::OK => Ok(found),
@@ -211,11 +211,11 @@ fn answer<T>(status: Status, found: T) -> Result<T, Status> {
     }
 }
 
-/// A name or a sentence, all of which are ASCII of at most 200 bytes.
+/// Returns a name or a sentence. All are ASCII, of at most 200 bytes.
 fn sentence(call: Writes, number: u32) -> String {
     let mut text = [0; 200];
     let mut count = 0;
-    // SAFETY: `text` and `count` are this function's own.
+    // SAFETY: `text` and `count` are local to this function.
     let status = unsafe { call(number, text.as_mut_ptr(), text.len(), &mut count) };
     match answer(status, count as usize) {
         Ok(count) => String::from_utf8_lossy(&text[..count]).into_owned(),
@@ -223,35 +223,35 @@ fn sentence(call: Writes, number: u32) -> String {
     }
 }
 
-/// The name of rule 1 to 32.
+/// Returns the name of a rule, 1 to 32.
 pub(crate) fn rule_name(rule: u32) -> String {
     sentence(bplist_rule_name, rule)
 }
 
-/// What rule 1 to 32 asks.
+/// Returns what a rule, 1 to 32, requires.
 pub(crate) fn rule_text(rule: u32) -> String {
     sentence(bplist_rule_text, rule)
 }
 
-/// The version of the library that is linked: major, minor and patch number in one, eight bits each.
+/// Returns the version of the linked library: major, minor and patch number, with eight bits each.
 pub(crate) fn version() -> u32 {
-    // SAFETY: the call takes nothing.
+    // SAFETY: the call has no parameters.
     unsafe { bplist_version() }
 }
 
 /// Lints a file.
 pub(crate) fn lint(file: &[u8]) -> (Status, Verdict) {
     let mut verdict = Verdict::default();
-    // SAFETY: `verdict` is this function's own.
+    // SAFETY: `verdict` is local to this function.
     let status = unsafe { bplist_lint(file.as_ptr(), file.len(), &mut verdict) };
     (status, verdict)
 }
 
-/// The objects of the circle for which a file is refused.
+/// Returns the objects of the circle for which a file is refused.
 pub(crate) fn circle(file: &[u8], length: u64) -> Result<Vec<u32>, Status> {
     let mut objects = vec![0; length as usize];
     let mut count = 0;
-    // SAFETY: `objects` and `count` are this function's own.
+    // SAFETY: `objects` and `count` are local to this function.
     let status = unsafe {
         bplist_circle(
             file.as_ptr(),
@@ -264,14 +264,15 @@ pub(crate) fn circle(file: &[u8], length: u64) -> Result<Vec<u32>, Status> {
     answer(status, objects)
 }
 
-/// A file with the handle that was opened with it.
+/// A file, and the handle that was opened with it.
 pub(crate) struct Session<'f> {
-    // Each call writes to the handle while it runs. A cell is not `Sync` and no call calls back, so no two calls overlap.
+    // Each call writes to the handle while it runs. Two calls never overlap, because the cell is not `Sync` and no call
+    // calls back.
     handle: UnsafeCell<Handle>,
     file: &'f [u8],
 }
 
-// SAFETY: `bplist.h` allows to hand a handle on to another thread as other memory is.
+// SAFETY: `bplist.h` allows passing a handle to another thread like other memory.
 unsafe impl Send for Session<'_> {}
 
 impl Drop for Session<'_> {
@@ -282,7 +283,7 @@ impl Drop for Session<'_> {
 }
 
 impl<'f> Session<'f> {
-    /// Opens a file, by a certificate if there is one.
+    /// Opens a file, with a certificate if there is one.
     pub(crate) fn open(
         file: &'f [u8],
         certificate: Option<&[u8]>,
@@ -298,7 +299,7 @@ impl<'f> Session<'f> {
         let handle = session.handle.get();
         let mut verdict = Verdict::default();
         let status = match certificate {
-            // SAFETY: the handle is all zeros, and `verdict` is this function's own.
+            // SAFETY: the handle is all zeros, and `verdict` is local to this function.
             None => unsafe { bplist_open(handle, file.as_ptr(), file.len(), sorted, &mut verdict) },
             // SAFETY: the same.
             Some(octets) => unsafe {
@@ -319,15 +320,15 @@ impl<'f> Session<'f> {
         }
     }
 
-    /// The bytes of the file.
+    /// Returns the bytes of the file.
     pub(crate) fn file(&self) -> &'f [u8] {
         self.file
     }
 
-    /// What a call tells of an object.
+    /// Returns what a call gives about an object.
     fn told<T: Default>(&self, call: Tells<T>, object: u32) -> Result<T, Status> {
         let mut found = T::default();
-        // SAFETY: the file is the one of the handle, and `found` is this function's own.
+        // SAFETY: the file is the one of the handle, and `found` is local to this function.
         let status = unsafe {
             call(
                 self.handle.get(),
@@ -340,28 +341,28 @@ impl<'f> Session<'f> {
         answer(status, found)
     }
 
-    /// Kind, count, place and length of an object's body.
+    /// Returns the kind of an object, and the count, place and length of its body.
     pub(crate) fn face(&self, object: u32) -> Result<Body, Status> {
         self.told(bplist_face, object)
     }
 
-    /// The integer of an object.
+    /// Returns the value of an integer.
     pub(crate) fn int(&self, object: u32) -> Result<i128, Status> {
         let Integer { low, high } = self.told(bplist_int, object)?;
         Ok(((high as u128) << 64 | low as u128) as i128)
     }
 
-    /// The number of a UID.
+    /// Returns the value of a UID.
     pub(crate) fn uid(&self, object: u32) -> Result<u32, Status> {
         self.told(bplist_uid, object)
     }
 
-    /// How large the value of an object is.
+    /// Returns the size of the value of an object.
     pub(crate) fn size(&self, object: u32) -> Result<Sizes, Status> {
         self.told(bplist_size, object)
     }
 
-    /// Writes the objects of the members from number `from` on to the front of `into`, and returns how many there were.
+    /// Writes the objects of the members from number `from` on to the front of `into`. Returns how many it wrote.
     pub(crate) fn members(
         &self,
         object: u32,
@@ -385,10 +386,10 @@ impl<'f> Session<'f> {
         answer(status, count as usize)
     }
 
-    /// Where a path leads from the top.
+    /// Follows a path from the top.
     pub(crate) fn find(&self, path: &str) -> (Status, Found) {
         let mut found = Found::default();
-        // SAFETY: the file is the one of the handle, and `found` is this function's own.
+        // SAFETY: the file is the one of the handle, and `found` is local to this function.
         let status = unsafe {
             bplist_find(
                 self.handle.get(),
@@ -402,10 +403,10 @@ impl<'f> Session<'f> {
         (status, found)
     }
 
-    /// The object to which one step leads.
+    /// Returns the object that one step leads to.
     pub(crate) fn find_key(&self, object: u32, units: &[u16]) -> Result<u32, Status> {
         let mut found = 0;
-        // SAFETY: the file is the one of the handle, and `found` is this function's own.
+        // SAFETY: the file is the one of the handle, and `found` is local to this function.
         let status = unsafe {
             bplist_find_key(
                 self.handle.get(),
@@ -420,12 +421,12 @@ impl<'f> Session<'f> {
         answer(status, found)
     }
 
-    /// The bytes of the certificate.
+    /// Returns the bytes of the certificate.
     pub(crate) fn certificate(&self) -> Result<Vec<u8>, Status> {
         let mut octets = Vec::new();
         loop {
             let mut count = 0;
-            // SAFETY: `octets` and `count` are this function's own.
+            // SAFETY: `octets` and `count` are local to this function.
             let status = unsafe {
                 bplist_certificate(
                     self.handle.get(),

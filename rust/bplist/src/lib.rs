@@ -20,20 +20,20 @@
 //! # }
 //! ```
 //!
-//! | what | items |
+//! | to do this | items |
 //! |---|---|
-//! | a file, opened | [`Plist::open`], [`Options`], [`Plist`] |
-//! | whether a file holds a value, and why not | [`lint`], [`Error`], [`Fault`], [`Rule`] |
-//! | a value | [`Value`], [`Text`], [`Date`], [`Array`], [`Set`], [`Dict`] |
-//! | where a path leads | [`Plist::at`], [`PathError`] |
+//! | open a file | [`Plist::open`], [`Options`], [`Plist`] |
+//! | learn whether a file holds a value, and why not | [`lint`], [`Error`], [`Fault`], [`Rule`] |
+//! | read a value | [`Value`], [`Text`], [`Date`], [`Array`], [`Set`], [`Dict`] |
+//! | follow a path | [`Plist::at`], [`PathError`] |
 //!
-//! Values borrow from the file and from its `Plist`. Each is read when it is asked for, and an iterator asks for its members
-//! in blocks. After a file is opened, reading it has no errors. An object may be a member of many others, so that a walk
-//! over a small file may take very long: [`Plist::nodes`] says before the walk how large the tree is.
+//! Values borrow from the file and from its `Plist`. A value is read when it is asked for, and an iterator asks for its
+//! members in blocks. Once a file is open, reading it cannot fail. An object may be a member of many others, so a walk
+//! over a small file may take very long. [`Plist::nodes`] gives the size of the tree before the walk.
 //!
-//! The crate is a layer over the C library bplist, whose answers are proved; this layer is tested. It has no dependencies.
-//! The build looks for `libbplist.a` in the directory that the environment variable `BPLIST_LIB_DIR` names, or by
-//! pkg-config. All unsafe code stands in one module, `ffi`.
+//! The crate is a layer over the C library bplist. The answers of the library are proved; this layer is tested. It has
+//! no dependencies. The build looks for `libbplist.a` in the directory that the environment variable `BPLIST_LIB_DIR`
+//! names, or with pkg-config. All unsafe code is in one module, `ffi`.
 #![deny(unsafe_code)]
 #![warn(missing_docs)]
 

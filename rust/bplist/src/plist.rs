@@ -1,4 +1,4 @@
-//! Files, linted and opened.
+//! Lints and opens files.
 
 use std::fmt::{self, Debug, Formatter};
 
@@ -6,19 +6,20 @@ use crate::error::{Error, PathError};
 use crate::ffi::{self, Session, Status, Verdict};
 use crate::value::{known, Value};
 
-/// What the linter found of a file that holds a value.
+/// What the linter found in a file that holds a value.
 #[derive(Clone, Copy, Debug, PartialEq, Eq)]
 #[non_exhaustive]
 pub struct Summary {
-    /// How many objects the file has.
+    /// The number of objects in the file.
     pub objects: u64,
     /// The number of the top object, which holds the value of the file.
     pub top: u32,
-    /// How many objects the longest way down from the top has, the top among them.
+    /// The number of objects on the longest way down from the top, including the top.
     pub height: u32,
-    /// How many objects the top reaches, itself among them. It is 0 for a file that was opened by a certificate.
+    /// The number of objects reachable from the top, including the top. It is 0 for a file that was opened with a
+    /// certificate.
     pub reached: u64,
-    /// How many references these have. It is 0 for a file that was opened by a certificate.
+    /// The number of references in these objects. It is 0 for a file that was opened with a certificate.
     pub references: u64,
 }
 
@@ -34,7 +35,8 @@ impl Summary {
     }
 }
 
-/// Says whether a file holds a value, and if not, which rule it breaks. The call reads the whole file.
+/// Decides whether a file holds a value. If it does not, the error says which rule it breaks. The call reads the whole
+/// file.
 pub fn lint(file: &[u8]) -> Result<Summary, Error> {
     match ffi::lint(file) {
         (Status::OK, verdict) => Ok(Summary::told(&verdict)),
@@ -42,13 +44,13 @@ pub fn lint(file: &[u8]) -> Result<Summary, Error> {
     }
 }
 
-/// The version of libbplist.a that the crate is linked with: major, minor and patch number.
+/// Returns the version of the linked libbplist.a: major, minor and patch number.
 pub fn library_version() -> (u8, u8, u8) {
     let [_, major, minor, patch] = ffi::version().to_be_bytes();
     (major, minor, patch)
 }
 
-/// How a file is opened.
+/// How to open a file.
 ///
 /// ```
 /// # fn main() -> Result<(), Box<dyn std::error::Error>> {
@@ -66,18 +68,18 @@ pub struct Options<'c> {
 }
 
 impl<'c> Options<'c> {
-    /// The file is linted, and its keys are not sorted.
+    /// The default: the file is linted, and its keys are not sorted.
     pub fn new() -> Options<'c> {
         Options::default()
     }
 
-    /// With `true` the keys of each dictionary are sorted once, and each of them is found by halving from then on.
+    /// If `sorted` is true, the keys of each dictionary are sorted once. A key is then found by binary search.
     pub fn sorted(self, sorted: bool) -> Options<'c> {
         Options { sorted, ..self }
     }
 
-    /// The file is checked by a certificate of any origin and not linted, which takes less time and memory.
-    /// [`Plist::certificate`] and `bplint certify` write such certificates.
+    /// Opens the file with a certificate instead of linting it. This is faster and takes less memory. The certificate
+    /// may come from anywhere; [`Plist::certificate`] and `bplint certify` write one.
     pub fn certificate(self, octets: &'c [u8]) -> Options<'c> {
         Options {
             certificate: Some(octets),
@@ -97,9 +99,9 @@ impl<'c> Options<'c> {
     }
 }
 
-/// A file that holds a value, and is borrowed. It takes 4 bytes for each object of the file.
+/// An open file that holds a value. It borrows the file, and takes 4 bytes of memory for each object.
 ///
-/// A `Plist` is `Send` and not `Sync`, since its library takes one call at a time for each file:
+/// A `Plist` is `Send` but not `Sync`, because the library allows only one call at a time for each open file:
 ///
 /// ```compile_fail
 /// fn shared<T: Sync>() {}
@@ -111,17 +113,17 @@ pub struct Plist<'f> {
 }
 
 impl<'f> Plist<'f> {
-    /// Lints a file and opens it. [`Options`] has other ways.
+    /// Lints a file and opens it. [`Options`] has other ways to open it.
     pub fn open(file: &'f [u8]) -> Result<Plist<'f>, Error> {
         Options::new().open(file)
     }
 
-    /// What was found of the file.
+    /// Returns what was found in the file.
     pub fn summary(&self) -> Summary {
         self.summary
     }
 
-    /// The value of the file.
+    /// Returns the value of the file.
     pub fn root(&self) -> Value<'_> {
         match Value::of(&self.session, self.summary.top) {
             Some(value) => value,
@@ -129,8 +131,9 @@ impl<'f> Plist<'f> {
         }
     }
 
-    /// The value to which a path leads from the root. A path is a JSON Pointer (RFC 6901): it is empty for the root, or has
-    /// for each step `/` and a key, or an index of an array in decimal digits, with `~0` for `~` and `~1` for `/`.
+    /// Returns the value that a path leads to. A path is a JSON Pointer (RFC 6901). The empty path leads to the root.
+    /// Otherwise each step is `/` and a key, or `/` and an index of an array in decimal digits. `~0` stands for `~`,
+    /// and `~1` for `/`.
     pub fn at(&self, path: &str) -> Result<Value<'_>, PathError> {
         match self.session.find(path) {
             (Status::OK, found) => match Value::of(&self.session, found.object) {
@@ -141,14 +144,15 @@ impl<'f> Plist<'f> {
         }
     }
 
-    /// The value of the object with a number, or `None` if the top does not reach such an object.
+    /// Returns the value of the object with this number, or `None` if the number does not exist or the object is not
+    /// reachable from the top.
     pub fn object(&self, number: u32) -> Option<Value<'_>> {
         Value::of(&self.session, number)
     }
 
-    /// How many nodes the tree of the value has, keys of dictionaries among them; `u64::MAX` if it has that many or more. A
-    /// small file may hold a very large tree. The call looks at each object of the file once. The only error is
-    /// [`Error::OutOfMemory`].
+    /// Returns the number of nodes in the tree of the value, including the keys of dictionaries, or `u64::MAX` if it is
+    /// that large or larger. A small file may hold a very large tree. The call looks at each object of the file once.
+    /// The only error is [`Error::OutOfMemory`].
     pub fn nodes(&self) -> Result<u64, Error> {
         match self.session.size(self.summary.top) {
             Err(Status::MEMORY) => Err(Error::OutOfMemory),
@@ -156,7 +160,7 @@ impl<'f> Plist<'f> {
         }
     }
 
-    /// The bytes of the certificate by which the file can be opened again. The only error is [`Error::OutOfMemory`].
+    /// Returns the certificate with which the file can be opened again. The only error is [`Error::OutOfMemory`].
     pub fn certificate(&self) -> Result<Vec<u8>, Error> {
         match self.session.certificate() {
             Err(Status::MEMORY) => Err(Error::OutOfMemory),

@@ -1,4 +1,4 @@
-//! Texts, as they stand in the file.
+//! Texts, as they are in the file.
 
 use std::borrow::Cow;
 use std::char::{self, REPLACEMENT_CHARACTER};
@@ -6,7 +6,7 @@ use std::fmt::{self, Debug, Display, Formatter, Write};
 use std::iter::FusedIterator;
 use std::str;
 
-/// A text: ASCII, or units of UTF-16 in which surrogates may stand alone.
+/// A text: ASCII, or UTF-16 that may contain unpaired surrogates.
 #[derive(Clone, Copy)]
 pub struct Text<'a> {
     octets: &'a [u8],
@@ -14,7 +14,7 @@ pub struct Text<'a> {
 }
 
 impl<'a> Text<'a> {
-    /// A text of one byte a unit.
+    /// A text with one byte for each unit.
     pub(crate) fn ascii(octets: &'a [u8]) -> Text<'a> {
         Text {
             octets,
@@ -22,22 +22,22 @@ impl<'a> Text<'a> {
         }
     }
 
-    /// A text of two bytes a unit, the greater byte first.
+    /// A text with two bytes for each unit, big-endian.
     pub(crate) fn wide(octets: &'a [u8]) -> Text<'a> {
         Text { octets, wide: true }
     }
 
-    /// How many units of UTF-16 the text has.
+    /// Returns the length in UTF-16 units.
     pub fn len(&self) -> usize {
         self.units().len()
     }
 
-    /// Whether the text has no units.
+    /// Returns true if the text is empty.
     pub fn is_empty(&self) -> bool {
         self.octets.is_empty()
     }
 
-    /// The text as it stands in the file, if it stands there as ASCII.
+    /// Returns the text if the file stores it as ASCII.
     pub fn as_ascii(&self) -> Option<&'a str> {
         if self.wide {
             return None;
@@ -45,7 +45,7 @@ impl<'a> Text<'a> {
         str::from_utf8(self.octets).ok()
     }
 
-    /// The text, with U+FFFD for each surrogate that stands alone.
+    /// Returns the text with U+FFFD in place of each unpaired surrogate.
     pub fn to_string_lossy(&self) -> Cow<'a, str> {
         match self.as_ascii() {
             Some(text) => Cow::Borrowed(text),
@@ -55,7 +55,7 @@ impl<'a> Text<'a> {
         }
     }
 
-    /// The units of UTF-16.
+    /// Iterates over the UTF-16 units.
     pub fn units(&self) -> Units<'a> {
         Units {
             octets: self.octets.chunks_exact(if self.wide { 2 } else { 1 }),
@@ -64,14 +64,14 @@ impl<'a> Text<'a> {
 }
 
 impl Display for Text<'_> {
-    /// Writes the text, with U+FFFD for each surrogate that stands alone.
+    /// Writes the text with U+FFFD in place of each unpaired surrogate.
     fn fmt(&self, f: &mut Formatter<'_>) -> fmt::Result {
         f.pad(&self.to_string_lossy())
     }
 }
 
 impl Debug for Text<'_> {
-    /// Writes the text in quotes, and a surrogate that stands alone as `\u{d83d}`.
+    /// Writes the text in quotes, and an unpaired surrogate as `\u{d83d}`.
     fn fmt(&self, f: &mut Formatter<'_>) -> fmt::Result {
         f.write_char('"')?;
         for unit in char::decode_utf16(self.units()) {
@@ -104,7 +104,7 @@ impl PartialEq<&str> for Text<'_> {
     }
 }
 
-/// The units of a text, from the first to the last.
+/// Iterates over the units of a text.
 #[derive(Clone, Debug)]
 pub struct Units<'a> {
     octets: std::slice::ChunksExact<'a, u8>,

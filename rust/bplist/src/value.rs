@@ -6,14 +6,14 @@ use crate::containers::{Array, Dict, Members, Set};
 use crate::ffi::{kind, Session, Status};
 use crate::text::Text;
 
-/// How many seconds 2001-01-01 00:00:00 UTC is after 1970-01-01 00:00:00 UTC.
+/// The number of seconds from 1970-01-01 00:00:00 UTC to 2001-01-01 00:00:00 UTC.
 const EPOCH: u64 = 978_307_200;
 
 /// A value of a property list.
 #[derive(Clone, Copy, Debug)]
 #[non_exhaustive]
 pub enum Value<'a> {
-    /// Null, which stands for no value.
+    /// Null, which means no value.
     Null,
     /// True or false.
     Bool(bool),
@@ -23,27 +23,28 @@ pub enum Value<'a> {
     Real(f64),
     /// A point in time.
     Date(Date),
-    /// Bytes, as they stand in the file.
+    /// Bytes, as they are in the file.
     Data(&'a [u8]),
     /// A text.
     Text(Text<'a>),
-    /// A number by which archives of NSKeyedArchiver refer to their objects.
+    /// A number with which NSKeyedArchiver refers to an object of its archive.
     Uid(u32),
     /// An array.
     Array(Array<'a>),
-    /// A set. Its members may be equal to one another.
+    /// A set. Its members may be equal.
     Set(Set<'a>),
-    /// A dictionary, whose keys are texts that differ.
+    /// A dictionary. Its keys are texts, and differ.
     Dict(Dict<'a>),
 }
 
-/// What a call on an object of an opened file answers. There is no other answer, since the file does not change.
+/// Unwraps the answer about an object of an open file. There is always an answer, because the file does not change.
 pub(crate) fn known<T>(answer: Result<T, Status>) -> T {
     answer.unwrap_or_else(|status| unreachable!("{}", status.sentence()))
 }
 
 impl<'a> Value<'a> {
-    /// The value of an object, or `None` if the top does not reach such an object.
+    /// Returns the value of an object, or `None` if the number does not exist or the object is not reachable from the
+    /// top.
     pub(crate) fn of(session: &'a Session<'a>, object: u32) -> Option<Value<'a>> {
         let body = match session.face(object) {
             Err(Status::NO_OBJECT) => return None,
@@ -74,7 +75,7 @@ impl<'a> Value<'a> {
         })
     }
 
-    /// True or false, if the value is one of them.
+    /// Returns true or false if the value is one of them.
     pub fn as_bool(&self) -> Option<bool> {
         match self {
             Value::Bool(value) => Some(*value),
@@ -82,7 +83,7 @@ impl<'a> Value<'a> {
         }
     }
 
-    /// The integer, if the value is one.
+    /// Returns the integer if the value is one.
     pub fn as_int(&self) -> Option<i128> {
         match self {
             Value::Int(number) => Some(*number),
@@ -90,7 +91,7 @@ impl<'a> Value<'a> {
         }
     }
 
-    /// The floating-point number, if the value is one.
+    /// Returns the floating-point number if the value is one.
     pub fn as_real(&self) -> Option<f64> {
         match self {
             Value::Real(number) => Some(*number),
@@ -98,7 +99,7 @@ impl<'a> Value<'a> {
         }
     }
 
-    /// The point in time, if the value is one.
+    /// Returns the point in time if the value is one.
     pub fn as_date(&self) -> Option<Date> {
         match self {
             Value::Date(date) => Some(*date),
@@ -106,7 +107,7 @@ impl<'a> Value<'a> {
         }
     }
 
-    /// The bytes, if the value is data.
+    /// Returns the bytes if the value is data.
     pub fn as_data(&self) -> Option<&'a [u8]> {
         match self {
             Value::Data(octets) => Some(octets),
@@ -114,7 +115,7 @@ impl<'a> Value<'a> {
         }
     }
 
-    /// The text, if the value is one.
+    /// Returns the text if the value is one.
     pub fn as_text(&self) -> Option<Text<'a>> {
         match self {
             Value::Text(text) => Some(*text),
@@ -122,7 +123,7 @@ impl<'a> Value<'a> {
         }
     }
 
-    /// The number of the UID, if the value is one.
+    /// Returns the number of the UID if the value is one.
     pub fn as_uid(&self) -> Option<u32> {
         match self {
             Value::Uid(number) => Some(*number),
@@ -130,7 +131,7 @@ impl<'a> Value<'a> {
         }
     }
 
-    /// The array, if the value is one.
+    /// Returns the array if the value is one.
     pub fn as_array(&self) -> Option<Array<'a>> {
         match self {
             Value::Array(array) => Some(*array),
@@ -138,7 +139,7 @@ impl<'a> Value<'a> {
         }
     }
 
-    /// The set, if the value is one.
+    /// Returns the set if the value is one.
     pub fn as_set(&self) -> Option<Set<'a>> {
         match self {
             Value::Set(set) => Some(*set),
@@ -146,7 +147,7 @@ impl<'a> Value<'a> {
         }
     }
 
-    /// The dictionary, if the value is one.
+    /// Returns the dictionary if the value is one.
     pub fn as_dict(&self) -> Option<Dict<'a>> {
         match self {
             Value::Dict(dict) => Some(*dict),
@@ -155,7 +156,7 @@ impl<'a> Value<'a> {
     }
 }
 
-/// The number that 4 or 8 bytes spell by IEEE 754, the greatest byte first.
+/// Decodes a big-endian IEEE 754 number of 4 or 8 bytes.
 fn real(octets: &[u8]) -> f64 {
     if let Ok(wide) = <[u8; 8]>::try_from(octets) {
         return f64::from_be_bytes(wide);
@@ -166,20 +167,20 @@ fn real(octets: &[u8]) -> f64 {
     }
 }
 
-/// A point in time, in seconds since 2001-01-01 00:00:00 UTC. It may be any number, also one that is not finite.
+/// A point in time, in seconds since 2001-01-01 00:00:00 UTC. It may be any number, even one that is not finite.
 #[derive(Clone, Copy, Debug, PartialEq, PartialOrd)]
 pub struct Date(f64);
 
 impl Date {
-    /// The seconds since 2001-01-01 00:00:00 UTC.
+    /// Returns the seconds since 2001-01-01 00:00:00 UTC.
     pub fn seconds(self) -> f64 {
         self.0
     }
 
-    /// The same as a time of the system, if that can hold it.
+    /// Converts to a time of the system, if that can hold it.
     pub fn to_system_time(self) -> Option<SystemTime> {
         let epoch = SystemTime::UNIX_EPOCH.checked_add(Duration::from_secs(EPOCH))?;
-        // `Duration::from_secs_f64` takes finite numbers below 2^64 alone.
+        // `Duration::from_secs_f64` only takes finite numbers below 2^64.
         if self.0.is_nan() || self.0.abs() >= u64::MAX as f64 {
             return None;
         }

@@ -72,7 +72,7 @@ fn of_certificates() {
         .contains("at place 0 of the certificate: "));
 }
 
-/// The crate and the library that it is linked with have one version.
+/// The crate and the linked library have the same version.
 #[test]
 fn version() {
     let (major, minor, patch) = library_version();

@@ -6,7 +6,7 @@ use bplist::{Options, PathError, Plist, Value};
 use common::file;
 use std::time::{Duration, SystemTime};
 
-/// An array of 200 members, each of them object 1 or 2 by turns, which are true and false.
+/// An array of 200 members. They are objects 1 and 2 in turn, which are true and false.
 fn long_array() -> Vec<u8> {
     let mut array = vec![0xaf, 0x10, 200];
     array.extend((0..200).map(|i| 1 + i % 2));
@@ -68,7 +68,7 @@ fn leaves() {
     assert!(matches!(set.iter().next(), Some(Value::Null)));
 }
 
-/// More members than one block has.
+/// More members than one block holds.
 #[test]
 fn long_arrays() {
     let file = long_array();
@@ -132,7 +132,7 @@ fn objects() {
     let file = file(&[b"\xa1\x01", b"\x09", b"\x08"]);
     let plist = Plist::open(&file).unwrap();
     assert!(matches!(plist.object(1), Some(Value::Bool(true))));
-    // The top does not reach object 2, and there is no object 3.
+    // Object 2 is not reachable from the top, and object 3 does not exist.
     assert!(plist.object(2).is_none() && plist.object(3).is_none());
     let summary = plist.summary();
     assert_eq!((summary.objects, summary.top, summary.height), (3, 0, 2));
@@ -160,7 +160,7 @@ fn certificates() {
     }
 }
 
-/// A file can be opened by one thread and read by another.
+/// One thread opens a file and another reads it.
 #[test]
 fn threads() {
     let octets = long_array();

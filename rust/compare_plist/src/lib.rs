@@ -1,13 +1,13 @@
-//! Whether the crates bplist and plist read the same value.
+//! Compares the values that the crates bplist and plist read.
 #![forbid(unsafe_code)]
 
 use bplist::Value;
 use std::time::{Duration, SystemTime};
 
-/// The crate plist gives the seconds of a date another rounding.
+/// The crate plist rounds the seconds of a date differently.
 const ROUNDING: Duration = Duration::from_micros(1);
 
-/// Whether two values are the same. A walk as deep as the value.
+/// Returns true if two values are the same. Recurses as deep as the value.
 pub fn same(ours: Value, theirs: &plist::Value) -> bool {
     match (ours, theirs) {
         (Value::Bool(value), plist::Value::Boolean(other)) => value == *other,

@@ -1,16 +1,16 @@
-//! Each file of the folder `BPLIST_FILES` that both crates take has one value for both.
+//! Reads each file of the folder `BPLIST_FILES`. If both crates accept a file, they must read the same value.
 
 use bplist::Plist;
 use compare_plist::same;
 use std::{env, fs, io, thread};
 
-/// The crate plist builds the tree of a value, so files with larger trees are left out.
+/// The crate plist builds the tree of a value, so files with larger trees are skipped.
 const MOST_NODES: u64 = 100_000;
 
-/// A walk over the deepest of these files needs as much.
+/// The deepest of these files needs this much.
 const STACK: usize = 1 << 30;
 
-/// Whether both crates take the file. They must see the same value in it then.
+/// Returns true if both crates accept the file, after comparing its values.
 fn is_compared(name: &str, file: &[u8]) -> bool {
     let ours = match Plist::open(file) {
         Ok(plist) => plist,

@@ -1,6 +1,7 @@
 //! Property lists written by hand, for the tests.
 
-/// A file of these objects, each at most 255 bytes from the first, with references of one byte. The first is the top.
+/// Makes a file of these objects, each at most 255 bytes from the first, with references of one byte. The first is the
+/// top.
 pub fn file(objects: &[&[u8]]) -> Vec<u8> {
     let mut file = b"bplist00".to_vec();
     let mut offsets = Vec::new();

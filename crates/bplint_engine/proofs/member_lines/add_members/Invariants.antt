@@ -3,7 +3,7 @@ use Rattle.bplist_objects.specs.Value.{Value}
 use Rattle.bplint_engine.specs.Ls.{IsContainer, IsHeadFor, first_lines}
 use Rattle.bplint_engine.proofs.member_lines.add_members.Given as goal
 
--- the lines of the members so far stand behind the lines
+-- the lines of the members so far were added
 abbrev pub invariant-loop-i : goal.invariant-loop-i
 invariant-loop-i g l = record {
   same : l.checked ≡ l.fn.checked;

@@ -22,7 +22,7 @@ pub returns-in_ok-send_raw-in-Some-clause-exact : goal.returns-in_ok-send_raw-in
 returns-in_ok-send_raw-in-Some-clause-exact g c = λ honest vouched w holds.
     let raw = rw c.in-Some.is at (c.in_ok-raw.ensures.exact honest vouched w holds) in
     let sends = (rw c.in_ok-raw.ensures.reads at c.in_ok-send_raw-in-Some.ensures.exact) honest raw.1 in
-    (0, (raw_in c.args.checked.now.source.octets c.in-Some.raw, (refl, raw.0), sends))
+    (raw_in c.args.checked.now.source.octets c.in-Some.raw, (refl, raw.0), sends)
 
 pub returns-in-None-clause-exact : goal.returns-in-None-clause-exact
 returns-in-None-clause-exact g c = λ honest vouched w holds.

@@ -1,4 +1,4 @@
-use Rattle.std.proofs.Common.{◌≡◌, Err, None, subst, sym}
+use Rattle.std.proofs.Common.{◌≡◌, Ok, Err, None, subst, sym}
 use Rattle.std.specs.Prelude.{MatchResult}
 use Rattle.std.proofs.lemmas.Result.{err_from_is_err_and}
 use Rattle.bplist_cursor.specs.Leads.{LeadTo}
@@ -6,7 +6,7 @@ use Rattle.bplint_lines.specs.declared.said.Said.TheVariants.{SomeMissing}
 use Rattle.bplint_lines.specs.Answers.{gives}
 use Rattle.bplint_engine.specs.Get.{found_line}
 use Rattle.bplint_engine.specs.Raw.{LeadsToRawless, NodeShowsRaw, PathShowsRaw, raw_bytes}
-use Rattle.bplint_engine.proofs.LeftBytes.{sent}
+use Rattle.bplint_engine.proofs.LeftBytes.{sent_within}
 use Rattle.bplint_engine.proofs.SentAnswers.{cursor_leaves, missing_made, raw_as}
 use Rattle.bplint_engine.proofs.raw.raw_path.Goals as goal
 
@@ -35,7 +35,9 @@ returns-in_err-send_output-in-Missing-clause-exact g c = λ honest v holds.
     let says = missing_made (PathShowsRaw c.args.path.now v) _ _ _
     (λ a h. subst (λ r. MatchResult r (λ x. NodeShowsRaw x a) (λ missing. a ≡ gives SomeMissing (found_line (Err missing)))) (sym found) h)
     c.missing_output.ensures.made c.missing_output.ensures.refused in
-    rw (p.1, p.2) (0, sent (PathShowsRaw c.args.path.now v) 0 _ _ _ _ says c.in_err-send_output-in-Missing.ensures.sent)
+    let old = g.W.Write.contents c.args.out.now in
+    let new = g.W.Write.contents c.send_output.new.out in
+    rw (p.1, p.2) (sent_within (PathShowsRaw c.args.path.now v) None old new _ _ says c.in_err-send_output-in-Missing.ensures.sent)
 
 pub returns-in_ok-send_output-in-Missing-clause-exact : goal.returns-in_ok-send_output-in-Missing-clause-exact
 returns-in_ok-send_output-in-Missing-clause-exact g c = λ honest v holds.
@@ -43,4 +45,6 @@ returns-in_ok-send_output-in-Missing-clause-exact g c = λ honest v holds.
     let says = missing_made (PathShowsRaw c.args.path.now v) _ _ _
     (λ a h. subst (λ r. MatchResult r (λ x. NodeShowsRaw x a) (λ missing. a ≡ gives SomeMissing (found_line (Err missing)))) (sym found) h)
     c.missing_output.ensures.made c.missing_output.ensures.refused in
-    (0, sent (PathShowsRaw c.args.path.now v) 0 _ _ _ _ says c.in_ok-send_output-in-Missing.ensures.sent)
+    let old = g.W.Write.contents c.args.out.now in
+    let new = g.W.Write.contents c.send_output.new.out in
+    (sent_within (PathShowsRaw c.args.path.now v) None old new _ _ says c.in_ok-send_output-in-Missing.ensures.sent)

@@ -1,15 +1,15 @@
-use Rattle.std.proofs.Common.{◌≡◌, ◌∷◌, [], ℕ, List}
+use Rattle.std.proofs.Common.{◌≡◌, None, ◌∷◌, [], ℕ, List, Err}
 use Rattle.std.proofs.lemmas.Grind.{merely}
 use Rattle.bplist_objects.specs.Value.{Value}
 use Rattle.bplint_lines.specs.Answers.{Answer}
 use Rattle.bplint_engine.specs.Lint.{LintSays}
 use Rattle.bplint_engine.specs.Raw.{PathShowsRaw, ShowsRaw}
-use Rattle.bplint_engine.proofs.LeftBytes.{kept_self, refused}
+use Rattle.bplint_engine.proofs.LeftBytes.{kept_self, refused_within}
 use Rattle.bplint_engine.proofs.PathAnswers.{file_refused, lint_there, lint_yes, path_refused}
 use Rattle.bplint_engine.proofs.SentAnswers.{raw_says}
 use Rattle.bplint_engine.proofs.raw.show_raw_on.Goals as goal
 
--- what is said of one path and a value
+-- the answer for one path and a value
 abbrev IsShown : List (List (List ℕ)) → Value → Answer → Type 0
 IsShown paths v answer = (steps : List (List ℕ)) × (paths ≡ steps ∷ []) × PathShowsRaw steps v answer
 
@@ -17,7 +17,8 @@ pub returns-in-Err-clause-exact : goal.returns-in-Err-clause-exact
 returns-in-Err-clause-exact g c = λ honest.
     let f = (g.S.Source.means c.args.src).octets in
     let path = c.args.path.now in
-    merely (0, refused (ShowsRaw (LintSays f) f path) 0 _ _ _ (path_refused (LintSays f) f (path ∷ []) IsShown _ c.in-Err.ensures) (kept_self _))
+    let old = g.W.Write.contents c.args.out.now in
+    merely (refused_within (ShowsRaw (LintSays f) f path) None old old c.in-Err.fault (path_refused (LintSays f) f (path ∷ []) IsShown _ c.in-Err.ensures) (kept_self old))
 
 pub returns-in-Ok-checked_by_lint-clause-exact : goal.returns-in-Ok-checked_by_lint-clause-exact
 returns-in-Ok-checked_by_lint-clause-exact g c = λ honest.
@@ -30,8 +31,6 @@ pub returns-clause-exact : goal.returns-clause-exact
 returns-clause-exact g c = λ honest.
     let f = (g.S.Source.means c.args.src).octets in
     let path = c.args.path.now in
-    merely (
-      0,
-      refused (ShowsRaw (LintSays f) f path) 0 _ _ _
-          (file_refused (LintSays f) f (path ∷ []) IsShown (c.in-Ok.path ∷ []) _ c.in-Ok.ensures (c.in-Err-checked_by_lint.ensures.exact honest)) (kept_self _),
-    )
+    let old = g.W.Write.contents c.args.out.now in
+    merely (refused_within (ShowsRaw (LintSays f) f path) None old old c.in-Err-checked_by_lint.fault
+    (file_refused (LintSays f) f (path ∷ []) IsShown (c.in-Ok.path ∷ []) _ c.in-Ok.ensures (c.in-Err-checked_by_lint.ensures.exact honest)) (kept_self old))

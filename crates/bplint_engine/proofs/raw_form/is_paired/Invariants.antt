@@ -3,7 +3,7 @@ use Rattle.bplist_objects.specs.Units.{units_of}
 use Rattle.bplint_engine.proofs.ReadCharacters.{IsRead, have_lone}
 use Rattle.bplint_engine.proofs.raw_form.is_paired.Given as goal
 
--- the file is as it was, and the characters so far have no surrogate without its partner
+-- the file is unchanged, and no surrogate so far lacks its partner
 abbrev pub invariant-loop-done : goal.invariant-loop-done
 invariant-loop-done g l = record {
   same : l.checked ≡ l.fn.checked;

@@ -3,7 +3,7 @@ use Rattle.bplist_octets.specs.Octets.{part}
 use Rattle.bplist_ascii.specs.Sending.{Takes}
 use Rattle.bplint_engine.proofs.raw_parts.put_data.Given as goal
 
--- the file is as it was, and the bytes so far were put in
+-- the file is unchanged, and the bytes so far were put in
 abbrev pub invariant-loop-done : goal.invariant-loop-done
 invariant-loop-done g l =
     let file = l.fn.checked in

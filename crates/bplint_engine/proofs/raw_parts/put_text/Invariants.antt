@@ -4,7 +4,7 @@ use Rattle.bplist_ascii.specs.Sending.{Takes}
 use Rattle.bplint_engine.proofs.ReadCharacters.{IsRead, utf8_of}
 use Rattle.bplint_engine.proofs.raw_parts.put_text.Given as goal
 
--- the file is as it was, and the characters so far were put in
+-- the file is unchanged, and the characters so far were put in
 abbrev pub invariant-loop-done : goal.invariant-loop-done
 invariant-loop-done g l =
     let file = l.fn.checked in

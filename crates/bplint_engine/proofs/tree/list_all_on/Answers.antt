@@ -1,15 +1,15 @@
-use Rattle.std.proofs.Common.{◌≡◌, ◌∷◌, [], ℕ, List}
+use Rattle.std.proofs.Common.{◌≡◌, None, ◌∷◌, [], ℕ, List, Err}
 use Rattle.std.proofs.lemmas.Grind.{merely}
 use Rattle.bplist_objects.specs.Value.{Value}
 use Rattle.bplint_lines.specs.Answers.{Answer}
 use Rattle.bplint_engine.specs.Lint.{LintSays}
 use Rattle.bplint_engine.specs.Tree.{ListsAll, PathLists}
-use Rattle.bplint_engine.proofs.LeftBytes.{kept_self, refused}
+use Rattle.bplint_engine.proofs.LeftBytes.{kept_self, refused_within}
 use Rattle.bplint_engine.proofs.PathAnswers.{file_refused, lint_there, lint_yes, path_refused}
 use Rattle.bplint_engine.proofs.SentAnswers.{lists_all}
 use Rattle.bplint_engine.proofs.tree.list_all_on.Goals as goal
 
--- what is said of one path and a value
+-- the answer for one path and a value
 abbrev IsListed : ℕ → List ℕ → List (List (List ℕ)) → Value → Answer → Type 0
 IsListed limit text paths v answer = (steps : List (List ℕ)) × (paths ≡ steps ∷ []) × PathLists limit text steps v answer
 
@@ -17,7 +17,8 @@ pub returns-in-Err-clause-exact : goal.returns-in-Err-clause-exact
 returns-in-Err-clause-exact g c = λ honest.
     let f = (g.S.Source.means c.args.src).octets in
     let path = c.args.path.now in
-    merely (0, refused (ListsAll c.args.limit (LintSays f) f path) 0 _ _ _ (path_refused (LintSays f) f (path ∷ []) (IsListed c.args.limit path) _ c.in-Err.ensures) (kept_self _))
+    let old = g.W.Write.contents c.args.out.now in
+    merely (refused_within (ListsAll c.args.limit (LintSays f) f path) None old old c.in-Err.fault (path_refused (LintSays f) f (path ∷ []) (IsListed c.args.limit path) _ c.in-Err.ensures) (kept_self old))
 
 pub returns-in-Ok-checked_by_lint-clause-exact : goal.returns-in-Ok-checked_by_lint-clause-exact
 returns-in-Ok-checked_by_lint-clause-exact g c = λ honest.
@@ -30,8 +31,6 @@ pub returns-in-Err-checked_by_lint-clause-exact : goal.returns-in-Err-checked_by
 returns-in-Err-checked_by_lint-clause-exact g c = λ honest.
     let f = (g.S.Source.means c.args.src).octets in
     let path = c.args.path.now in
-    merely (
-      0,
-      refused (ListsAll c.args.limit (LintSays f) f path) 0 _ _ _
-          (file_refused (LintSays f) f (path ∷ []) (IsListed c.args.limit path) (c.in-Ok.steps ∷ []) _ c.in-Ok.ensures (c.in-Err-checked_by_lint.ensures.exact honest)) (kept_self _),
-    )
+    let old = g.W.Write.contents c.args.out.now in
+    merely (refused_within (ListsAll c.args.limit (LintSays f) f path) None old old c.in-Err-checked_by_lint.fault
+    (file_refused (LintSays f) f (path ∷ []) (IsListed c.args.limit path) (c.in-Ok.steps ∷ []) _ c.in-Ok.ensures (c.in-Err-checked_by_lint.ensures.exact honest)) (kept_self old))

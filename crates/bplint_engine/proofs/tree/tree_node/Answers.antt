@@ -48,4 +48,4 @@ returns-clause-exact g c = λ honest vouched w holds.
     let room = begins.2 in
     let few = subst (λ n. length (tree_lines n w) ≤ c.in_ok-listing.listing.room) (sym begins.1) (omega (arith, counted, short, room, small)) in
     let sends = (rw c.in_ok-nodes.ensures.reads at c.in_ok-write_tree.ensures.exact) honest w (vouched, holds) few begins.3 in
-    (0, (joined_lines (tree_lines text w), ((low, small), refl, refl), rw begins.1 at sends))
+    (joined_lines (tree_lines text w), ((low, small), refl, refl), rw begins.1 at sends)

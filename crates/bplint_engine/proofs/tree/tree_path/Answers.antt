@@ -1,11 +1,11 @@
-use Rattle.std.proofs.Common.{◌≡◌, Err, subst, sym}
+use Rattle.std.proofs.Common.{◌≡◌, None, Err, subst, sym}
 use Rattle.std.specs.Prelude.{MatchResult}
 use Rattle.std.proofs.lemmas.Result.{err_from_is_err_and}
 use Rattle.bplint_lines.specs.declared.said.Said.TheVariants.{SomeMissing}
 use Rattle.bplint_lines.specs.Answers.{gives}
 use Rattle.bplint_engine.specs.Get.{found_line}
 use Rattle.bplint_engine.specs.Tree.{NodeLists, PathLists}
-use Rattle.bplint_engine.proofs.LeftBytes.{sent}
+use Rattle.bplint_engine.proofs.LeftBytes.{sent_within}
 use Rattle.bplint_engine.proofs.SentAnswers.{cursor_leaves, missing_made, some_as}
 use Rattle.bplint_engine.proofs.tree.tree_path.Goals as goal
 
@@ -32,4 +32,4 @@ returns-in-Missing-clause-exact g c = λ honest v holds.
     let says = missing_made (PathLists branch.limit branch.text.now branch.path v) _ _ _
     (λ a h. subst (λ r. MatchResult r (λ x. NodeLists branch.limit branch.text.now x a) (λ missing. a ≡ gives SomeMissing (found_line (Err missing)))) (sym found) h)
     c.missing_output.ensures.made c.missing_output.ensures.refused in
-    (0, sent (PathLists branch.limit branch.text.now branch.path v) 0 _ _ _ _ says c.send_output.ensures.sent)
+    (sent_within (PathLists branch.limit branch.text.now branch.path v) None _ _ _ _ says c.send_output.ensures.sent)

@@ -7,7 +7,8 @@ use Rattle.bplint_engine.specs.Tree.{tree_lines}
 use Rattle.bplint_engine.specs.TreeWalks.{AreOpen, GoesOn}
 use Rattle.bplint_engine.proofs.tree_walk.list.Given as goal
 
--- the file is as it was, the stack can be read, and over an honest source the first lines were put in and the stack is about the rest
+-- the file is unchanged and the stack can be read; over an honest source a first part of the lines was put in, and the
+-- stack still has to list the rest
 abbrev pub invariant-loop-opened : goal.invariant-loop-opened
 invariant-loop-opened g l = record {
   same : l.checked ≡ l.fn.checked;

@@ -1,7 +1,7 @@
 use Rattle.std.proofs.Common.{◌≡◌, ◌≤◌, ◌-◌, length}
 use Rattle.bplint_lines.proofs.file_lines.is_all_zeros.Given as goal
 
--- the source is as it was, and no more is looked at than it has
+-- the source is unchanged, and no read goes past its end
 abbrev pub invariant-loop-done : goal.invariant-loop-done
 invariant-loop-done g l =
     let means = g.S.Source.means in

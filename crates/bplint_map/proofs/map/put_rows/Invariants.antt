@@ -7,7 +7,7 @@ use Rattle.bplint_map.specs.Lines.{part_lines}
 use Rattle.bplint_map.specs.Rows.{AreFindings, placed, rows}
 use Rattle.bplint_map.proofs.map.put_rows.Given as goal
 
--- the source is as it was, and the lines so far were put in
+-- the source is unchanged, and the lines so far were put in
 abbrev pub invariant-loop-object : goal.invariant-loop-object
 invariant-loop-object g l =
     let means = g.P.Source.means in

@@ -5,7 +5,7 @@ use Rattle.bplist_cursor.specs.OldStyle.{value_text}
 use Rattle.bplist_ascii.specs.FormlessSearch.{HasSameFormless}
 use Rattle.bplist_ascii.proofs.formless.first_formless.Given as goal
 
--- the file is as it was, and the search has come to an object whose first part without a form is that of all
+-- the file is unchanged, and the first object without a form is also that of the object that the search has reached
 abbrev pub invariant-loop-next : goal.invariant-loop-next
 invariant-loop-next g l = record {
   same : l.checked ≡ l.fn.checked;

@@ -7,7 +7,7 @@ use Rattle.bplist_ascii.specs.FormlessSearch.{HaveForms}
 use Rattle.bplist_ascii.proofs.SearchSteps.{Passes}
 use Rattle.bplist_ascii.proofs.formless.first_without_text.Given as goal
 
--- the file is as it was, and the members so far have texts
+-- the file is unchanged, and the members so far have texts
 abbrev pub invariant-loop-node : goal.invariant-loop-node
 invariant-loop-node g l = record {
   same : l.checked ≡ l.fn.checked;

@@ -4,7 +4,7 @@ use Rattle.bplist_objects.specs.Units.{units_of}
 use Rattle.std.specs.Char.{is_ascii_alphanumeric}
 use Rattle.bplist_ascii.proofs.leaves.is_unquoted.Given as goal
 
--- the file is as it was, and the units so far are plain
+-- the file is unchanged, and the units so far are letters and digits
 abbrev pub invariant-loop-done : goal.invariant-loop-done
 invariant-loop-done g l =
     let file = l.fn.checked in

@@ -5,7 +5,7 @@ use Rattle.bplist_ascii.specs.BoundedWrites.{hex_digits}
 use Rattle.bplist_ascii.specs.BoundedWrites.{AddsText}
 use Rattle.bplist_ascii.proofs.leaves.write_data_body.Given as goal
 
--- the file is as it was, and the bytes so far were put in
+-- the file is unchanged, and the bytes so far were put in
 abbrev pub invariant-loop-done : goal.invariant-loop-done
 invariant-loop-done g l =
     let file = l.fn.checked in

@@ -6,7 +6,8 @@ use Rattle.bplist_ascii.specs.BoundedWrites.{AddsSome}
 use Rattle.bplist_ascii.specs.Walks.{AreSafe, GoesOn}
 use Rattle.bplist_ascii.proofs.walk.write_value.Given as goal
 
--- the file is as it was, some bytes were put in, and over a trusted source they are the first of the text and the stack is about the rest
+-- the file is unchanged and some bytes were put in; over an honest source they are a first part of the text, and the
+-- stack still has to write the rest
 abbrev pub invariant-loop-opened : goal.invariant-loop-opened
 invariant-loop-opened g l = record {
   same : l.checked ≡ l.fn.checked;

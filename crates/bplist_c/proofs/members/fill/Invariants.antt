@@ -2,7 +2,7 @@ use Rattle.std.proofs.Common.{◌≤◌, ◌-◌, length}
 use Rattle.bplist_c.proofs.MemberSteps.{AreSpelledTo}
 use Rattle.bplist_c.proofs.members.fill.Given as goal
 
--- the members so far are put
+-- the members so far are written
 abbrev pub invariant-loop-done : goal.invariant-loop-done
 invariant-loop-done l = record {
   reached : l.done ≤ length l.initial.into;

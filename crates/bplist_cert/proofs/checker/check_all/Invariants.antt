@@ -5,7 +5,7 @@ use Rattle.bplist_cert.specs.PairFault.{AreCheckedBelow}
 use Rattle.bplist_cert.specs.KeysLooks.{AreSeen}
 use Rattle.bplist_cert.proofs.checker.check_all.Given as goal
 
--- the source is as it was, and the vouched objects so far keep the rules, and their keys as far as the look says
+-- the source is as it was; the vouched objects so far keep the rules, and so do their keys as far as `found` says
 abbrev pub invariant-loop-done : goal.invariant-loop-done
 invariant-loop-done g l =
     let means = g.P.Source.means in

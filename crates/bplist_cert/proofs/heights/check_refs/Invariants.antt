@@ -3,7 +3,7 @@ use Rattle.bplist_objects.specs.Framed.{HonestlyIn}
 use Rattle.bplist_cert.specs.Heights.{AreMet}
 use Rattle.bplist_cert.proofs.heights.check_refs.Given as goal
 
--- the source is as it was, and the references so far have heights as they are wanted
+-- the source is as it was, and the references so far have heights as wanted
 abbrev pub invariant-loop-done : goal.invariant-loop-done
 invariant-loop-done g l =
     let means = g.P.Source.means in

@@ -6,7 +6,7 @@ use Rattle.bplist_cert.specs.KeyOffsets.{ArePlaces}
 use Rattle.bplist_cert.specs.KeyRepeats.{HaveNamedKeys, IsVouchedKey}
 use Rattle.bplist_cert.proofs.key_names.name_block.Given as goal
 
--- the keys of the vouched dictionaries so far are named, and nothing but keys of vouched ones
+-- exactly the keys of the vouched dictionaries so far are named
 abbrev pub invariant-loop-i : goal.invariant-loop-i
 invariant-loop-i g l =
     let means = g.P.Source.means in

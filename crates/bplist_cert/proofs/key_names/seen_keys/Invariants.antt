@@ -5,7 +5,7 @@ use Rattle.bplist_cert.specs.Looks.{KeepBeforeKeysBelow}
 use Rattle.bplist_cert.specs.KeyRepeats.{HaveNamedKeys, IsVouchedKey}
 use Rattle.bplist_cert.proofs.key_names.seen_keys.Given as goal
 
--- the keys of the vouched dictionaries so far are named, and nothing but keys of vouched ones
+-- exactly the keys of the vouched dictionaries so far are named
 abbrev pub invariant-loop-done : goal.invariant-loop-done
 invariant-loop-done g l =
     let means = g.P.Source.means in

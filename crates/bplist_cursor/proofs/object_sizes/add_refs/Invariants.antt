@@ -5,7 +5,7 @@ use Rattle.bplist_cursor.specs.Sizes.{added}
 use Rattle.bplist_cursor.specs.declared.measures.Size.{Size}
 use Rattle.bplist_cursor.proofs.object_sizes.add_refs.Given as goal
 
--- the file is as it was, and what is left to add to the total so far gives what all gives
+-- the file is as it was; the total so far plus what is left to add is the whole
 abbrev pub invariant-loop-done : goal.invariant-loop-done
 invariant-loop-done g l =
     record {

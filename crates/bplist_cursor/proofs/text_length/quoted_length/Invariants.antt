@@ -2,7 +2,7 @@ use Rattle.std.proofs.Common.{◌≡◌, ◌≤◌, ◌*◌, length, flat_map, t
 use Rattle.bplist_cursor.specs.Texts.{quoted_unit}
 use Rattle.bplist_cursor.proofs.text_length.quoted_length.Given as goal
 
--- the units so far take so many bytes, at most six each
+-- the sum is the bytes that the units so far take, at most six each
 abbrev pub invariant-loop-unit : goal.invariant-loop-unit
 invariant-loop-unit l = record {
   sum : l.sum ≡ length (flat_map quoted_unit (take l.unit-index l.units));

@@ -6,7 +6,7 @@ use Rattle.std.specs.Char.{is_ascii_alphanumeric}
 use Rattle.bplist_cursor.specs.Texts.{quoted_unit}
 use Rattle.bplist_cursor.proofs.text_length.text_length.Given as goal
 
--- the file is as it was, and the units so far are plain or not, and take so many bytes between quotes
+-- the file is as it was; `plain` and `quoted` are right for the units so far
 abbrev pub invariant-loop-done : goal.invariant-loop-done
 invariant-loop-done g l =
     let file = l.fn.checked in

@@ -2,7 +2,7 @@ use Rattle.std.proofs.Common.{◌≡◌, ℕ, ◌≤◌, ◌<◌, ◌-◌, get_o
 use Rattle.bplist_objects.specs.Scan.{nth_number}
 use Rattle.bplist_objects.proofs.numbers.read_many.Given as goal
 
--- the source is as it was, and the numbers so far are there
+-- the source is unchanged, and the numbers so far have been read
 abbrev pub invariant-loop-done : goal.invariant-loop-done
 invariant-loop-done g l =
     let means = g.S.Source.means in

@@ -2,7 +2,7 @@ use Rattle.std.proofs.Common.{◌≡◌, ◌≤◌, ◌-◌, IsTrue}
 use Rattle.bplist_objects.specs.Scan.{AreBelow}
 use Rattle.bplist_objects.proofs.scan.first_by_blocks.Given as goal
 
--- the source is as it was, and the numbers so far are below the bound
+-- the source is unchanged, and the numbers so far are below the bound
 abbrev pub invariant-loop-done : goal.invariant-loop-done
 invariant-loop-done g l =
     let means = g.S.Source.means in

@@ -2,7 +2,7 @@ use Rattle.std.proofs.Common.{◌≡◌, ◌≤◌, ◌-◌, IsTrue}
 use Rattle.bplist_objects.specs.Scan.{AreBelow}
 use Rattle.bplist_objects.proofs.scan.first_high_in.Given as goal
 
--- the source is as it was, and the bytes so far are below 128
+-- the source is unchanged, and the bytes so far are below 128
 abbrev pub invariant-loop-done : goal.invariant-loop-done
 invariant-loop-done g l =
     let means = g.S.Source.means in

@@ -2,7 +2,7 @@ use Rattle.std.proofs.Common.{◌≡◌, ◌≤◌, ◌-◌, take, IsTrue}
 use Rattle.bplist_objects.specs.Units.{units_of}
 use Rattle.bplist_objects.proofs.text.key_cmp.Given as goal
 
--- the source is as it was, and the units so far are the same
+-- the source is unchanged, and the units so far are the same
 abbrev pub invariant-loop-done : goal.invariant-loop-done
 invariant-loop-done g l =
     let means = g.S.Source.means in

@@ -1,7 +1,7 @@
 use Rattle.std.proofs.Common.{◌+◌, ◌≤◌}
 use Rattle.bplist_octets.proofs.windows.span_of.Given as goal
 
--- from there a pane has room for what is asked for
+-- from the start so far, a pane has room for the request
 abbrev pub invariant-loop-pane : goal.invariant-loop-pane
 invariant-loop-pane l = record {
   start : l.start ≤ l.fn.at;

@@ -1,0 +1,219 @@
+#!/usr/bin/env python3
+"""c_library.py
+
+Compiles the C programs against libbplist.a, with all warnings as errors, and runs them. Run `make build lib` first.
+
+- The walker (c_walker.c) walks over every file of the tables and of other writers, under valgrind if it is installed, and
+  prints what `bplint lint` says. An error or a leak fails the batch. On some files it runs again with each request for
+  memory refused in turn.
+- c_threads.c calls the library from several threads, under valgrind's helgrind if it is installed.
+- The example prints values.
+- The library exports the calls of bplist.h, and has no variables that it writes.
+
+Each file counts as one test, and so does each of the other points. Without gcc and nm nothing is run. The last line is
+`N passed, M failed`, with `, K skipped` if some were.
+"""
+import os
+import pathlib
+import re
+import subprocess
+import sys
+import tempfile
+
+ROOT = pathlib.Path(__file__).resolve().parents[2]
+sys.path.insert(0, str(ROOT / "tests"))
+
+from helpers.contents import doubling, expression  # noqa: E402
+from helpers.harness import closing, lacks  # noqa: E402
+from helpers.sample_files import table_files, written_files  # noqa: E402
+
+HERE = pathlib.Path(__file__).resolve().parent
+PROGRAM = ROOT / "crates/bplint/out/bplint"
+LIBRARY = ROOT / "crates/bplist_c/out/libbplist.a"
+SHARED = ROOT / "crates/bplist_c/out/libbplist.so.0"
+STRICT = ["-std=c11", "-Wall", "-Wextra", "-Werror", "-pedantic", "-O2", "-g"]
+BATCH = 60
+SECONDS = 900
+MOST_GROWTHS = 2000
+# An address that the allocator of the kit hands on where malloc gives none. Nothing is written to it.
+UNWRITTEN = "nothing"
+
+REFUSED = {
+    "two-trues": expression("hd a20101 09 080b tr(1,1,2,0,12)"),
+    "doubling-64-text": doubling(64, b"\x51a"),
+    "three-keys": expression("hd d3010203040506 53612f62 50 5173 a107 08 c107 09 080f13141618191b tr(1,1,8,0,28)"),
+    "self-circle": expression("hd a100 08 tr(1,1,1,0,10)"),
+    "key-not-text": expression("hd d10101 09 080b tr(1,1,2,0,12)"),
+}
+
+# What the example prints of a file under a path.
+PRINTED = [
+    ("top(09)", "", b"true\n"),
+    ("top(12 fffffffe)", "", b"4294967294\n"),
+    ("top(13 fffffffffffffffe)", "", b"-2\n"),
+    ("top(14 8*00 8*ff)", "", b"18446744073709551615\n"),
+    ("top(23 3ff8000000000000)", "", b"1.5\n"),
+    ("top(22 3fc00000)", "", b"1.5\n"),
+    ("top(43 00a1ff)", "", b"00a1ff\n"),
+    ("top(53 616263)", "", b"abc\n"),
+    ("top(64 00e9 d83dde00 d83d)", "", b"\xc3\xa9\xf0\x9f\x98\x80\xef\xbf\xbd\n"),
+    ("top(80 07)", "", b"uid 7\n"),
+    ("hd a20101 09 080b tr(1,1,2,0,12)", "", b"array of 2\n"),
+    ("hd a20101 09 080b tr(1,1,2,0,12)", "/1", b"true\n"),
+    ("hd d10102 5161 1001 080b0d tr(1,1,3,0,15)", "/a", b"1\n"),
+]
+
+
+def built(folder, source, *flags):
+    program = folder / source.stem
+    subprocess.run(["gcc", *STRICT, "-o", program, source, *flags], check=True)
+    return program
+
+
+def bplint_lint(path):
+    """What the program says of a file that no row of the tables lints."""
+    ran = subprocess.run([PROGRAM, "lint", path], capture_output=True, timeout=SECONDS, check=False)
+    return ran.stdout + ran.stderr
+
+
+def symbols(library, *flags):
+    """The names that a library has, by the letter that nm gives for what they are."""
+    ran = subprocess.run(["nm", *flags, library], capture_output=True, text=True, check=True)
+    rows = (line.split() for line in ran.stdout.splitlines())
+    return [(row[-1].partition("@")[0], row[-2]) for row in rows if len(row) >= 2]
+
+
+class Tests:
+    def __init__(self, folder):
+        self.folder = folder
+        self.passed = self.failed = self.skipped = 0
+        self.has_valgrind = not lacks("valgrind")
+        static = [f"-I{ROOT / 'include'}", LIBRARY]
+        self.walker = built(folder, HERE / "c_walker.c", *static)
+        self.threads = built(folder, HERE / "c_threads.c", *static, "-pthread")
+        self.example = built(folder, ROOT / "examples/print_value.c", *static)
+
+    def count(self, name, difference):
+        if difference:
+            print(f"FAILED {name}: {difference}")
+            self.failed += 1
+        else:
+            self.passed += 1
+
+    def skip(self, tests, program):
+        print(f"skipped, {program} is not installed: {tests}")
+        self.skipped += 1
+
+    def file(self, name, octets):
+        path = self.folder / name
+        path.write_bytes(octets)
+        return path
+
+    def rows(self):
+        """Name, path and line of each file that is walked."""
+        if lacks("plistutil"):
+            self.skip("walks over its files", "plistutil")
+        samples = [*table_files(), *written_files(self.folder)]
+        for number, sample in enumerate(samples):
+            path = self.file(f"row{number}", sample.octets)
+            yield sample.name, path, sample.line or bplint_lint(path)
+
+    def walk(self, tool, batch):
+        """Runs the walker on a batch of files, and one by one where the batch fails, to name the row."""
+        command = [*tool, self.walker, *(path for _, path, _ in batch)]
+        ran = subprocess.run(command, capture_output=True, timeout=SECONDS)
+        lines = ran.stdout.splitlines(keepends=True)
+        if ran.returncode != 0 and len(batch) > 1:
+            for row in batch:
+                self.walk(tool, [row])
+            return
+        if ran.returncode != 0:
+            self.count(batch[0][0], f"status {ran.returncode}: {ran.stderr.decode(errors='replace')[-2000:]}")
+            return
+        for (name, _, expected), line in zip(batch, lines + [b""] * len(batch)):
+            self.count(name, "" if line == expected else f"{line} and not {expected}")
+
+    def walk_all(self):
+        tool = []
+        if self.has_valgrind:
+            tool = ["valgrind", "-q", "--error-exitcode=99", "--leak-check=full", "--errors-for-leak-kinds=all"]
+        else:
+            self.skip("errors and leaks of the walks and the threads", "valgrind")
+        rows = list(self.rows())
+        for start in range(0, len(rows), BATCH):
+            self.walk(tool, rows[start : start + BATCH])
+
+    def refuse_growths(self):
+        preload = self.folder / "refuse_growth.so"
+        source = HERE / "refuse_growth.c"
+        subprocess.run(["gcc", "-shared", "-fPIC", "-O2", "-o", preload, source], check=True)
+        for name, octets in REFUSED.items():
+            path = self.file(f"refused-{name}", octets)
+            usual = subprocess.run([self.walker, path], capture_output=True, timeout=SECONDS)
+            self.count(f"refused growths, {name}", self.refused(preload, path, usual))
+
+    def refused(self, preload, path, usual):
+        if usual.returncode != 0:
+            return f"status {usual.returncode}: {usual.stderr}"
+        for number in range(1, MOST_GROWTHS):
+            told, tell = os.pipe()
+            environment = dict(os.environ, LD_PRELOAD=preload, REFUSED_GROWTH=str(number), REFUSED_GROWTH_TOLD=str(tell))
+            ran = subprocess.run([self.walker, path], capture_output=True, env=environment, pass_fds=[tell], timeout=SECONDS)
+            os.close(tell)
+            met = os.read(told, 1)
+            os.close(told)
+            if (ran.returncode, ran.stdout) != (usual.returncode, usual.stdout):
+                return f"growth {number}: status {ran.returncode}: {ran.stderr}"
+            if not met:
+                return "" if number > 1 else "no growth was refused"
+        return f"more than {MOST_GROWTHS} growths"
+
+    def run_threads(self):
+        tool = ["valgrind", "-q", "--tool=helgrind", "--error-exitcode=99"] if self.has_valgrind else []
+        for name, octets in REFUSED.items():
+            path = self.file(f"threads-{name}", octets)
+            if subprocess.run([self.example, path], capture_output=True, check=False).returncode == 0:
+                ran = subprocess.run([*tool, self.threads, path], capture_output=True, timeout=SECONDS)
+                self.count(f"threads, {name}", "" if ran.returncode == 0 else f"{ran}")
+
+    def print_values(self):
+        for number, (text, path, expected) in enumerate(PRINTED):
+            file = self.file(f"printed{number}", expression(text))
+            self.print_value(file, path, expected)
+        absent = subprocess.run([self.example, self.file("none", b"")], capture_output=True, timeout=SECONDS)
+        right = absent.returncode == 1 and b"rule 2 (TooShort), place 0" in absent.stderr
+        self.count("print_value of an empty file", "" if right else f"{absent}")
+
+    def print_value(self, file, path, expected):
+        ran = subprocess.run([self.example, file, path], capture_output=True, timeout=SECONDS)
+        right = (ran.returncode, ran.stdout, ran.stderr) == (0, expected, b"")
+        self.count(f"print_value {file} {path}", "" if right else f"{ran}")
+
+    def see_symbols(self):
+        calls = set(re.findall(r"^\w+ (bplist_\w+)\(", (ROOT / "include/bplist.h").read_text(), re.MULTILINE))
+        shown = {name for name, kind in symbols(SHARED, "-D", "--defined-only") if kind == "T"}
+        self.count("calls of libbplist.so", "" if shown == calls else f"{shown ^ calls}")
+        shown = {name for name, _ in symbols(LIBRARY, "-g", "--defined-only")}
+        self.count("calls of libbplist.a", "" if shown == calls else f"{shown ^ calls}")
+        variables = {name for name, kind in symbols(LIBRARY, "--defined-only") if kind in "bBdDcCsSgG"}
+        self.count("variables of libbplist.a", ", ".join(variables - {UNWRITTEN}))
+
+
+def main():
+    for program in ("gcc", "nm"):
+        if lacks(program):
+            print(f"skipped, {program} is not installed: the C library\n{closing(0, 0, 1)}")
+            return 0
+    with tempfile.TemporaryDirectory() as folder:
+        tests = Tests(pathlib.Path(folder))
+        tests.walk_all()
+        tests.refuse_growths()
+        tests.run_threads()
+        tests.print_values()
+        tests.see_symbols()
+    print(closing(tests.passed, tests.failed, tests.skipped))
+    return 1 if tests.failed else 0
+
+
+if __name__ == "__main__":
+    sys.exit(main())

@@ -1,0 +1,157 @@
+#!/usr/bin/env python3
+"""folders.py PROGRAM [--files N]
+
+Tests what no table can show of `lint --recursive`. Only the names of the files take memory for each file: N files, 2,000
+unless given, in one folder and in folders of 100. A file or folder that may not be read has a line, and does not end the run.
+The line of counts is written without being asked for if standard error is a terminal. A name of any bytes takes one line.
+The last line is `N passed, M failed`.
+"""
+import argparse
+import os
+import pathlib
+import pty
+import subprocess
+import sys
+import tempfile
+
+SOUND = bytes.fromhex("62706c697374303009080000000000000101000000000000000100000000000000000000000000000009")
+NOBODY = 65534
+EACH = 128  # bytes that a path takes beside its own: its entry, what the allocator rounds up, and what a list spares
+BESIDE = 1 << 20
+
+
+def lint(program, *words, **options):
+    return subprocess.run([program, "lint", *words], capture_output=True, check=False, **options)
+
+
+def peak(program, folder):
+    """The most memory that a quiet run held, in bytes, and what it wrote to standard error."""
+    ran = subprocess.Popen([program, "lint", "-rq", "--summary", folder], stderr=subprocess.PIPE)
+    said = ran.stderr.read().decode().strip()
+    _, status, usage = os.wait4(ran.pid, 0)
+    ran.returncode = os.waitstatus_to_exitcode(status)
+    return usage.ru_maxrss * 1024, said
+
+
+def fill(folder, count, each):
+    """So many sound files, `each` in a folder."""
+    for k in range(count):
+        below = folder / f"folder {k // each}"
+        below.mkdir(parents=True, exist_ok=True)
+        (below / f"property list {k}.plist").write_bytes(SOUND)
+
+
+def memory_tests(program, top, count):
+    few = top / "few"
+    fill(few, 10, 10)
+    least, _ = peak(program, few)
+    name = len(str(top)) + 60
+    for each in (100, count):
+        folder = top / f"each {each}"
+        fill(folder, count, each)
+        held, said = peak(program, folder)
+        allowed = least + BESIDE + (each + count // each) * (name + EACH)
+        yield f"{count} files, {each} in a folder: {held} bytes held, {allowed} allowed", held <= allowed, True
+        counts = f"files looked at {count}, sound {count}, not sound 0, unreadable 0, passed over 0"
+        yield f"{count} files, {each} in a folder: counts", said, counts
+
+
+def unreadable_tests(program, top):
+    """What the user may not read. The program runs as nobody if the test runs as root, who may read all."""
+    folder = top / "closed"
+    (folder / "inner").mkdir(parents=True)
+    (folder / "inner/file").write_bytes(SOUND)
+    for name in ("before", "closed", "then"):
+        (folder / name).write_bytes(SOUND)
+    (folder / "closed").chmod(0)
+    (folder / "inner").chmod(0)
+    for path in (top, folder):
+        path.chmod(0o755)
+    options = {"cwd": top}
+    if os.geteuid() == 0:
+        options["user"] = NOBODY
+    ran = lint(program, "-r", "--explain", "--summary", "closed", **options)
+    yield "closed: status", ran.returncode, 3
+    yield "closed: answers", ran.stdout, b"".join(
+        b"closed/%s: ok reached 1 height 1 top true\n" % name for name in (b"before", b"then")
+    )
+    yield "closed: faults", ran.stderr, (
+        b"closed/closed: read Open\n  file: closed/closed: no permission\n"
+        b"closed/inner: read Open\n  file: closed/inner: no permission\n"
+        b"files looked at 4, sound 2, not sound 0, unreadable 2, passed over 0\n"
+    )
+    (folder / "inner").chmod(0o755)
+
+
+def terminal_output(program, *words):
+    """What is written to a terminal as standard error."""
+    leader, follower = pty.openpty()
+    ran = subprocess.run([program, "lint", *words], stdout=subprocess.DEVNULL, stderr=follower, check=False)
+    os.close(follower)
+    said = b""
+    try:
+        while part := os.read(leader, 4096):
+            said += part
+    except OSError:
+        pass
+    os.close(leader)
+    return ran.returncode, said
+
+
+def terminal_tests(program, top):
+    folder = top / "few"
+    counts = b"files looked at 10, sound 10, not sound 0, unreadable 0, passed over 0\r\n"
+    yield "terminal", terminal_output(program, "-rq", folder), (0, counts)
+    one = folder / "folder 0/property list 0.plist"
+    yield "terminal, one file", terminal_output(program, one), (0, b"")
+    yield "no terminal", lint(program, "-rq", folder).stderr, b""
+
+
+def name_tests(program, top):
+    """A name of each byte but `/` and 0, most of them no UTF-8: none is passed over, and each has one line."""
+    folder = os.fsencode(top / "names")
+    os.mkdir(folder)
+    octets = [bytes([k]) for k in range(1, 256) if k not in b"/."]
+    for octet in octets:
+        with open(folder + b"/" + octet, "wb") as file:
+            file.write(SOUND)
+    ran = lint(program, "-r", folder)
+    lines = (ran.stdout + ran.stderr).split(b"\n")[:-1]
+    yield "names: lines", len(lines), len(octets)
+    wanted = sorted(
+        b"%s/%s: %s" % (folder, shown(octet), b"read Open" if octet > b"\x7f" else b"ok reached 1 height 1 top true")
+        for octet in octets
+    )
+    yield "names", sorted(lines), wanted
+
+
+def shown(octet):
+    return octet if b" " <= octet <= b"~" else b"\\x%02x" % octet[0]
+
+
+def main():
+    parser = argparse.ArgumentParser(description=__doc__, formatter_class=argparse.RawDescriptionHelpFormatter)
+    parser.add_argument("program", type=os.path.abspath)
+    parser.add_argument("--files", type=int, default=2000)
+    given = parser.parse_args()
+    passed = failed = 0
+    with tempfile.TemporaryDirectory(prefix="bplint") as name:
+        top = pathlib.Path(name)
+        for tests in (
+            memory_tests(given.program, top, given.files),
+            unreadable_tests(given.program, top),
+            terminal_tests(given.program, top),
+            name_tests(given.program, top),
+        ):
+            for what, got, wanted in tests:
+                if got == wanted:
+                    passed += 1
+                    continue
+                failed += 1
+                print(f"{what}\n    wanted {wanted}\n    got    {got}")
+    print(f"{passed} passed, {failed} failed")
+    return 1 if failed else 0
+
+
+if __name__ == "__main__":
+    sys.exit(main())

@@ -1,0 +1,132 @@
+#!/usr/bin/env python3
+"""python_package.py WHEEL
+
+Tests the Python package from its wheel, not from the source tree. Installs the wheel without an index into a new environment
+of the Python that runs this script, and runs there
+
+- the tests of python/tests, in Python's development mode;
+- python_memory.py, with each request for memory refused in turn;
+- the tests of values and edges again, under valgrind if it is installed.
+
+The wheel's tag has to name the newest glibc that a symbol of its module needs, and the module may link only the C library.
+Without gcc or valgrind, the tests that need it are skipped. The last line is `N passed, M failed`, with `, K skipped` if some
+were.
+"""
+import os
+import pathlib
+import re
+import subprocess
+import sys
+import tempfile
+import unittest
+import zipfile
+
+ROOT = pathlib.Path(__file__).resolve().parents[2]
+sys.path.insert(0, str(ROOT / "tests"))
+
+from helpers.harness import closing, lacks  # noqa: E402
+
+HERE = pathlib.Path(__file__).resolve().parent
+TESTS = ROOT / "python/tests"
+SECONDS = 900
+CLOSING = re.compile(r"^(\d+) passed, (\d+) failed$", re.MULTILINE)
+
+
+def run_tests(names):
+    """Runs the package's tests, or those of the named classes, in the environment that this is run in."""
+    assert not str(ROOT / "python") in map(os.path.abspath, sys.path), "the source tree would be tested"
+    sys.path.insert(0, str(TESTS))
+    loader = unittest.defaultTestLoader
+    wanted = [f"test_bplist.{name}" for name in names]
+    suite = loader.loadTestsFromNames(wanted) if names else loader.discover(str(TESTS))
+    result = unittest.TextTestRunner(stream=sys.stdout, verbosity=0).run(suite)
+    failed = len({str(test).partition(" (")[0] for test, _ in result.failures + result.errors})
+    print(f"{result.testsRun - failed} passed, {failed} failed")
+    return 1 if failed else 0
+
+
+class Wheel:
+    def __init__(self, wheel, folder):
+        self.wheel = pathlib.Path(wheel).resolve()
+        self.folder = folder
+        self.python = folder / "venv/bin/python"
+        self.passed = self.failed = self.skipped = 0
+
+    def count(self, name, difference):
+        if difference:
+            print(f"FAILED {name}: {difference}")
+            self.failed += 1
+        else:
+            self.passed += 1
+
+    def skip(self, name, why):
+        print(f"skipped {name}: {why}")
+        self.skipped += 1
+
+    def see_module(self):
+        with zipfile.ZipFile(self.wheel) as packed:
+            modules = [name for name in packed.namelist() if ".so" in name]
+            packed.extractall(self.folder / "packed")
+        self.count("modules of the wheel", "" if modules == ["bplist/_bplist.abi3.so"] else f"{modules}")
+        module = self.folder / "packed" / modules[0]
+        asked = subprocess.run(["objdump", "-p", "-T", module], capture_output=True, text=True, check=True).stdout
+        newest = max(tuple(map(int, found)) for found in re.findall(r"GLIBC_(\d+)\.(\d+)", asked))
+        tag = "cp310-abi3-manylinux_{}_{}_x86_64.linux_x86_64.whl".format(*newest)
+        self.count("tag of the wheel", "" if self.wheel.name.endswith(f"-{tag}") else f"{self.wheel.name} and not {tag}")
+        linked = re.findall(r"NEEDED +(\S+)", asked)
+        self.count("libraries of the module", "" if set(linked) <= {"libc.so.6"} else f"{linked}")
+
+    def install(self):
+        subprocess.run([sys.executable, "-m", "venv", self.folder / "venv"], check=True)
+        install = [self.python, "-m", "pip", "-q", "--disable-pip-version-check", "install", "--no-index", self.wheel]
+        subprocess.run(install, check=True)
+
+    def run(self, name, *words, **environment):
+        """Runs a program in a folder of its own, and adds up what its closing line says."""
+        environment = dict(os.environ, **environment)
+        ran = subprocess.run(words, stdout=subprocess.PIPE, stderr=subprocess.STDOUT, text=True, cwd=self.folder,
+                             timeout=SECONDS, env=environment, check=False)
+        said = CLOSING.search(ran.stdout)
+        passed, failed = map(int, said.groups()) if said else (0, 1)
+        if ran.returncode != 0:
+            print(f"{name}: status {ran.returncode}\n{ran.stdout}")
+            failed = max(failed, 1)
+        self.passed += passed
+        self.failed += failed
+
+    def run_package(self):
+        self.run("tests of the package", self.python, "-X", "dev", "-B", __file__, "--run")
+
+    def refuse_growths(self):
+        if lacks("gcc"):
+            return self.skip("refused growths of the package", "gcc is not here")
+        preload = self.folder / "refuse_growth.so"
+        subprocess.run(["gcc", "-shared", "-fPIC", "-O2", "-o", preload, HERE / "refuse_growth.c"], check=True)
+        program = [self.python, "-B", HERE / "python_memory.py"]
+        self.run("refused growths", *program, LD_PRELOAD=str(preload), PYTHONMALLOC="malloc_debug")
+
+    def look_at_memory(self):
+        if lacks("valgrind"):
+            return self.skip("memory of the package", "valgrind is not here")
+        tool = ["valgrind", "-q", "--error-exitcode=99"]
+        self.run("valgrind", *tool, self.python, "-B", __file__, "--run", "Values", "Edges", PYTHONMALLOC="malloc")
+
+
+def main():
+    if len(sys.argv) < 2:
+        sys.exit(__doc__)
+    if sys.argv[1] == "--run":
+        return run_tests(sys.argv[2:])
+    with tempfile.TemporaryDirectory(prefix="bplist") as folder:
+        wheel = Wheel(sys.argv[1], pathlib.Path(folder))
+        wheel.see_module()
+        wheel.install()
+        wheel.run_package()
+        wheel.refuse_growths()
+        wheel.look_at_memory()
+    print(closing(wheel.passed, wheel.failed, wheel.skipped))
+    return 1 if wheel.failed else 0
+
+
+if __name__ == "__main__":
+    sys.exit(main())

@@ -1,0 +1,141 @@
+#!/usr/bin/env python3
+"""rust_crate.py
+
+Runs the tests of the Rust crate rust/bplist over the built libbplist.a, and compares it with the crate plist
+(rust/compare_plist) on the files of the tables and of other writers. Run `make lib` first. Both are built in a temporary
+folder, without a network.
+
+The crate plist is Debian's librust-plist-dev. Without it, or without cargo, the tests that need it are skipped; in the gate
+they fail. The last line is `N passed, M failed`, with `, K skipped` if some were.
+"""
+import os
+import pathlib
+import re
+import shutil
+import subprocess
+import sys
+import tempfile
+
+ROOT = pathlib.Path(__file__).resolve().parents[2]
+sys.path.insert(0, str(ROOT / "tests"))
+
+from helpers.harness import closing, is_gate, lacks  # noqa: E402
+from helpers.sample_files import table_files, written_files  # noqa: E402
+
+LIBRARY = ROOT / "crates/bplist_c/out"
+REGISTRY = pathlib.Path("/usr/share/cargo/registry")
+RESULT = re.compile(r"^test result: \w+\. (\d+) passed; (\d+) failed;", re.MULTILINE)
+COMPARED = re.compile(r"compared (\d+) files")
+# What the crate plist reads wrong: a count of 16 bytes as one of 1 byte.
+LONG_COUNT = re.compile(rb"[\x4f\x5f\x6f\xaf\xdf]\x14")
+# How many files both crates take at least, so that a comparison of nothing does not pass.
+LEAST_COMPARED = 100
+SECONDS = 1200
+
+
+class Tests:
+    def __init__(self, folder):
+        self.folder = folder
+        self.passed = self.failed = self.skipped = 0
+        shutil.copytree(ROOT / "rust", folder / "rust", ignore=shutil.ignore_patterns("target", "Cargo.lock"))
+
+    def count(self, name, difference):
+        if difference:
+            print(f"FAILED {name}: {difference}")
+            self.failed += 1
+        else:
+            self.passed += 1
+
+    def cargo(self, crate, command, *words, **variables):
+        """Runs cargo in the folder of a crate. The variables are added to those by which it finds the library."""
+        environment = dict(os.environ, CARGO_TARGET_DIR=str(self.folder / "target"), RUST_BACKTRACE="0")
+        environment.update(RUSTFLAGS="-D warnings", RUSTDOCFLAGS="-D warnings", **variables)
+        environment.setdefault("BPLIST_LIB_DIR", str(LIBRARY))
+        if "PKG_CONFIG_PATH" in variables:
+            del environment["BPLIST_LIB_DIR"]
+        folder = self.folder / "rust" / crate
+        words = ["cargo", command, "--offline", *words]
+        return subprocess.run(
+            words, cwd=folder, env=environment, capture_output=True, text=True, timeout=SECONDS, check=False
+        )
+
+    def run_tests(self, crate, *words, **variables):
+        """Runs `cargo test` and counts its tests, one more if cargo failed without a failed test. Gives what it printed."""
+        ran = self.cargo(crate, "test", *words, **variables)
+        results = [tuple(map(int, row)) for row in RESULT.findall(ran.stdout)]
+        self.passed += sum(passed for passed, _ in results)
+        failed = sum(failed for _, failed in results)
+        self.failed += failed
+        if failed or ran.returncode != 0 or not results:
+            print(f"FAILED cargo test of {crate}: {ran.stdout[-6000:]}{ran.stderr[-6000:]}")
+            self.failed += 0 if failed else 1
+        return ran.stdout
+
+    def see_documents(self):
+        ran = self.cargo("bplist", "doc", "--no-deps")
+        self.count("cargo doc", "" if ran.returncode == 0 else ran.stderr)
+
+    def without_library(self):
+        """The build says in one line what it misses."""
+        ran = self.cargo("bplist", "check", BPLIST_LIB_DIR=str(self.folder))
+        told = "libbplist.a is not found" in ran.stderr and f"{self.folder} has none" in ran.stderr
+        self.count("a folder without the library", "" if ran.returncode != 0 and told else ran.stderr)
+
+    def by_pkg_config(self):
+        """The build finds the library where pkg-config says that it is installed, if its version is not too low."""
+        if lacks("pkg-config"):
+            print("skipped pkg-config: it is not here")
+            self.skipped += 1
+            return
+        installed = self.folder / "installed"
+        (installed / "lib").mkdir(parents=True)
+        shutil.copy(LIBRARY / "libbplist.a", installed / "lib")
+        template = (ROOT / "bplist.pc.in").read_text()
+        for word, text in [("PREFIX", f"{installed}"), ("LIBDIR", "${prefix}/lib"), ("INCLUDEDIR", "${prefix}/include")]:
+            template = template.replace(f"@{word}@", text)
+        for version, status in [("0.2.0", 101), ("0.3.0", 0)]:
+            (installed / "bplist.pc").write_text(template.replace("@VERSION@", version))
+            ran = self.cargo("bplist", "test", "--test", "faults", PKG_CONFIG_PATH=str(installed))
+            self.count(f"pkg-config, {version}", "" if ran.returncode == status else ran.stderr)
+
+    def compare(self):
+        if not list(REGISTRY.glob("plist-1.*")):
+            name, why = "comparison with the crate plist", "librust-plist-dev is not here"
+            if is_gate():
+                self.count(name, why)
+            else:
+                print(f"skipped {name}: {why}")
+                self.skipped += 1
+            return
+        files = self.folder / "files"
+        files.mkdir()
+        written = self.folder / "written"
+        written.mkdir()
+        for number, sample in enumerate([*table_files(), *written_files(written)]):
+            if not LONG_COUNT.search(sample.octets):
+                (files / f"{number}").write_bytes(sample.octets)
+        told = self.run_tests("compare_plist", "--", "--nocapture", BPLIST_FILES=str(files))
+        found = COMPARED.search(told)
+        print(found.group(0) if found else "nothing was compared")
+        few = "" if found and int(found.group(1)) >= LEAST_COMPARED else f"fewer than {LEAST_COMPARED}"
+        self.count("files that both crates take", few)
+
+
+def main():
+    if lacks("cargo"):
+        print("skipped the Rust crate: cargo is not here")
+        print(closing(0, 0, 1))
+        return 0
+    with tempfile.TemporaryDirectory() as folder:
+        tests = Tests(pathlib.Path(folder))
+        tests.run_tests("bplist")
+        tests.see_documents()
+        tests.without_library()
+        tests.by_pkg_config()
+        tests.compare()
+    print(closing(tests.passed, tests.failed, tests.skipped))
+    return 1 if tests.failed else 0
+
+
+if __name__ == "__main__":
+    sys.exit(main())

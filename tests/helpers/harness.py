@@ -1,0 +1,38 @@
+"""What the scripts of tests do if a program that they need is not installed."""
+import os
+import shutil
+import sys
+
+# The Debian package of each program that some tests need. `.ci/run` installs those of tests/packages, where it may.
+PACKAGES = {
+    "cargo": "cargo",
+    "dh": "debhelper",
+    "fakeroot": "fakeroot",
+    "gcc": "gcc",
+    "lintian": "lintian",
+    "man": "man-db",
+    "nm": "binutils",
+    "objdump": "binutils",
+    "pkg-config": "pkg-config",
+    "plistutil": "libplist-utils",
+    "valgrind": "valgrind",
+}
+
+
+def is_gate():
+    """Whether `.ci/run` runs the tests, which skips none."""
+    return os.environ.get("BPLINT_GATE") == "1"
+
+
+def lacks(program):
+    """Whether the program is not installed, so that the tests that need it are skipped. In the gate this ends the script."""
+    if shutil.which(program):
+        return False
+    if is_gate():
+        sys.exit(f"FAILED: {program} is not installed (Debian package {PACKAGES[program]}), and the gate skips no test")
+    return True
+
+
+def closing(passed, failed, skipped):
+    """The last line of a script."""
+    return f"{passed} passed, {failed} failed" + (f", {skipped} skipped" if skipped else "")
