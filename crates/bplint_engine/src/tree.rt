@@ -1,7 +1,6 @@
 //! The command `ls --recursive`: lists a value and everything inside it, in a file that has no certificate.
 ghost use Rattle.std.specs.Prelude.{◌≡◌, IsTrue};
 ghost use Rattle.bplint_engine.specs.Prelude.{Gives, OnlyReads, Holds, Value, IsVouchedBy, OnlyReadsFile, LintSays, read_failed};
-ghost use Rattle.bplist_cursor.specs.Found.{IsHeld};
 ghost use Rattle.bplist_cursor.specs.Nodes.{cap, nodes};
 ghost use Rattle.bplint_lines.specs.Answers.{LeavesSomeBy};
 ghost use Rattle.bplint_engine.specs.Tree.{ListsAll, NodeLists, PathLists};
@@ -13,7 +12,7 @@ use crate::print::missing_output;
 use crate::tree_walk::{Listing, write_tree};
 use bplint_lines::{RunFault, Said};
 use bplist_cert::Checked;
-use bplist_cursor::{Found, Node, Path, locate, measure};
+use bplist_cursor::{Found, Node, Path, count_nodes, locate};
 use bplist_octets::Source;
 use std::alloc::Global;
 use std::io::Write;
@@ -137,12 +136,9 @@ fn tree_node<S: Source, W: Write>(
 /// Returns the number of nodes of a node's value, or 18446744073709551615 if there are more.
 fn nodes_at<S: Source>(alloc: Global, checked: &mut Checked<S>, node: Node) -> Result<u64, RunFault>
     ensures reads { OnlyReadsFile (read_failed result) checked.old checked.new }
-    ensures exact { IsTrue checked.old.source.honest → (w : Value) → IsHeld checked.old node.object.0 w
+    ensures exact { IsTrue checked.old.source.honest → IsVouchedBy checked.old.certificate.heights node.object.0
+        → (w : Value) → Holds checked.old.source.octets checked.old.frame node.object.0 w
         → Gives (λ count. count ≡ cap (nodes w)) result }
 {
-    let measures = measure(alloc, checked)?;
-    match measures.nodes(node.object) {
-        Some(count) => Ok(count),
-        None => Err(RunFault::Changed),
-    }
+    Ok(count_nodes(alloc, checked, node)?)
 }

@@ -1,5 +1,5 @@
 -- The names of members in lines. Source: the path texts RFC 6901; the indexes profile.
-use Rattle.std.specs.Prelude.{◌++◌, ℕ, ◌==◌, ◌||◌, List, Bool, if◌then◌else◌, codes, encode_utf8_all}
+use Rattle.std.specs.Prelude.{◌++◌, ℕ, ◌==◌, ◌||◌, List, Bool, nat_lt, if◌then◌else◌, codes, encode_utf8_all}
 use Rattle.std.specs.Char.{is_control}
 use Rattle.std.specs.Int.{is_in_range}
 use Rattle.std.specs.List.{flat_map, list_any}
@@ -10,6 +10,10 @@ use Rattle.bplist_cursor.specs.Path.{escaped}
 -- a line cannot show this unit: a control character, a line or paragraph separator, or a control of text direction
 abbrev pub is_unshown : ℕ → Bool
 is_unshown u = is_control u || u == 0x61C || is_in_range 0x200E 0x200F u || is_in_range 0x2028 0x202E u || is_in_range 0x2066 0x2069 u
+
+-- the unit is an ASCII character
+abbrev pub is_ascii : ℕ → Bool
+is_ascii u = nat_lt u 0x80
 
 -- an index in brackets
 abbrev pub bracketed : ℕ → List ℕ

@@ -1,8 +1,8 @@
 //! The names of members in lines.
 //!
 //! Each call adds a name to the bytes. The only error is refused memory.
-ghost use Rattle.std.specs.Prelude.{◌≡◌, ◌++◌, ◌∷◌, OnOk};
-ghost use Rattle.std.specs.List.{flat_map, list_any};
+ghost use Rattle.std.specs.Prelude.{◌≡◌, ◌++◌, ◌∷◌, OnOk, true};
+ghost use Rattle.std.specs.List.{flat_map, list_all, list_any};
 ghost use Rattle.bplist_cursor.specs.Path.{escaped};
 ghost use Rattle.bplint_lines.specs.MemberNames as spec;
 ghost use Rattle.bplint_lines.specs.MemberNames.{bracketed, index_name, key_name};
@@ -42,12 +42,23 @@ pub fn add_key_name(
 ) -> Result<(), AllocError>
     ensures { OnOk result (lines.new.items ≡ lines.old.items ++ key_name path.now i units.now) }
 {
-    if !have_unshown(units) {
-        if let Ok(key) = String::from_utf16(alloc, units)? {
-            return add_path(path, key.as_bytes(), lines);
-        }
+    if have_unshown(units) {
+        return add_index(alloc, i, lines);
     }
-    add_index(alloc, i, lines)
+    if are_ascii(units) {
+        return add_ascii_path(path, units, lines);
+    }
+    match String::from_utf16(alloc, units)? {
+        Ok(key) => add_path(path, key.as_bytes(), lines),
+        Err(_) => add_index(alloc, i, lines),
+    }
+}
+
+/// Are all units ASCII? Then each is a byte of the text.
+fn are_ascii(units: &[u16]) -> bool
+    ensures { result ≡ list_all spec.is_ascii units.now }
+{
+    units.iter().all(|unit| *unit < 0x80)
 }
 
 /// Returns true if a line cannot show one of the units.
@@ -81,11 +92,38 @@ fn add_token(token: &[u8], lines: &mut Vec<u8>) -> Result<(), AllocError>
     ensures { OnOk result (lines.new.items ≡ lines.old.items ++ flat_map escaped token.now) }
 {
     for byte in token {
-        match byte {
-            b'~' => lines.extend_from_slice(b"~0")?,
-            b'/' => lines.extend_from_slice(b"~1")?,
-            _ => lines.push(*byte)?,
-        }
+        add_escaped(*byte, lines)?;
     }
     Ok(())
+}
+
+/// Adds a path text, `/` and the escaped token of these units, which are ASCII.
+fn add_ascii_path(path: &str, units: &[u16], lines: &mut Vec<u8>) -> Result<(), AllocError>
+    requires { list_all spec.is_ascii units.now ≡ true }
+    ensures { OnOk result (lines.new.items ≡ lines.old.items ++ (path.now ++ 0x2F ∷ flat_map escaped units.now)) }
+{
+    lines.extend_from_slice(path.as_bytes())?;
+    lines.push(b'/')?;
+    add_ascii_token(units, lines)
+}
+
+fn add_ascii_token(units: &[u16], lines: &mut Vec<u8>) -> Result<(), AllocError>
+    requires { list_all spec.is_ascii units.now ≡ true }
+    ensures { OnOk result (lines.new.items ≡ lines.old.items ++ flat_map escaped units.now) }
+{
+    for unit in units {
+        add_escaped(*unit as u8, lines)?;
+    }
+    Ok(())
+}
+
+/// Adds a byte of a token.
+fn add_escaped(byte: u8, lines: &mut Vec<u8>) -> Result<(), AllocError>
+    ensures { OnOk result (lines.new.items ≡ lines.old.items ++ escaped byte) }
+{
+    match byte {
+        b'~' => lines.extend_from_slice(b"~0"),
+        b'/' => lines.extend_from_slice(b"~1"),
+        _ => Ok(lines.push(byte)?),
+    }
 }

@@ -7,7 +7,7 @@ ghost use Rattle.std.specs.Fmt.{decimal};
 ghost use Rattle.hex.specs.Hex.{encode_lower};
 ghost use Rattle.bplint_lines.specs.OutputLines.{kind_word, lint_line, check_line, face_line, missing_line};
 
-use bplist_ascii::{text_of_bytes, text_of_units};
+use bplist_ascii::{add_text_of_bytes, add_text_of_units};
 use bplist_cursor::{Face, Why};
 use bplist_objects::Kind;
 use std::alloc::{AllocError, Global};
@@ -53,11 +53,11 @@ pub fn add_face(alloc: Global, face: &Face, lines: &mut Vec<u8>) -> Result<(), A
         Face::Date(bytes) => add_hexadecimal(alloc, b"date ", bytes.as_slice(), lines),
         Face::Bytes(bytes) => {
             lines.extend_from_slice(b"data ")?;
-            lines.extend_from_slice(&text_of_bytes(alloc, bytes.as_slice())?)
+            add_text_of_bytes(bytes.as_slice(), lines)
         }
         Face::Text(units) => {
             lines.extend_from_slice(b"text ")?;
-            lines.extend_from_slice(&text_of_units(alloc, units.as_slice())?)
+            add_text_of_units(units.as_slice(), lines)
         }
         Face::Uid(number) => add_number(alloc, b"uid ", *number as u64, lines),
         Face::Array(count) => add_number(alloc, b"array ", *count, lines),

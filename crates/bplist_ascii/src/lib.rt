@@ -17,6 +17,7 @@
 //! | write the text of a node's value, up to a limit | [`print`], [`PrintFault`] |
 //! | the same after other bytes | [`print_into`] |
 //! | make the text of units, or of data | [`text_of_units`], [`text_of_bytes`] |
+//! | add it to bytes | [`add_text_of_units`], [`add_text_of_bytes`] |
 //! | buffer a writer, and count what was written | [`Sink`], [`WriteFault`] |
 //!
 //! `NoAsciiForm` and `TooLong` are decided before the first byte is written. Memory grows with the depth of the value.
@@ -45,4 +46,4 @@ mod walk;
 pub use print_fault::PrintFault;
 pub use printer::{print, print_into};
 pub use sink::{Sink, WriteFault};
-pub use texts::{text_of_bytes, text_of_units};
+pub use texts::{add_text_of_bytes, add_text_of_units, text_of_bytes, text_of_units};

@@ -2,7 +2,7 @@
 
 ghost use Rattle.std.specs.Prelude.{◌≡◌, ◌≤◌, ◌++◌, ℕ, List, true, length, take, IfOk, OnOk};
 ghost use Rattle.std.specs.Char.{is_ascii_alphanumeric};
-ghost use Rattle.std.specs.List.{list_all};
+ghost use Rattle.std.specs.List.{flat_map, list_all};
 ghost use Rattle.bplist_cursor.specs.Texts as spec;
 ghost use Rattle.bplist_ascii.specs.Prelude.{hex_digits};
 
@@ -10,33 +10,39 @@ use bplist_cursor::are_plain;
 use std::alloc::{AllocError, Global};
 use std::marker::Model;
 
+const DIGITS: &[u8; 16] = b"0123456789abcdef";
+
 /// Returns the old-style text of a text with these UTF-16 units. If there are units and all are ASCII letters and
 /// digits, these are the text; otherwise it is in quotes. Any units have a text. The only error is refused memory.
 pub fn text_of_units(alloc: Global, units: &[u16]) -> Result<Vec<u8>, AllocError>
     ensures { IfOk result (λ text. text.items ≡ spec.text_of_units units.now) }
 {
-    if !units.is_empty() && are_plain(units) {
-        return unquoted_text(alloc, units);
-    }
     let mut text = Vec::new(alloc);
-    text.push(b'"')?;
-    for unit in units {
-        add_quoted(*unit, &mut text)?;
-    }
-    text.push(b'"')?;
+    add_text_of_units(units, &mut text)?;
     Ok(text)
 }
 
-/// Returns the units, one byte for each.
-fn unquoted_text(alloc: Global, units: &[u16]) -> Result<Vec<u8>, AllocError>
-    requires { list_all is_ascii_alphanumeric units.now ≡ true }
-    ensures { IfOk result (λ text. text.items ≡ units.now) }
+/// Adds the old-style text of a text with these 16-bit units, as [`text_of_units`] gives it.
+pub fn add_text_of_units(units: &[u16], text: &mut Vec<u8>) -> Result<(), AllocError>
+    ensures { OnOk result (text.new.items ≡ text.old.items ++ spec.text_of_units units.now) }
 {
-    let mut text = Vec::new(alloc);
+    if !units.is_empty() && are_plain(units) {
+        return add_plain(units, text);
+    }
+    text.push(b'"')?;
+    add_quoted(units, text)?;
+    Ok(text.push(b'"')?)
+}
+
+/// Adds the units themselves, a byte for each.
+fn add_plain(units: &[u16], text: &mut Vec<u8>) -> Result<(), AllocError>
+    requires { list_all is_ascii_alphanumeric units.now ≡ true }
+    ensures { OnOk result (text.new.items ≡ text.old.items ++ units.now) }
+{
     for unit in units {
         text.push(*unit as u8)?;
     }
-    Ok(text)
+    Ok(())
 }
 
 /// Returns the old-style text of data: two lower-case hexadecimal digits for each byte, between `<` and `>`. The only
@@ -45,37 +51,45 @@ pub fn text_of_bytes(alloc: Global, bytes: &[u8]) -> Result<Vec<u8>, AllocError>
     ensures { IfOk result (λ text. text.items ≡ spec.text_of_bytes bytes.now) }
 {
     let mut text = Vec::new(alloc);
-    text.push(b'<')?;
-    for byte in bytes {
-        add_digits(*byte, &mut text)?;
-    }
-    text.push(b'>')?;
+    add_text_of_bytes(bytes, &mut text)?;
     Ok(text)
 }
 
-/// Adds a unit as it is written in quotes.
-fn add_quoted(unit: u16, text: &mut Vec<u8>) -> Result<(), AllocError>
-    ensures { OnOk result (text.new.items ≡ text.old.items ++ spec.quoted_unit unit) }
+/// Adds the old-style text of data, as [`text_of_bytes`] gives it.
+pub fn add_text_of_bytes(bytes: &[u8], text: &mut Vec<u8>) -> Result<(), AllocError>
+    ensures { OnOk result (text.new.items ≡ text.old.items ++ spec.text_of_bytes bytes.now) }
 {
-    text.extend_from_slice(QuotedUnit::new(unit).as_slice())
+    text.push(b'<')?;
+    add_digits(bytes, text)?;
+    Ok(text.push(b'>')?)
 }
 
-/// Adds the two hexadecimal digits of a byte.
-fn add_digits(byte: u8, text: &mut Vec<u8>) -> Result<(), AllocError>
-    ensures { OnOk result (text.new.items ≡ text.old.items ++ hex_digits byte) }
+/// Adds units as they stand between quotes.
+fn add_quoted(units: &[u16], text: &mut Vec<u8>) -> Result<(), AllocError>
+    ensures { OnOk result (text.new.items ≡ text.old.items ++ flat_map spec.quoted_unit units.now) }
 {
-    text.extend_from_slice(&digits_of(byte))
+    for unit in units {
+        text.extend_from_slice(QuotedUnit::new(*unit).as_slice())?;
+    }
+    Ok(())
+}
+
+/// Adds the two hexadecimal digits of each byte.
+fn add_digits(bytes: &[u8], text: &mut Vec<u8>) -> Result<(), AllocError>
+    ensures { OnOk result (text.new.items ≡ text.old.items ++ flat_map hex_digits bytes.now) }
+{
+    for byte in bytes {
+        text.extend_from_slice(&digits_of(*byte))?;
+    }
+    Ok(())
 }
 
 /// Returns the two hexadecimal digits of a byte.
-#[tactic(auto, unfolding(hex::specs::Hex::encode_with))]
 pub(crate) fn digits_of(byte: u8) -> [u8; 2]
     ensures { result ≡ hex_digits byte }
 {
-    let mut digits = [0; 2];
-    // This cannot fail, because one byte needs exactly two digits.
-    let _ = hex::encode_to_slice([byte], &mut digits);
-    digits
+    let (high, low) = (byte / 16, byte % 16);
+    [DIGITS[high as usize], DIGITS[low as usize]]
 }
 
 /// A unit as it is written in quotes, in one to six bytes. In contracts, it is these bytes.

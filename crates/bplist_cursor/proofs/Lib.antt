@@ -17,7 +17,9 @@ mod SizeSteps
 mod AddSteps
 mod LengthSteps
 mod ObjectSteps
+mod HeightOrder
 mod OrderSteps
+mod CountSteps
 mod BinaryDigits
 mod Keys
 mod KeyLists

@@ -17,6 +17,7 @@ pub mod Members
 pub mod LentBodies
 pub mod Sizes
 pub mod ObjectSizes
+pub mod NodeCounts
 pub mod Steps
 pub mod KeySearch
 pub mod Found

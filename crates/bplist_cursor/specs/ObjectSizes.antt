@@ -20,19 +20,19 @@ punctuation_of _ count = NoForm
 abbrev pub AreInside : List ℕ → ℕ → Type 0
 AreInside order objects = (j : ℕ) → j < length order → slice_index order j < objects
 
--- these are exactly the vouched objects below this number
-pub record AreVouched (heights : List ℕ) (below : ℕ) (order : List ℕ) : Type 0 where
-  pub all : (n : ℕ) → n < below → IsVouchedBy heights n → Contains order n
-  pub only : (n : ℕ) → Contains order n → IsVouchedBy heights n
+-- these are exactly the objects below this number that are higher than this height
+pub record AreHigher (heights : List ℕ) (height below : ℕ) (order : List ℕ) : Type 0 where
+  pub all : (n : ℕ) → n < below → height < slice_index heights n → Contains order n
+  pub only : (n : ℕ) → Contains order n → height < slice_index heights n
 
 -- the table is empty
 abbrev pub IsEmpty : Table → Type 0
 IsEmpty sizes = (n : ℕ) → size_in sizes n ≡ None
 
--- the vouched objects in the order of their heights
-pub record IsOrder (heights order : List ℕ) : Type 0 where
-  pub all : (n : ℕ) → IsVouchedBy heights n → Contains order n
-  pub only : (n : ℕ) → Contains order n → IsVouchedBy heights n
+-- the objects that are higher than this height, in the order of their heights
+pub record IsOrder (heights : List ℕ) (height : ℕ) (order : List ℕ) : Type 0 where
+  pub all : (n : ℕ) → height < slice_index heights n → Contains order n
+  pub only : (n : ℕ) → Contains order n → height < slice_index heights n
   pub ascends : IsNonDecreasingBy (slice_index heights) order
 
 -- the first k objects of the order have their sizes, and no object without a height has one

@@ -31,8 +31,9 @@ pub use Rattle.bplist_cursor.specs.LentBodies.{SpellsBytes, StandsAtBody}
 pub use Rattle.bplist_cursor.specs.Look.{stepped}
 pub use Rattle.bplist_cursor.specs.Measured.{Measured}
 pub use Rattle.bplist_cursor.specs.Members.{HoldsMember, IsNumberOf, member_of, member_reference, named, node_of}
+pub use Rattle.bplist_cursor.specs.NodeCounts.{AreCounted, IsCounted}
 pub use Rattle.bplist_cursor.specs.Nodes.{cap, nodes}
-pub use Rattle.bplist_cursor.specs.ObjectSizes.{AreInside, AreSet, AreVouched, IsEmpty, IsOrder, punctuation_of}
+pub use Rattle.bplist_cursor.specs.ObjectSizes.{AreHigher, AreInside, AreSet, IsEmpty, IsOrder, punctuation_of}
 pub use Rattle.bplist_cursor.specs.OldStyle.{IsFormed, leaf_text, plain, value_text}
 pub use Rattle.bplist_cursor.specs.Path.{IsNoPath, IsPathOf}
 pub use Rattle.bplist_cursor.specs.Queries.{reply_at, steps_in}

@@ -37,6 +37,8 @@
 //! | form | whether a value has an old-style text, and its length | [`Form`] |
 //! | measures | the table of node counts and forms | [`Measures`] |
 //! | object_sizes | filling that table | [`measure`] |
+//! | height_order | the objects in the order of their heights | |
+//! | node_counts | the number of nodes of one value, by its containers alone | [`count_nodes`] |
 //! | text_length | the length of a text's old-style form | [`is_plain`], [`are_plain`] |
 //! | checked_objects | heads and references of a checked file | |
 //! | faults | the errors of the calls above | [`CursorFault`], [`Unread`] |
@@ -52,6 +54,7 @@ mod faces;
 mod faults;
 mod form;
 mod found;
+mod height_order;
 mod index;
 mod key_search;
 mod key_texts;
@@ -60,6 +63,7 @@ mod list;
 mod lookup;
 mod measures;
 mod members;
+mod node_counts;
 mod node_face;
 mod node_object;
 mod object_sizes;
@@ -82,6 +86,7 @@ pub use list::List;
 pub use lookup::{locate, locate_counted, locate_in_slice};
 pub use measures::Measures;
 pub use members::{member, member_by_head};
+pub use node_counts::count_nodes;
 pub use node_face::face;
 pub use node_object::node_head;
 pub use object_sizes::measure;

@@ -1,12 +1,13 @@
 //! Measures all values of a checked file in one pass over its objects.
 
-ghost use Rattle.std.specs.Prelude.{◌≡◌, ◌<◌, ℕ, Option, Some, List, length, IfOk, IfErr};
+ghost use Rattle.std.specs.Prelude.{◌≡◌, ◌<◌, ℕ, Option, Some, List, length};
 ghost use Rattle.std.specs.List.{AllByRecursion};
-ghost use Rattle.bplist_cursor.specs.Prelude.{HonestlyChecked, Value, Leaf, Content, Spells, leaf, refs, content_at, Holds, IsSafeHead, IsSafeBody, IsValid, GivesRead, read_failed, GivesCursor, cursor_read, OnlyReadsFile, leaf_text, form_of_text, size_of, size_in, added, IsSized, AreMeasures, punctuation_of, AreInside, AreVouched, IsOrder, IsEmpty, AreSet, Size as size, Memory};
+ghost use Rattle.bplist_cursor.specs.Prelude.{HonestlyChecked, Value, Leaf, Content, Spells, leaf, refs, content_at, Holds, IsSafeHead, IsSafeBody, IsValid, GivesRead, read_failed, GivesCursor, cursor_read, OnlyReadsFile, leaf_text, form_of_text, size_of, size_in, added, IsSized, AreMeasures, punctuation_of, AreInside, IsOrder, IsEmpty, AreSet, Size as size};
 
 use crate::checked_objects::head_in;
 use crate::faults::{CursorFault, Unread};
 use crate::form::Form;
+use crate::height_order::in_order;
 use crate::measures::{Measures, Size};
 use crate::text_length::text_length;
 use bplist_cert::Checked;
@@ -132,7 +133,7 @@ fn measure_in_order<S: Source>(
     requires inside { AreInside order.now checked.old.frame.objects }
     requires count { length sizes.old ≡ checked.old.frame.objects }
     ensures reads { OnlyReadsFile (read_failed result) checked.old checked.new }
-    ensures exact { HonestlyChecked checked.old (λ f F. (heights : List ℕ) → IsValid f F heights → IsOrder heights order.now
+    ensures exact { HonestlyChecked checked.old (λ f F. (heights : List ℕ) → IsValid f F heights → IsOrder heights 0 order.now
         → IsEmpty sizes.old → GivesRead (λ _. AreSet f F heights order.now (length order.now) sizes.new) result) }
 {
     for n in order {
@@ -140,35 +141,6 @@ fn measure_in_order<S: Source>(
         sizes[*n as usize] = Some(size);
     }
     Ok(())
-}
-
-/// Returns the numbers of the objects that the certificate vouches for, ascending.
-fn vouched<S: Source>(alloc: Global, checked: &Checked<S>) -> Result<Vec<u32>, CursorFault>
-    ensures vouched { IfOk result (λ order. AreVouched checked.now.certificate.heights checked.now.frame.objects order.items) }
-    ensures memory { IfErr result (λ e. e ≡ Memory) }
-{
-    let heights = &checked.certificate().heights;
-    let count = heights.iter().filter(|height| **height >= 1).count();
-    let mut order = Vec::with_capacity(alloc, count)?;
-    for n in 0..checked.frame().objects {
-        if checked.height(ObjectNo(n)) >= 1 {
-            order.push(n)?;
-        }
-    }
-    Ok(order)
-}
-
-/// Returns the numbers of the vouched objects in the order of their heights, so that each object comes after those that
-/// it refers to.
-fn in_order<S: Source>(alloc: Global, checked: &Checked<S>) -> Result<Vec<u32>, CursorFault>
-    ensures order { IfOk result (λ order. IsOrder checked.now.certificate.heights order.items) }
-    ensures inside { IfOk result (λ order. AreInside order.items checked.now.frame.objects) }
-    ensures memory { IfErr result (λ e. e ≡ Memory) }
-{
-    let _frame = checked.frame();
-    let mut order = vouched(alloc, checked)?;
-    order.sort_unstable_by_key(|n| checked.height(ObjectNo(*n)));
-    Ok(order)
 }
 
 /// Returns the sizes of the values of all objects that the certificate vouches for: how many nodes each has, and how
@@ -184,7 +156,7 @@ pub fn measure<S: Source>(alloc: Global, checked: &mut Checked<S>) -> Result<Mea
         (λ f F. GivesCursor (AreMeasures f F checked.old.certificate.heights) result) }
 {
     let objects = checked.frame().objects;
-    let order = in_order(alloc, checked)?;
+    let order = in_order(alloc, checked, 0)?;
     let mut sizes = vec![in alloc; None; objects as usize]?;
     measure_in_order(checked, &order, &mut sizes)?;
     Ok(Measures::new(sizes))

@@ -12,7 +12,7 @@ pub returns-in_err-nodes-clause-exact : goal.returns-in_err-nodes-clause-exact
 returns-in_err-nodes-clause-exact g c = λ honest vouched w holds.
     let branch = c.args.branch.now in
     let p = err_from_is_err_and c.from_residual.result c.from_residual.ensures.1 in
-    rw (p.1, p.2) (excused_leaves (NodeLists branch.limit branch.text.now w) _ _ (c.in_err-nodes.ensures.exact honest w (vouched, holds)))
+    rw (p.1, p.2) (excused_leaves (NodeLists branch.limit branch.text.now w) _ _ (c.in_err-nodes.ensures.exact honest vouched w holds))
 
 pub returns-in_err-listing-clause-exact : goal.returns-in_err-listing-clause-exact
 returns-in_err-listing-clause-exact g c = λ honest vouched w holds.
@@ -25,7 +25,7 @@ returns-in_err-write_tree-clause-exact g c = λ honest vouched w holds.
     let branch = c.args.branch.now in
     let text = branch.text.now in
     let begins = c.in_ok-listing.ensures in
-    let counted = c.in_ok-nodes.ensures.exact honest w (vouched, holds) in
+    let counted = c.in_ok-nodes.ensures.exact honest vouched w holds in
     let low : nodes w ≤ branch.limit = omega (arith, counted) in
     let small : nodes w < 18446744073709551615 = omega (arith, counted) in
     let short = tree_few text w in
@@ -41,7 +41,7 @@ returns-clause-exact g c = λ honest vouched w holds.
     let branch = c.args.branch.now in
     let text = branch.text.now in
     let begins = c.in_ok-listing.ensures in
-    let counted = c.in_ok-nodes.ensures.exact honest w (vouched, holds) in
+    let counted = c.in_ok-nodes.ensures.exact honest vouched w holds in
     let low : nodes w ≤ branch.limit = omega (arith, counted) in
     let small : nodes w < 18446744073709551615 = omega (arith, counted) in
     let short = tree_few text w in

@@ -10,6 +10,6 @@ invariant-loop-n g l =
     record {
       same : l.checked ≡ l.fn.checked;
       count : length l.sizes ≡ l.fn.checked.frame.objects;
-      set : HonestlyChecked l.fn.checked (λ f F. (heights : List ℕ) → IsValid f F heights → IsOrder heights l.order → IsEmpty l.fn.sizes
+      set : HonestlyChecked l.fn.checked (λ f F. (heights : List ℕ) → IsValid f F heights → IsOrder heights 0 l.order → IsEmpty l.fn.sizes
           → AreSet f F heights l.order l.n-index l.sizes);
     }

@@ -1,0 +1,29 @@
+use Rattle.std.proofs.Common.{rules}
+use Rattle.std.proofs.lemmas.Result.{err_from_is_err_and}
+use Rattle.bplist_cursor.proofs.CountSteps.{counted_more, refs_counted, value_in}
+use Rattle.bplist_cursor.proofs.node_counts.count_in_order.Goals as goal
+
+pub returns-in_err-counts-clause-exact : goal.returns-in_err-counts-clause-exact
+returns-in_err-counts-clause-exact g c = λ honest heights valid is none.
+    let f = c.args.checked.now.source.octets in
+    let F = c.args.checked.now.frame in
+    let are = c.loop-n.invariant.counted honest heights valid is none in
+    let v = value_in f F heights valid c.args.order.now is c.loop-n.n-index c.loop-n-test.true in
+    let counted = refs_counted f F heights valid c.args.order.now is c.loop-n.n-index c.loop-n.counts c.loop-n-test.true are in
+    let p = err_from_is_err_and c.from_residual.result c.from_residual.ensures.1 in
+    let here = (rw c.loop-n.invariant.same at c.in_err-counts.ensures.exact) honest v.0 v.1 counted in
+    rw (p.1, p.2) here
+
+pub loop-n-preserved : goal.loop-n-preserved
+loop-n-preserved g c =
+    let f = c.args.checked.now.source.octets in
+    let F = c.args.checked.now.frame in
+    record {
+      same = search rules;
+      count = search rules;
+      counted = λ honest heights valid is none.
+          let are = c.loop-n.invariant.counted honest heights valid is none in
+          let counted = refs_counted f F heights valid c.args.order.now is c.loop-n.n-index c.loop-n.counts c.loop-n-test.true are in
+          counted_more f F heights valid c.args.order.now is c.loop-n.n-index c.loop-n.counts c.in_ok-counts.field-0 c.loop-n-test.true c.loop-n.invariant.count are
+          (λ v h. (rw c.loop-n.invariant.same at c.in_ok-counts.ensures.exact) honest v h counted);
+    }

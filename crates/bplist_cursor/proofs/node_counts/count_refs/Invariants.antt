@@ -1,0 +1,19 @@
+use Rattle.std.proofs.Common.{◌≡◌, ◌+◌, ◌≤◌, ◌-◌, drop, slice_index, sum_by}
+use Rattle.bplist_objects.specs.Heads.{refs, content_at}
+use Rattle.bplist_cert.specs.CheckedFile.{HonestlyChecked}
+use Rattle.bplist_cursor.specs.Nodes.{cap}
+use Rattle.bplist_cursor.proofs.node_counts.count_refs.Given as goal
+
+-- the file is as it was, and what is left to add to the total so far gives what all gives
+abbrev pub invariant-loop-done : goal.invariant-loop-done
+invariant-loop-done g l =
+    record {
+      same : l.checked ≡ l.fn.checked;
+      reached : l.done ≤ l.count;
+      fits : l.total ≤ 18446744073709551615;
+      left : HonestlyChecked l.fn.checked (λ f F. cap (l.total + sum_by (slice_index l.counts) (drop l.done (refs (content_at f F l.head))))
+          ≡ cap (1 + sum_by (slice_index l.counts) (refs (content_at f F l.head))));
+    }
+
+abbrev pub decreases-loop-done : goal.decreases-loop-done
+decreases-loop-done g l = l.count - l.done

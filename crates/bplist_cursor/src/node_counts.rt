@@ -1,0 +1,140 @@
+//! How many nodes the value of an object has, by the containers alone.
+
+ghost use Rattle.std.specs.Prelude.{◌≡◌, ℕ, ◌+◌, ◌<◌, List, length, slice_index, sum_by, Err};
+ghost use Rattle.std.specs.List.{AllByRecursion};
+ghost use Rattle.bplist_cursor.specs.Prelude.{HonestlyChecked, Value, Content, Spells, refs, content_at, Holds, IsSafeHead, IsValid, IsVouchedBy, GivesRead, read_failed, GivesCursor, cursor_read, OnlyReadsFile, cap, nodes, AreInside, IsOrder, IsCounted, AreCounted};
+ghost use Rattle.bplist_cursor.specs.declared.faults.CursorFault.TheVariants.{Changed};
+
+use crate::checked_objects::head_in;
+use crate::faults::{CursorFault, Unread};
+use crate::found::Node;
+use crate::height_order::in_order;
+use bplist_cert::Checked;
+use bplist_objects::{Head, ObjectNo, read_refs_in, refs_of};
+use bplist_octets::Source;
+use std::alloc::Global;
+
+/// How many references are read at once at most.
+const BLOCK: usize = 128;
+
+/// What the table says of an object, 0 outside.
+fn count_at(counts: &[u64], n: u64) -> u64
+    ensures { result ≡ slice_index counts.now n }
+{
+    if n < counts.len() as u64 {
+        counts[n as usize]
+    } else {
+        0
+    }
+}
+
+/// The total with the counts of these objects added, or 18446744073709551615 where it is greater.
+fn add_counts(counts: &[u64], objects: &[u64], start: u64) -> u64
+    ensures { result ≡ cap (start + sum_by (slice_index counts.now) objects.now) }
+{
+    let mut total = start;
+    for n in objects {
+        total = total.saturating_add(count_at(counts, *n));
+    }
+    total
+}
+
+/// One and the counts of the objects that the references of this head name.
+fn count_refs<S: Source>(
+    checked: &mut Checked<S>,
+    head: &Head,
+    counts: &[u64],
+) -> Result<u64, Unread>
+    requires { IsSafeHead checked.old.frame head.now }
+    ensures reads { OnlyReadsFile (read_failed result) checked.old checked.new }
+    ensures exact { HonestlyChecked checked.old (λ f F. GivesRead
+        (λ total. total ≡ cap (1 + sum_by (slice_index counts.now) (refs (content_at f F head.now)))) result) }
+{
+    let _frame = checked.frame();
+    let count = refs_of(head);
+    let mut buffer = [0u64; BLOCK];
+    let mut total = 1u64;
+    let mut done = 0u64;
+    while done < count {
+        let now = (count - done).min(BLOCK as u64);
+        let block = &mut buffer[..now as usize];
+        read_refs_in(checked, head, done, block)?;
+        total = add_counts(counts, block, total);
+        done += now;
+    }
+    Ok(total)
+}
+
+/// How many nodes the value of an object has, where the table has the counts of its references.
+fn count_object<S: Source>(
+    checked: &mut Checked<S>,
+    n: ObjectNo,
+    counts: &[u64],
+) -> Result<u64, Unread>
+    requires { n.0 < checked.old.frame.objects }
+    ensures reads { OnlyReadsFile (read_failed result) checked.old checked.new }
+    ensures exact { HonestlyChecked checked.old (λ f F. (v : Value) → Holds f F n.0 v
+        → ((c : Content) → Spells f F n.0 c → AllByRecursion (IsCounted f F counts.now) (refs c))
+        → GivesRead (λ count. count ≡ cap (nodes v)) result) }
+{
+    let head = head_in(checked, n)?;
+    count_refs(checked, &head, counts)
+}
+
+/// Gives the table the counts of these objects, one after the other. The order is one in which each comes after those to
+/// which it refers, but for objects of height 1.
+fn count_in_order<S: Source>(
+    checked: &mut Checked<S>,
+    order: &[u32],
+    counts: &mut [u64],
+) -> Result<(), Unread>
+    requires inside { AreInside order.now checked.old.frame.objects }
+    requires count { length counts.old ≡ checked.old.frame.objects }
+    ensures reads { OnlyReadsFile (read_failed result) checked.old checked.new }
+    ensures exact { HonestlyChecked checked.old (λ f F. (heights : List ℕ) → IsValid f F heights → IsOrder heights 1 order.now
+        → AreCounted f F heights order.now 0 counts.old
+        → GivesRead (λ _. AreCounted f F heights order.now (length order.now) counts.new) result) }
+{
+    for n in order {
+        counts[*n as usize] = count_object(checked, ObjectNo(*n), counts)?;
+    }
+    Ok(())
+}
+
+/// The counts of all objects that the certificate vouches for.
+fn count_all<S: Source>(alloc: Global, checked: &mut Checked<S>) -> Result<Vec<u64>, CursorFault>
+    ensures reads { OnlyReadsFile (cursor_read result) checked.old checked.new }
+    ensures exact { HonestlyChecked checked.old (λ f F. GivesCursor (λ counts. (n : ℕ)
+        → IsVouchedBy checked.old.certificate.heights n → IsCounted f F counts.items n) result) }
+{
+    let objects = checked.frame().objects;
+    let order = in_order(alloc, checked, 1)?;
+    let mut counts = vec![in alloc; 1; objects as usize]?;
+    count_in_order(checked, &order, &mut counts)?;
+    Ok(counts)
+}
+
+/// How many nodes the tree of a node's value has, or 18446744073709551615 where there are more.
+///
+/// No leaf is read, since one of height 1 counts as it is: each other object is looked at once, after those to which it
+/// refers, so that shared objects cost no more than others. The call takes memory by the number of objects.
+///
+/// `Changed`: the certificate does not vouch for the object, or the source gives other bytes than those that were checked.
+/// `Read`: a read of the source failed. `Memory`: a growth was refused.
+pub fn count_nodes<S: Source>(
+    alloc: Global,
+    checked: &mut Checked<S>,
+    node: Node,
+) -> Result<u64, CursorFault>
+    ensures reads { OnlyReadsFile (cursor_read result) checked.old checked.new }
+    ensures exact { HonestlyChecked checked.old (λ f F. IsVouchedBy checked.old.certificate.heights node.object.0
+        → (v : Value) → Holds f F node.object.0 v → GivesCursor (λ count. count ≡ cap (nodes v)) result) }
+    ensures unvouched { (IsVouchedBy checked.old.certificate.heights node.object.0 → ⊥) → result ≡ Err Changed }
+{
+    let _frame = checked.frame();
+    if checked.height(node.object) == 0 {
+        return Err(CursorFault::Changed);
+    }
+    let counts = count_all(alloc, checked)?;
+    Ok(count_at(&counts, node.object.0 as u64))
+}
