@@ -18,6 +18,7 @@ pub use Rattle.bplist_objects.specs.declared.fault.ObjectFault.{ObjectFault}
 pub use Rattle.bplist_objects.specs.declared.frame.Frame.{Frame}
 pub use Rattle.bplist_objects.specs.declared.head.Head.{Head}
 pub use Rattle.bplist_objects.specs.declared.kind.Kind.TheVariants.{Dict}
+pub use Rattle.bplist_objects.specs.declared.rule.Rule.TheVariants.{Overfull}
 pub use Rattle.bplist_keys.specs.Classes.{AreClassed, HasNamedKeys, IsNew, IsStamped, defect_key}
 pub use Rattle.bplist_keys.specs.Failures.{failed_to_read}
 pub use Rattle.bplist_keys.specs.Marks.{IsMarked}

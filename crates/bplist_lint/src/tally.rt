@@ -1,17 +1,17 @@
 //! What reached objects come to together.
 
-ghost use Rattle.std.specs.Prelude.{◌≡◌, ◌+◌, ◌-◌, ◌≤◌, ◌<◌, IfSome, MatchOption};
-ghost use Rattle.bplist_lint.specs.Prelude.{IsSafeHead, ref_count, IsRoomy};
+ghost use Rattle.std.specs.Prelude.{◌≡◌, ◌+◌, ◌-◌, ◌≤◌, ◌<◌, IfOk, MatchResult, Some};
+ghost use Rattle.bplist_lint.specs.Prelude.{IsSafeHead, ref_count, Overfull, IsRoomy};
 
-use bplist_objects::{Frame, Head, refs_of};
+use bplist_objects::{Extents, Fault, Frame, Head, ObjectNo, refs_of};
 
 /// What reached objects come to together.
 #[derive(Clone, Copy, Debug, PartialEq, Eq, Drop)]
 pub struct Tally {
     /// How many they are.
     pub reached: u64,
-    /// How many bytes they take.
-    pub used: u64,
+    /// The bytes that they take.
+    pub used: Extents,
     /// How many references they have.
     pub references: u64,
 }
@@ -19,36 +19,34 @@ pub struct Tally {
 impl Tally {
     /// The tally of no objects.
     pub fn new() -> Tally
-        ensures { result ≡ record { reached = 0; used = 0; references = 0 } }
+        ensures { result ≡ record { reached = 0; used = record { octets = 0 }; references = 0 } }
     {
         Tally {
             reached: 0,
-            used: 0,
+            used: Extents::new(),
             references: 0,
         }
     }
 
-    /// The tally with one object more, which stands at `place` and has this head, where there is room for it.
+    /// The tally with object `n` more, which stands at `place` and has this head, or the fault of rule 31.
     #[inline(always)]
-    pub fn with(self, frame: &Frame, place: u64, head: &Head) -> Option<Tally>
+    pub fn with(self, frame: &Frame, n: ObjectNo, place: u64, head: &Head) -> Result<Tally, Fault>
         requires low { 1 ≤ frame.now.ref_size }
         requires head { IsSafeHead frame.now head.now }
         requires behind { place < head.now.body }
         requires roomy { IsRoomy frame.now self }
-        ensures used { MatchOption result (frame.now.table < self.used + (head.now.«end» - place) + 8)
-            (λ now. now.used ≡ self.used + (head.now.«end» - place)) }
-        ensures reached { IfSome result (λ now. now.reached ≡ self.reached + 1) }
-        ensures references { IfSome result (λ now. now.references ≡ self.references + ref_count head.now.kind head.now.count) }
-        ensures roomy { IfSome result (IsRoomy frame.now) }
+        ensures used { MatchResult result
+            (λ now. now.used.octets ≡ self.used.octets + (head.now.«end» - place))
+            (λ fault. (fault.rule ≡ Overfull) × (fault.object ≡ Some n) × (fault.place ≡ place)
+            × (frame.now.table < self.used.octets + (head.now.«end» - place) + 8)) }
+        ensures reached { IfOk result (λ now. now.reached ≡ self.reached + 1) }
+        ensures references { IfOk result (λ now. now.references ≡ self.references + ref_count head.now.kind head.now.count) }
+        ensures roomy { IfOk result (IsRoomy frame.now) }
     {
-        let table = frame.table;
-        let extent = head.end - place;
-        if extent > table - 8 - self.used {
-            return None;
-        }
-        Some(Tally {
+        let used = self.used.with(frame, n, place, head.end)?;
+        Ok(Tally {
             reached: self.reached + 1,
-            used: self.used + extent,
+            used,
             references: self.references + refs_of(head),
         })
     }

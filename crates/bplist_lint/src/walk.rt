@@ -202,7 +202,7 @@ fn visit<P: Offsets>(src: &mut P, n: u32, progress: &mut Progress) -> Result<(),
     let frame = src.frame();
     let place = src.offset(n)?;
     let head = shape_in(src, ObjectNo(n), place)?;
-    let Some(tally) = progress.tally.with(&frame, place, &head) else {
+    let Ok(tally) = progress.tally.with(&frame, ObjectNo(n), place, &head) else {
         return Err(Stop::Trouble);
     };
     progress.tally = tally;

@@ -15,6 +15,7 @@
 //! | entries of the offset table | [`offset_of`], [`read_offsets`], [`high_entry`] |
 //! | an object's head, by rules 14 to 17, or 20; with its place given | [`shape_of`], [`head_of`]; [`shape_at`], [`head_at`] |
 //! | references | [`refs_of`], [`ref_at`], [`read_refs`] |
+//! | what objects take together, by rule 31 | [`Extents`] |
 //! | what a leaf's body means | [`int_of`], [`uid_of`], [`octets_at`], [`unit_at`], [`read_units`] |
 //! | the order of a text and given units | [`key_cmp`] |
 //! | a source with its frame | [`Framed`], [`Plist`] |
@@ -28,6 +29,7 @@
 
 mod body;
 mod count;
+mod extents;
 mod fault;
 mod frame;
 mod framed;
@@ -47,6 +49,7 @@ mod text;
 mod visit;
 
 pub use body::{check_body, head_at, head_of};
+pub use extents::Extents;
 pub use fault::{Fault, ObjectFault};
 pub use frame::{Frame, ObjectNo, frame_of, trailer_of};
 pub use framed::{Framed, Plist};

@@ -8,18 +8,18 @@ refs_of-requires c =
     let fit = refs_fit c.args.frame.now.ref_size h.count h.kind c.requires.low in
     omega (arith, fit.1, c.requires.head.body)
 
-pub overflow_add-result-3 : goal.overflow_add-result-3
-overflow_add-result-3 c =
+pub overflow_add-result-2 : goal.overflow_add-result-2
+overflow_add-result-2 c =
     let h = c.args.head.now in
     let fit = refs_fit c.args.frame.now.ref_size h.count h.kind c.requires.low in
-    omega (arith, c.refs_of.ensures, fit.1, c.requires.head.body, c.requires.behind)
+    omega (arith, c.in_ok-used.ensures.room.0, c.in_ok-used.ensures.room.1, c.refs_of.ensures, fit.1, c.requires.head.body, c.requires.behind)
 
 pub returns-clause-roomy : goal.returns-clause-roomy
 returns-clause-roomy c =
     let h = c.args.head.now in
     let fit = refs_fit c.args.frame.now.ref_size h.count h.kind c.requires.low in
     record {
-      room = omega arith;
-      reached = omega (arith, fit.1, c.requires.head.body, c.requires.behind);
-      references = omega (arith, c.refs_of.ensures, fit.1, c.requires.head.body, c.requires.behind);
+      room = c.in_ok-used.ensures.room.1;
+      reached = omega (arith, c.in_ok-used.ensures.room.0, fit.1, c.requires.head.body, c.requires.behind);
+      references = omega (arith, c.in_ok-used.ensures.room.0, c.refs_of.ensures, fit.1, c.requires.head.body, c.requires.behind);
     }
