@@ -6,7 +6,8 @@ use Rattle.std.specs.declared.cmp.Ordering.TheVariants.{Less}
 use Rattle.bplist_objects.specs.declared.frame.Frame.{Frame}
 use Rattle.bplist_objects.specs.declared.head.Head.{Head}
 use Rattle.bplist_objects.specs.Frame.{IsFrame}
-use Rattle.bplist_objects.specs.Units.{compare_units}
+use Rattle.bplist_objects.specs.Heads.{HasShape}
+use Rattle.bplist_objects.specs.Units.{IsTextKind, compare_units}
 use Rattle.bplist_objects.proofs.HeadTies.{shape_announced}
 use Rattle.bplist_objects.proofs.UnitOrder.{compare_units-self, compare_units-less_less}
 use Rattle.bplist_objects.specs.Scan.{ref}
@@ -18,7 +19,7 @@ use Rattle.bplist_cert.specs.Looks.{KeepsBeforeKeys, KeepBeforeKeysBelow}
 use Rattle.bplist_cert.specs.KeysLooks.{IsListed}
 use Rattle.bplist_cert.specs.DictKeys.{KeysAreTexts, AreInOrder}
 use Rattle.bplist_cert.specs.KeyRepeats.{KeysAreSound, HasGoodKeys}
-use Rattle.bplist_cert.specs.declared.key_lists.ReadKey.{ReadKey}
+use Rattle.bplist_cert.specs.declared.key_order.ReadKey.{ReadKey}
 use Rattle.bplist_cert.specs.KeyPairs.{Ascends, ArePairs, Follows, HaveTextShapes}
 use Rattle.bplist_cert.proofs.KeyRepeats.{seen_own, good_low, no_keys, keys_inside, sound_keys}
 use Rattle.bplist_cert.proofs.AllNumbers.{onto}
@@ -90,6 +91,32 @@ module _ (f : List ℕ) (F : Frame) where
       ];
     }
 
+    -- such numbers are in order
+    pub in_order_to : (count : ℕ) → AscendTo count → AreInOrder f F head list count
+    in_order_to count so j l = (
+      so.low j l,
+      λ i a b next x y.
+          let less = subst (λ k. compare_units (units_at i) (units_at k) ≡ Less) next (so.up i (omega (arith, next, l))) in
+          let first = text_units-head f F (ref f F head (slice_index list i)) a (x.is.0, x.kind) in
+          let second = text_units-head f F (ref f F head (slice_index list j)) b (y.is.0, y.kind) in
+          ap₂ compare_units (sym first) (sym second) ∙ less,
+    )
+
+    -- where the keys are texts and number j is in order too, its key comes after the one before
+    pub follows_in_order : (j : ℕ) (before : Option ReadKey) (m : ℕ) → AscendTo j → KeysAreTexts f F head head.count → m ≡ ref f F head (slice_index list j) → IsLast j before → AreInOrder f F head list (suc j)
+        → Follows f F before m
+    follows_in_order j None m so texts is last more =
+        let second = texts (slice_index list j) (more j (omega arith)).0 in
+        subst (HasTextShape f F) (sym is) (second.0, (second.1.is.0, second.1.kind))
+    follows_in_order j (Some x) m so texts is (i, next, at) more =
+        let here = more j (omega arith) in
+        let first = texts (slice_index list i) (so.low i (omega (arith, next))) in
+        let second = texts (slice_index list j) here.0 in
+        let left : HasShape f F (ref f F head (slice_index list i)) first.0 × IsTextKind first.0.kind = (first.1.is.0, first.1.kind) in
+        let right : HasShape f F (ref f F head (slice_index list j)) second.0 × IsTextKind second.0.kind = (second.1.is.0, second.1.kind) in
+        let units = ap₂ compare_units (ap (text_units f F) at ∙ text_units-head f F (ref f F head (slice_index list i)) first.0 left) (ap (text_units f F) is ∙ text_units-head f F (ref f F head (slice_index list j)) second.0 right) in
+        (subst (HasTextShape f F) (sym at) (first.0, left), subst (HasTextShape f F) (sym is) (second.0, right), units ∙ here.1 i first.0 second.0 next first.1 second.1)
+
     module _ (so : AscendTo head.count) where
       apart : (i j : ℕ) → i < j → j < head.count → slice_index list i ≡ slice_index list j → ⊥
       apart i j l m e =
@@ -104,16 +131,6 @@ module _ (f : List ℕ) (F : Frame) where
       shapes_all k l =
           let at = onto head.count (slice_index list) so.low apart k l in
           subst (λ p. HasTextShape f F (ref f F head p)) at.2 (so.shapes at.0 at.1)
-
-      pub in_order_all : AreInOrder f F head list head.count
-      in_order_all j l = (
-        so.low j l,
-        λ i a b next x y.
-            let less = subst (λ k. compare_units (units_at i) (units_at k) ≡ Less) next (so.up i (omega (arith, next, l))) in
-            let first = text_units-head f F (ref f F head (slice_index list i)) a (x.is.0, x.kind) in
-            let second = text_units-head f F (ref f F head (slice_index list j)) b (y.is.0, y.kind) in
-            ap₂ compare_units (sym first) (sym second) ∙ less,
-      )
 
 module _ (f : List ℕ) (F : Frame) where
   -- keys that are texts by marker and count, and keep rules 14 to 20, are texts

@@ -1,9 +1,11 @@
--- What the classes of the keys of a vouched dictionary say about the keys.
-use Rattle.std.proofs.Common.{Bool, not, IsTrue, Option, Some, None, MatchOption, is_some, Result, Ok, Err, ◌≡◌, ℕ, ◌*◌, ◌<◌, ◌≤◌, List, [], ◌∷◌, slice_index, count_by, sym, ap, ◌∙◌, subst, inr, arith}
+-- What the classes of the keys of a vouched dictionary say of them.
+use Rattle.std.proofs.Common.{Bool, not, IsTrue, Option, Some, None, MatchOption, is_some, Result, Ok, Err, ◌≡◌, ℕ, ◌*◌, ◌<◌, ◌≤◌, List, suc, [], ◌∷◌, slice_index, count_by, sym, ap, ◌∙◌, subst, inr, arith}
 use Rattle.std.proofs.lemmas.Bool.{false≢true}
 use Rattle.bplist_objects.specs.declared.rule.Rule.{Rule}
 use Rattle.bplist_objects.specs.declared.rule.Rule.TheVariants as rules
+use Rattle.bplist_objects.specs.declared.fault.Fault.{Fault}
 use Rattle.bplist_objects.specs.declared.frame.Frame.{Frame}
+use Rattle.bplist_objects.specs.declared.frame.ObjectNo.{ObjectNo}
 use Rattle.bplist_objects.specs.declared.head.Head.{Head}
 use Rattle.bplist_objects.specs.declared.kind.Kind.TheVariants.{Dict}
 use Rattle.bplist_objects.specs.Announced.{HasHead}
@@ -17,12 +19,14 @@ use Rattle.bplist_objects.proofs.BodyLaws.{HasHead-unique}
 use Rattle.bplist_objects.proofs.HeadTies.{shape_announced}
 use Rattle.bplist_keys.specs.Texts.{text_units}
 use Rattle.bplist_keys.specs.Ranks.{AreClasses}
-use Rattle.bplist_keys.specs.Classes.{HasNamedKeys, AreClassed, HaveClasses, AreApart}
+use Rattle.bplist_keys.specs.declared.class_table.KeyDefect.{KeyDefect}
+use Rattle.bplist_keys.specs.declared.class_table.KeyDefect.TheVariants as defects
+use Rattle.bplist_keys.specs.Classes.{HasNamedKeys, AreClassed, HaveClasses, AreApart, IsKeyDefect, IsWrongFault}
 use Rattle.bplist_objects.specs.Claims.{FailsAt}
 use Rattle.bplist_objects.proofs.ClaimLaws.{fails_too}
 use Rattle.bplist_keys.proofs.RankLaws.{none_marked, classes_same}
 use Rattle.bplist_keys.proofs.WeightSteps.{text_units-head}
-use Rattle.bplist_cert.specs.DictKeys.{IsText, KeysAreTexts, KeysDiffer, IsFirstTwice}
+use Rattle.bplist_cert.specs.DictKeys.{IsText, KeysAreTexts, KeysDiffer, IsFirstTwice, IsTwiceFault}
 use Rattle.bplist_cert.specs.Lists.{Keyed, lists}
 use Rattle.bplist_cert.specs.CheckRules.{KeepsRule, HasOrder, KeepsLast, IsOrderFault}
 use Rattle.bplist_objects.specs.declared.fault.ObjectFault.{ObjectFault}
@@ -61,14 +65,6 @@ module _ (f : List ℕ) (F : Frame) where
   -- keys are good by one head
   pub good_at : (keys : Option Keyed) (n : ℕ) (head : Head) → HasHead f F n head → (head.kind ≡ Dict → KeysAreTexts f F head head.count × KeepsLast f F keys n head) → HasGoodKeys f F keys n
   good_at keys n head has good other h = subst (λ (x : Head). x.kind ≡ Dict → KeysAreTexts f F x x.count × KeepsLast f F keys n x) (HasHead-unique f F n head other has h) good
-
-  -- a claim about the key list of a dictionary whose keys are texts is one about the object, with what was learnt
-  -- besides
-  pub order_given : {A B : Type 0} → (A → B) → (count : ℕ) (keyed : Keyed) (n : ℕ) (head : Head) → HasHead f F n head → head.kind ≡ Dict → KeysAreTexts f F head head.count → (r : Result (Unit {0}) ObjectFault)
-      → Gives (λ _. A × HasOrder f F keyed n head) (IsOrderFault f F count keyed n head) r → Gives (λ _. B × HasGoodKeys f F (Some keyed) n) (BreaksKeys f F count (Some keyed) n) r
-  order_given learn count keyed n head has dict texts (Ok x) h = (learn h.0, good_at (Some keyed) n head has (λ _. (texts, h.1)))
-  order_given learn count keyed n head has dict texts (Err (errors.Fault fault)) h = (head, has, (dict, inr (texts, h)))
-  order_given learn count keyed n head has dict texts (Err (errors.Read r)) h = tt
 
   -- what an object keeps that keeps the rules before those of keys
   module _ (heights : List ℕ) (n : ℕ) (seen : KeepsBeforeKeys f F heights n) where
@@ -143,6 +139,11 @@ module _ (f : List ℕ) (F : Frame) where
       -- the first class that comes again is that of the first key that comes twice
       pub again_twice : (j : ℕ) → FailsAt (AreApart (ref f F head) classes) head.count j → IsFirstTwice f F head j
       again_twice = fails_too (AreApart (ref f F head) classes) (KeysDiffer f F head) head.count apart_differ differ_apart
+
+      -- what is wrong with keys that are texts is that one comes twice
+      pub twice_fault : (n : ObjectNo) (wrong : KeyDefect) (fault : Fault) → IsKeyDefect (ref f F head) classes head.count wrong → IsWrongFault F n head wrong fault → IsTwiceFault f F n.0 head fault
+      twice_fault n (defects.NotText i) fault is told = absurd (is.2 (texts_classed (suc i) (omega (arith, is.0)) (λ k l. texts k (omega (arith, l, is.0)))))
+      twice_fault n (defects.Repeated j) fault is told = (told.0, told.1, (j, again_twice j is.1, told.2))
 
     module _ (framed : IsFrame f F) (sound : KeysAreSound f F head) (inside : (k : ℕ) → k < head.count → ref f F head k < F.objects) where
       -- keys with a class are texts

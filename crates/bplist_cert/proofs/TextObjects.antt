@@ -1,8 +1,10 @@
 -- Objects that are texts, and keys.
-use Rattle.std.proofs.Common.{ℕ, ◌<◌, List, subst}
+use Rattle.std.proofs.Common.{◌≡◌, ℕ, ◌<◌, List, refl, subst}
 use Rattle.bplist_objects.specs.declared.fault.Fault.{Fault}
 use Rattle.bplist_objects.specs.declared.frame.Frame.{Frame}
 use Rattle.bplist_objects.specs.declared.head.Head.{Head}
+use Rattle.bplist_objects.specs.declared.kind.Kind.{Kind}
+use Rattle.bplist_objects.specs.declared.kind.Kind.TheVariants as kinds
 use Rattle.bplist_objects.specs.Frame.{IsFrame}
 use Rattle.bplist_objects.specs.Heads.{content_at}
 use Rattle.bplist_objects.specs.Units.{IsTextKind}
@@ -14,6 +16,12 @@ use Rattle.bplist_objects.proofs.Broken.{no_object_fault}
 use Rattle.bplist_objects.proofs.HeadTies.{kept_spells, shape_announced}
 use Rattle.bplist_objects.proofs.FirstFaults.{no_content}
 use Rattle.bplist_cert.specs.DictKeys.{IsText}
+
+-- a text that is not Ascii is Wide
+pub wide_text : (kind : Kind) → IsTextKind kind → (kind ≡ kinds.Ascii → ⊥) → kind ≡ kinds.Wide
+wide_text kinds.Ascii text other = absurd (other refl)
+wide_text kinds.Wide text other = refl
+wide_text _ text other = absurd text
 
 module _ (f : List ℕ) (F : Frame) (m : ℕ) where
   -- an object with a head of a text's kind is a text

@@ -8,7 +8,7 @@ use Rattle.bplist_objects.specs.declared.head.Head.{Head}
 use Rattle.bplist_objects.specs.Heads.{HasShape}
 use Rattle.bplist_objects.specs.Units.{IsTextKind, compare_units}
 use Rattle.bplist_keys.specs.Runs.{AreRuns}
-use Rattle.bplist_cert.specs.declared.key_lists.ReadKey.{ReadKey}
+use Rattle.bplist_cert.specs.declared.key_order.ReadKey.{ReadKey}
 use Rattle.bplist_cert.specs.declared.key_pairs.OrderedPairs.{OrderedPairs}
 use Rattle.bplist_keys.specs.Texts.{HasTextShape, text_units}
 use Rattle.bplist_objects.specs.Safe.{IsSafeBody}

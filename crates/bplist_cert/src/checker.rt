@@ -1,7 +1,7 @@
 //! The check of a certificate against a file, and its walk over the vouched objects.
 
-ghost use Rattle.std.specs.Prelude.{◌≡◌, ◌+◌, ◌-◌, ◌≤◌, ◌<◌, ℕ, length, IfOk, IfErr, MatchResult, Some};
-ghost use Rattle.bplist_cert.specs.Prelude.{AllByRecursion, OnlyReads, Honestly, frame_in, HonestlyIn, off, Overfull, Sums, IsSafeFrame, ObjectNo as object_no, IsVouchedBy, HoldsOneValue, IsShownFault, ArePlaces, AreSeen, Quick as quick, Exact as exact, IsCheckedObject, AreCheckedBelow, IsWalkFault, IsSeenFault, IsVouchedFault, KeepsPairRules, IsPairFault, Gives, read_failed, Judges, GivesRefusal, is_read, refused_read, MayRefuse, IsAccepted, Never, Reach, Chain, Content, Spells, refs, Frame as frame};
+ghost use Rattle.std.specs.Prelude.{◌≡◌, ◌+◌, ◌≤◌, ◌<◌, ℕ, length, IfOk, IfErr, MatchResult, Some};
+ghost use Rattle.bplist_cert.specs.Prelude.{AllByRecursion, OnlyReads, Honestly, frame_in, HonestlyIn, off, Sums, IsSafeFrame, ObjectNo as object_no, IsVouchedBy, HoldsOneValue, IsShownFault, ArePlaces, AreSeen, Quick as quick, Exact as exact, IsCheckedObject, AreCheckedBelow, IsWalkFault, IsSeenFault, IsVouchedFault, KeepsPairRules, IsPairFault, Gives, read_failed, Judges, GivesRefusal, is_read, refused_read, MayRefuse, IsAccepted, Never, Reach, Chain, Content, Spells, refs, Frame as frame};
 
 use crate::certificate::Certificate;
 use crate::checked::Checked;
@@ -10,8 +10,8 @@ use crate::keys_look::{KeysLook, VouchedPrefix, keys_look};
 use crate::refusal::Refusal;
 use bplist_keys::{OffsetReader, Offsets};
 use bplist_objects::{
-    Fault, Frame, Framed, ObjectFault, ObjectNo, Rule, Visit, check_body, frame_of, head_in,
-    read_offsets_in, refs_of, visit_in,
+    Extents, Fault, Frame, Framed, ObjectFault, ObjectNo, Rule, Visit, check_body, frame_of,
+    head_in, read_offsets_in, refs_of, visit_in,
 };
 use bplist_octets::Source;
 use std::alloc::Global;
@@ -35,61 +35,32 @@ struct Walk<'a> {
     look: Look,
 }
 
-/// Rule 31: returns `used` plus the bytes of object `n`, which is at `place` and ends at `end`. `used` is what the
-/// vouched objects before it take.
-#[inline(always)]
-fn check_extent<P: Framed>(
-    src: &P,
-    n: ObjectNo,
-    place: u64,
-    end: u64,
-    used: u64,
-) -> Result<u64, Fault>
-    requires { place < «end» }
-    ensures { MatchResult result
-        (λ now. (now ≡ used + («end» - place)) × (now + 8 ≤ (frame_in (P.means src.now)).table))
-        (λ fault. (fault.rule ≡ Overfull) × (fault.object ≡ Some n) × (fault.place ≡ place)
-        × ((frame_in (P.means src.now)).table < used + («end» - place) + 8)) }
-{
-    let extent = end - place;
-    let room = src.frame().table - 8;
-    if used > room || extent > room - used {
-        return Err(Fault {
-            rule: Rule::Overfull,
-            object: Some(n),
-            place,
-        });
-    }
-    Ok(used + extent)
-}
-
-/// Checks vouched object `n` at `place` by the rules before those of keys. The vouched objects before it take `used`
-/// bytes; returns how many they take with it. A quick check reads no byte twice: it decides rules 20, 28 and 29
-/// together, because only an object has a height.
+/// Looks at object `n`, which is vouched for and stands at `place`, by the rules before those of keys, where the vouched
+/// objects before it take `used` bytes, and answers how many they take with it. A quick look reads no byte twice: at
+/// references it looks by rules 20, 28 and 29 at once, since objects alone have heights.
 fn check_object<P: Framed>(
     src: &mut P,
     walk: Walk,
     n: ObjectNo,
     place: u64,
-    used: u64,
-) -> Result<u64, ObjectFault>
+    used: Extents,
+) -> Result<Extents, ObjectFault>
     requires all { length walk.certificate.now.heights ≡ (frame_in (P.means src.old)).objects }
     requires within { n.0 < (frame_in (P.means src.old)).objects }
     ensures reads { OnlyReads (read_failed result) (P.means src.old) (P.means src.new) }
     ensures exact { HonestlyIn (P.means src.old) (λ f F. place ≡ off f F n.0
-        → IsVouchedBy walk.entry.certificate.now.heights n.0 → Sums f F (IsVouchedBy walk.entry.certificate.now.heights) n.0 used
-        → Gives (IsCheckedObject f F walk.entry.certificate.now quick n.0)
+        → IsVouchedBy walk.entry.certificate.now.heights n.0 → Sums f F (IsVouchedBy walk.entry.certificate.now.heights) n.0 used.octets
+        → Gives (λ now. IsCheckedObject f F walk.entry.certificate.now quick n.0 now.octets)
         (IsShownFault f F walk.entry.certificate.now walk.entry.look n.0) result) }
 {
-    let _frame = src.frame();
+    let frame = src.frame();
     let cert = walk.certificate;
     match walk.look {
         Look::Quick => match visit_in(src, n, place)? {
-            Visit::Done(end) => Ok(check_extent(src, n, place, end, used)?),
+            Visit::Done(end) => Ok(used.with(&frame, n, place, end)?),
             Visit::Body(head) => {
-                let now = check_extent(src, n, place, head.end, used)?;
+                let now = used.with(&frame, n, place, head.end)?;
                 if refs_of(&head) == 0 {
-                    let frame = src.frame();
                     check_body(src, &frame, n, place, &head)?;
                 } else {
                     let heights: &[u32] = &cert.heights;
@@ -101,7 +72,7 @@ fn check_object<P: Framed>(
         },
         Look::Exact => {
             let head = head_in(src, n, place)?;
-            let now = check_extent(src, n, place, head.end, used)?;
+            let now = used.with(&frame, n, place, head.end)?;
             let heights: &[u32] = &cert.heights;
             check_refs(src, heights, n, &head, Wanted::Vouched)?;
             let own = heights[n.0 as usize];
@@ -117,14 +88,14 @@ fn check_block<P: Framed>(
     walk: Walk,
     from: u32,
     places: &[u64],
-    used: u64,
-) -> Result<u64, ObjectFault>
+    used: Extents,
+) -> Result<Extents, ObjectFault>
     requires all { length walk.certificate.now.heights ≡ (frame_in (P.means src.old)).objects }
     requires within { from + length places.now ≤ (frame_in (P.means src.old)).objects }
     ensures reads { OnlyReads (read_failed result) (P.means src.old) (P.means src.new) }
     ensures exact { HonestlyIn (P.means src.old) (λ f F. ArePlaces f F from places.now
-        → AreCheckedBelow f F walk.entry.certificate.now quick from used
-        → Gives (AreCheckedBelow f F walk.entry.certificate.now quick (from + length places.now))
+        → AreCheckedBelow f F walk.entry.certificate.now quick from used.octets
+        → Gives (λ now. AreCheckedBelow f F walk.entry.certificate.now quick (from + length places.now) now.octets)
         (IsWalkFault f F walk.entry.certificate.now walk.entry.look) result) }
 {
     let _frame = src.frame();
@@ -140,13 +111,17 @@ fn check_block<P: Framed>(
     Ok(used)
 }
 
-/// Checks all vouched objects in the order of their numbers. Returns how many bytes they take. The keys of each block
-/// are looked at right after it, while its places and objects are at hand.
-fn check_all<P: Offsets>(src: &mut P, walk: Walk, found: &mut KeysLook) -> Result<u64, ObjectFault>
+/// Looks at all vouched objects, in the order of their numbers, and at the keys of the dictionaries among them: block by block,
+/// as places and objects are at hand then. How many bytes they take.
+fn check_all<P: Offsets>(
+    src: &mut P,
+    walk: Walk,
+    found: &mut KeysLook,
+) -> Result<Extents, ObjectFault>
     requires { length walk.certificate.now.heights ≡ (frame_in (P.means src.old)).objects }
     ensures reads { OnlyReads (read_failed result) (P.means src.old) (P.means src.new) }
     ensures exact { HonestlyIn (P.means src.old) (λ f F. AreSeen f F walk.entry.certificate.now 0 found.old → Gives
-        (λ used. AreCheckedBelow f F walk.entry.certificate.now quick F.objects used
+        (λ used. AreCheckedBelow f F walk.entry.certificate.now quick F.objects used.octets
         × AreSeen f F walk.entry.certificate.now F.objects found.new)
         (λ fault. IsWalkFault f F walk.entry.certificate.now walk.entry.look fault
         × AreSeen f F walk.entry.certificate.now 0 found.new) result) }
@@ -155,7 +130,7 @@ fn check_all<P: Offsets>(src: &mut P, walk: Walk, found: &mut KeysLook) -> Resul
     let cert = walk.certificate;
     let heights: &[u32] = &cert.heights;
     let mut buffer = [0u64; BLOCK];
-    let mut used = 0u64;
+    let mut used = Extents::new();
     let mut done = 0u32;
     while done < objects {
         let now = (objects - done).min(BLOCK as u32);
@@ -179,11 +154,11 @@ fn check_in_passes<P: Offsets>(
     src: &mut P,
     cert: &Certificate,
     found: &mut KeysLook,
-) -> Result<u64, ObjectFault>
+) -> Result<Extents, ObjectFault>
     requires { length cert.now.heights ≡ (frame_in (P.means src.old)).objects }
     ensures reads { OnlyReads (read_failed result) (P.means src.old) (P.means src.new) }
     ensures exact { HonestlyIn (P.means src.old) (λ f F. AreSeen f F cert.now 0 found.old → Gives
-        (λ used. AreCheckedBelow f F cert.now quick F.objects used × AreSeen f F cert.now F.objects found.new)
+        (λ used. AreCheckedBelow f F cert.now quick F.objects used.octets × AreSeen f F cert.now F.objects found.new)
         (λ fault. IsSeenFault f F cert.now fault × AreSeen f F cert.now 0 found.new) result) }
 {
     let mut walk = Walk {
@@ -208,14 +183,18 @@ fn object_of(fault: &Fault) -> u32
     }
 }
 
-/// Checks all vouched objects, then the keys of the dictionaries among them, up to the first object that breaks a rule
-/// before those of keys. Returns how many bytes the objects take.
-fn check_objects<P: Offsets>(alloc: Global, src: &mut P, cert: &Certificate) -> Result<u64, Refusal>
+/// Looks at all vouched objects, and then at the keys of the dictionaries among them, up to the first object that breaks a
+/// rule before those of keys. How many bytes they take.
+fn check_objects<P: Offsets>(
+    alloc: Global,
+    src: &mut P,
+    cert: &Certificate,
+) -> Result<Extents, Refusal>
     requires { length cert.now.heights ≡ (frame_in (P.means src.old)).objects }
     ensures reads { OnlyReads (refused_read result) (P.means src.old) (P.means src.new) }
     ensures memory { IfErr result (MayRefuse cert.now.keys) }
     ensures exact { HonestlyIn (P.means src.old) (λ f F.
-        Judges (AreCheckedBelow f F cert.now exact F.objects) (IsVouchedFault f F cert.now) result) }
+        Judges (λ used. AreCheckedBelow f F cert.now exact F.objects used.octets) (IsVouchedFault f F cert.now) result) }
 {
     let objects = src.frame().objects;
     let heights: &[u32] = &cert.heights;

@@ -5,8 +5,8 @@ ghost use Rattle.bplist_cert.specs.Prelude.{OnlyReads, frame_in, HonestlyIn, IsS
 
 use crate::key_offsets::{BLOCK, read_ahead};
 use crate::low_bytes::LowBytes;
-use bplist_keys::Offsets;
-use bplist_objects::{Fault, Framed, Head, Kind, ObjectFault, ObjectNo, Rule, ref_place, shape_at};
+use bplist_keys::{KeyDefect, Offsets, text_head};
+use bplist_objects::{Framed, Head, Kind, ObjectFault, ObjectNo};
 use bplist_octets::ReadFault;
 
 /// A dictionary: its object and its head.
@@ -31,17 +31,15 @@ fn is_text<P: Framed>(
 {
     let frame = src.frame();
     let _len = src.len();
-    if m >= frame.objects as u64 {
+    let Some(key) = frame.object(m) else {
         return Ok(false);
-    }
-    match shape_at(src, &frame, ObjectNo(m as u32), place) {
-        Ok(head) => match head.kind {
-            Kind::Ascii => low.covers(src, head.body, head.body + head.count),
-            Kind::Wide => Ok(true),
-            _ => Ok(false),
-        },
-        Err(ObjectFault::Fault(_)) => Ok(false),
-        Err(ObjectFault::Read(fault)) => Err(fault),
+    };
+    let Some(head) = text_head(src, key.0, place)? else {
+        return Ok(false);
+    };
+    match head.kind {
+        Kind::Ascii => low.covers(src, head.body, head.body + head.count),
+        _ => Ok(true),
     }
 }
 
@@ -90,23 +88,10 @@ pub(crate) fn check_texts<P: Offsets>(
         let places = &mut found[..now as usize];
         read_ahead(src, &dict.head, done, block, places)?;
         if let Some(i) = first_other(src, low, block, places)? {
-            return Err(ObjectFault::Fault(keyless(src, dict, done + i as u64)));
+            let wrong = KeyDefect::NotText(done + i as u64);
+            return Err(ObjectFault::Fault(wrong.fault(src, dict.n, &dict.head)));
         }
         done += now;
     }
     Ok(())
-}
-
-/// Returns the fault of key `i` of this dictionary.
-pub(crate) fn keyless<P: Framed>(src: &P, dict: &Dictionary, i: u64) -> Fault
-    requires head { IsSafeHead (frame_in (P.means src.now)) dict.now.head }
-    requires within { i < dict.now.head.count }
-    ensures { (result.rule ≡ KeyKind) × (result.object ≡ Some dict.now.n)
-        × (result.place ≡ dict.now.head.body + i * (frame_in (P.means src.now)).ref_size) }
-{
-    Fault {
-        rule: Rule::KeyKind,
-        object: Some(dict.n),
-        place: ref_place(src, &dict.head, i),
-    }
 }

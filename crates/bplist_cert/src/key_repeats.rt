@@ -4,16 +4,16 @@ ghost use Rattle.std.specs.Prelude.{◌≡◌, ◌<◌, None, IfOk, IfSome, leng
 ghost use Rattle.bplist_cert.specs.Prelude.{OnlyReads, frame_in, HonestlyIn, HasHead, Head as head, Dict, HaveNamedKeys, AreClassed, IsStamped, IsNew, AreClasses, failed_to_read, lists, KeepBeforeKeysBelow, AreLow, IsVouchedBy, HasGoodKeys, HaveGoodKeys, BreaksKeys, IsFirstKeysFault, Judges, refused_read};
 
 use crate::heights::height_at;
-use crate::key_kinds::{Dictionary, check_texts, keyless};
+use crate::key_kinds::{Dictionary, check_texts};
 use crate::key_names::seen_keys;
 use crate::keys_look::VouchedPrefix;
 use crate::low_bytes::LowBytes;
 use crate::refusal::Refusal;
 use bplist_keys::{
-    ClassTable, Failure, KeyDefect, NamedKeys, OffsetTable, Offsets, Ranks, classes_of,
-    object_shape, offsets_of, ranks_of,
+    ClassTable, Failure, NamedKeys, OffsetTable, Offsets, Ranks, classes_of, object_shape,
+    offsets_of, ranks_of,
 };
-use bplist_objects::{Fault, Framed, Head, Kind, ObjectNo, Rule, ref_place};
+use bplist_objects::{Framed, Kind, ObjectNo};
 use bplist_octets::ReadFault;
 use std::alloc::Global;
 
@@ -81,12 +81,7 @@ fn check_dict_repeats<P: Offsets>(
     check_texts(src, &mut look.low, &dict)?;
     match found {
         None => Ok(()),
-        Some(KeyDefect::NotText(i)) => Err(Refusal::Fault(keyless(src, &dict, i))),
-        Some(KeyDefect::Repeated(i)) => Err(Refusal::Fault(Fault {
-            rule: Rule::KeyTwice,
-            object: Some(dict.n),
-            place: ref_place(src, &dict.head, i),
-        })),
+        Some(wrong) => Err(Refusal::Fault(wrong.fault(src, dict.n, &dict.head))),
     }
 }
 

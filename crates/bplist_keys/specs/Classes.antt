@@ -1,8 +1,11 @@
 -- The keys of dictionaries by the classes of their texts. Source: profile.
-use Rattle.std.specs.Prelude.{◌≡◌, ◌≢◌, ◌↔◌, ◌⊎◌, ℕ, ◌+◌, ◌-◌, ◌<◌, Bool, List, length, set, slice_index, Option, MatchOption}
+use Rattle.std.specs.Prelude.{◌≡◌, ◌≢◌, ◌↔◌, ◌⊎◌, ℕ, ◌+◌, ◌*◌, ◌-◌, ◌<◌, Bool, List, length, set, slice_index, Option, Some, MatchOption}
+use Rattle.bplist_objects.specs.declared.fault.Fault.{Fault}
 use Rattle.bplist_objects.specs.declared.frame.Frame.{Frame}
+use Rattle.bplist_objects.specs.declared.frame.ObjectNo.{ObjectNo}
 use Rattle.bplist_objects.specs.declared.head.Head.{Head}
 use Rattle.bplist_objects.specs.declared.kind.Kind.TheVariants.{Dict}
+use Rattle.bplist_objects.specs.declared.rule.Rule.TheVariants as rules
 use Rattle.bplist_objects.specs.Announced.{HasHead}
 use Rattle.bplist_objects.specs.Scan.{ref}
 use Rattle.bplist_keys.specs.Marks.{IsMarked}
@@ -71,3 +74,10 @@ module _ (key : ℕ → ℕ) (classes : List ℕ) where
 -- the number of the wrong key
 abbrev pub defect_key : KeyDefect → ℕ
 defect_key defect = elim defect [ defects.NotText i ↦ i | defects.Repeated j ↦ j ]
+
+-- the fault of the keys of dictionary n, where this is wrong with them
+abbrev pub IsWrongFault : Frame → ObjectNo → Head → KeyDefect → Fault → Type 0
+IsWrongFault F n head (defects.NotText i) fault =
+    (fault.rule ≡ rules.KeyKind) × (fault.object ≡ Some n) × (fault.place ≡ head.body + i * F.ref_size)
+IsWrongFault F n head (defects.Repeated j) fault =
+    (fault.rule ≡ rules.KeyTwice) × (fault.object ≡ Some n) × (fault.place ≡ head.body + j * F.ref_size)

@@ -9,7 +9,7 @@ ghost use Rattle.bplist_objects.specs.Scan.{ref};
 
 use crate::named_keys::BLOCK;
 use crate::ranks::Ranks;
-use bplist_objects::{Framed, Head, read_refs_in};
+use bplist_objects::{Fault, Framed, Head, ObjectNo, Rule, read_refs_in, ref_place};
 use bplist_octets::ReadFault;
 use std::alloc::{AllocError, Global};
 
@@ -33,7 +33,32 @@ pub enum KeyDefect {
     Repeated(u64),
 }
 
-/// The classes of keys, and for each class the dictionary that last had a key of it: its number plus 1, or 0 for none.
+impl KeyDefect {
+    ghost use Rattle.bplist_keys.specs.Classes.{defect_key, IsWrongFault};
+
+    /// The fault of dictionary `n`, which has this head, by rule 21 or 22.
+    pub fn fault<P: Framed>(self, src: &P, n: ObjectNo, head: &Head) -> Fault
+        requires head { IsSafeHead (frame_in (P.means src.now)) head.now }
+        requires dict { head.now.kind ≡ Dict }
+        requires within { defect_key self < head.now.count }
+        ensures { IsWrongFault (frame_in (P.means src.now)) n head.now self result }
+    {
+        match self {
+            KeyDefect::NotText(i) => Fault {
+                rule: Rule::KeyKind,
+                object: Some(n),
+                place: ref_place(src, head, i),
+            },
+            KeyDefect::Repeated(i) => Fault {
+                rule: Rule::KeyTwice,
+                object: Some(n),
+                place: ref_place(src, head, i),
+            },
+        }
+    }
+}
+
+/// The classes of keys, and for each the dictionary that it was seen in last: its number and 1, or 0 for none.
 #[derive(Drop)]
 pub struct ClassTable {
     pub classes: Ranks,

@@ -53,4 +53,4 @@ pub use offset_reader::OffsetReader;
 pub use offsets::{OffsetTable, Offsets, object_shape, offsets_of};
 pub use ranks::{Ranks, classes_of, ranks_of};
 pub use runs::Runs;
-pub use text::{object_text, text_order};
+pub use text::{object_text, text_head, text_order};

@@ -19,8 +19,8 @@ use Rattle.bplist_cert.specs.DictKeys.{KeysAreTexts}
 use Rattle.bplist_cert.specs.KeyRepeats.{KeysAreSound, BreaksKeys}
 use Rattle.bplist_cert.proofs.KeyRepeats as keys
 use Rattle.bplist_lint.specs.ReachRules.{KeepReached, reach_rules}
-use Rattle.bplist_keys.specs.Classes.{HasNamedKeys, AreClassed, HaveClasses, IsKeyDefect}
-use Rattle.bplist_lint.specs.KeyClasses.{AreSound, IsWrongFault}
+use Rattle.bplist_keys.specs.Classes.{HasNamedKeys, AreClassed, HaveClasses, IsKeyDefect, IsWrongFault}
+use Rattle.bplist_lint.specs.KeyClasses.{AreSound}
 use Rattle.bplist_keys.specs.declared.class_table.KeyDefect.{KeyDefect}
 use Rattle.bplist_keys.specs.declared.class_table.KeyDefect.TheVariants as defects
 use Rattle.bplist_lint.proofs.ReachSteps.{marked_within}

@@ -1,5 +1,5 @@
 -- What the search for the reached objects keeps true.
-use Rattle.std.proofs.Common.{◌≡◌, ℕ, zero, suc, ◌+◌, ◌-◌, ◌*◌, ◌/◌, ◌%◌, ◌∙◌, ◌<◌, ◌≤◌, ◌↔◌, inl, inr, Bool, true, false, not, All, Vec, Global, List, [], ◌∷◌, ◌++◌, length, get_or, set, count_by, replicate, Contains, refl, sym, ap, ap₂, subst, arith}
+use Rattle.std.proofs.Common.{◌≡◌, ℕ, zero, suc, ◌+◌, ◌-◌, ◌*◌, ◌/◌, ◌%◌, ◌∙◌, ◌<◌, ◌≤◌, ◌↔◌, inl, inr, Bool, true, false, not, Option, Some, None, MatchOption, is_some, All, Vec, Global, List, [], ◌∷◌, ◌++◌, length, get_or, set, count_by, replicate, Contains, refl, sym, ap, ap₂, subst, arith}
 use Rattle.std.proofs.Math.Nat.{add-mul, div-mul-le_self, le-div_iff_mul-le, mod-lt}
 use Rattle.std.proofs.lemmas.Nat.{div-mul-add, mod-mul-add, div-add-mod', mul-add-lt}
 use Rattle.std.proofs.lemmas.Grind.{elements}
@@ -44,6 +44,11 @@ number_low F place some within =
     let low = (le-div_iff_mul-le {k = F.ref_size} {x = place / F.ref_size} {y = F.table} some).1 (omega (arith, part, within)) in
     let below : place / F.ref_size < row_length F = omega (arith, low) in
     mul-add-lt (place % F.ref_size) (row_length F) (place / F.ref_size) F.ref_size (mod-lt place some) below
+
+-- what was found, where it is not said that there is none
+pub some_there : {X : Type 0} (A : Type 0) (B : X → Type 0) (found : Option X) (none : Bool) → is_some found ≡ not none → none ≡ false → MatchOption found A B → (x : X) × B x
+some_there A B (Some x) none e some h = (x, h)
+some_there A B None none e some h = absurd (false≢true (e ∙ ap not some))
 
 module _ (F : Frame) (some : 1 ≤ F.ref_size) (place k : ℕ) (within : place + (k + 1) * F.ref_size ≤ F.table) where
   column : place / F.ref_size + k < row_length F

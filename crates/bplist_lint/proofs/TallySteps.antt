@@ -35,12 +35,12 @@ module _ (f : List ℕ) (F : Frame) where
       | inl e ↦ absurd (unreached (rw e at r))
       | inr ne ↦ t.kept m (omega arith) r
     ];
-    sums = sums_same f F (Reach f F) n tally.used unreached t.sums;
+    sums = sums_same f F (Reach f F) n tally.used.octets unreached t.sums;
     reached = let one = rw unmarked at (sum_next (λ m. cond (is_marked marks m) 1 0) n) in omega (arith, one, t.reached);
     references = let one = rw unmarked at (references_next f F (is_marked marks) n) in omega (arith, one, t.references);
   })
 
-  pub tallied_none : (marks : List Bool) → Tallied f F marks 0 (record { reached = 0; used = 0; references = 0 })
+  pub tallied_none : (marks : List Bool) → Tallied f F marks 0 (record { reached = 0; used = record { octets = 0 }; references = 0 })
   tallied_none marks = record {
     kept = λ m low r. absurd (omega arith);
     sums = sums_none f F (Reach f F);
@@ -62,11 +62,11 @@ module _ (f : List ℕ) (F : Frame) where
       is_head : IsHeadOf f F n head
       is_head = (head_tie f F n frame within head).0 (has, kept)
 
-      sums_with : Sums f F (Reach f F) (suc n) (tally.used + (head.«end» - off f F n))
-      sums_with = sums_more f F (Reach f F) n (head.«end» - off f F n) tally.used reached (shape_extent f F n head is_head.0) t.sums
+      sums_with : Sums f F (Reach f F) (suc n) (tally.used.octets + (head.«end» - off f F n))
+      sums_with = sums_more f F (Reach f F) n (head.«end» - off f F n) tally.used.octets reached (shape_extent f F n head is_head.0) t.sums
 
       -- a fault by rule 31
-      pub room_fault : (fault : Fault) → fault.rule ≡ rules.Overfull → fault.object ≡ Some (record { 0 = n }) → fault.place ≡ off f F n → F.table < tally.used + (head.«end» - off f F n) + 8 → IsReachedFault f F reach_rules fault
+      pub room_fault : (fault : Fault) → fault.rule ≡ rules.Overfull → fault.object ≡ Some (record { 0 = n }) → fault.place ≡ off f F n → F.table < tally.used.octets + (head.«end» - off f F n) + 8 → IsReachedFault f F reach_rules fault
       room_fault fault rule object place full = record {
         object = n;
         member = reached;
@@ -75,7 +75,7 @@ module _ (f : List ℕ) (F : Frame) where
       }
 
       -- the tally with it
-      pub tallied_more : IsMarked marks n → tally.used + (head.«end» - off f F n) + 8 ≤ F.table → (now : Tally) → now.reached ≡ tally.reached + 1 → now.used ≡ tally.used + (head.«end» - off f F n) → now.references ≡ tally.references + ref_count head.kind head.count
+      pub tallied_more : IsMarked marks n → tally.used.octets + (head.«end» - off f F n) + 8 ≤ F.table → (now : Tally) → now.reached ≡ tally.reached + 1 → now.used.octets ≡ tally.used.octets + (head.«end» - off f F n) → now.references ≡ tally.references + ref_count head.kind head.count
           → Tallied f F marks (n + 1) now
       tallied_more marked room now one bytes more = subst (λ k. Tallied f F marks k now) (next_is n) (record {
         kept = λ m low r. elim (cases_eq m n) [

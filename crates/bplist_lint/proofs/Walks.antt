@@ -87,7 +87,7 @@ module _ (f : List ℕ) (F : Frame) where
   extent_is n head has = ap (extent_by (off f F n)) (head_is_found f F n head has)
 
   -- ---- the beginning
-  pub walking_start : F.top.0 < F.objects → (keys : List Bool) → IsWalkState f F 0 [] (set (replicate F.objects false) F.top.0 true) (replicate F.objects false) keys (record { reached = 0; used = 0; references = 0 })
+  pub walking_start : F.top.0 < F.objects → (keys : List Bool) → IsWalkState f F 0 [] (set (replicate F.objects false) F.top.0 true) (replicate F.objects false) keys (record { reached = 0; used = record { octets = 0 }; references = 0 })
   walking_start within keys =
       let none : (m : ℕ) → is_marked (replicate F.objects false) m ≡ false = λ m. unwritten F.objects m false in
       let no1 : (m : ℕ) → IsMarked (replicate F.objects false) m → ⊥ = λ m h. false≢true (sym (none m) ∙ h) in
@@ -212,7 +212,7 @@ module _ (f : List ℕ) (F : Frame) where
         }
 
   -- ---- the end
-  module _ (frame : IsFrame f F) (reached : Reached) (all_marks : length reached.marks.items ≡ F.objects) (keys : List Bool) (w : IsWalkState f F F.objects [] reached.marks.items reached.childless.items keys reached.tally) (room : reached.tally.used + 8 ≤ F.table) where
+  module _ (frame : IsFrame f F) (reached : Reached) (all_marks : length reached.marks.items ≡ F.objects) (keys : List Bool) (w : IsWalkState f F F.objects [] reached.marks.items reached.childless.items keys reached.tally) (room : reached.tally.used.octets + 8 ≤ F.table) where
     visited_as : (m : ℕ) → IsMarked reached.marks.items m → IsMarked w.visited m
     visited_as m h = elim (w.closed m h) [
       | inl above ↦ absurd (let low = marked_within reached.marks.items m h in omega arith)
@@ -238,9 +238,9 @@ module _ (f : List ℕ) (F : Frame) where
     number_next : (n : ℕ) → number_below (is_marked reached.marks.items) (suc n) ≡ number_below (is_marked reached.marks.items) n + cond (is_marked reached.marks.items n) 1 0
     number_next n = sum_next (λ m. cond (is_marked reached.marks.items m) 1 0) n
 
-    -- one more object in their order
-    tallied_next : (n : ℕ) → n < F.objects → (before t : Tally) → before.reached ≡ number_below (is_marked reached.marks.items) n → before.used ≡ extents_below f F (is_marked reached.marks.items) n
-        → before.references ≡ references_below f F (is_marked reached.marks.items) n → t.reached ≡ number_below (is_marked reached.marks.items) (suc n) → t.used ≡ extents_below f F (is_marked reached.marks.items) (suc n)
+    -- one object more of those in their order
+    tallied_next : (n : ℕ) → n < F.objects → (before t : Tally) → before.reached ≡ number_below (is_marked reached.marks.items) n → before.used.octets ≡ extents_below f F (is_marked reached.marks.items) n
+        → before.references ≡ references_below f F (is_marked reached.marks.items) n → t.reached ≡ number_below (is_marked reached.marks.items) (suc n) → t.used.octets ≡ extents_below f F (is_marked reached.marks.items) (suc n)
         → t.references ≡ references_below f F (is_marked reached.marks.items) (suc n) → Tallied f F reached.marks.items n before → (b : Bool) → is_marked reached.marks.items n ≡ b → Tallied f F reached.marks.items (n + 1) t
     tallied_next n low before t one0 bytes0 more0 one bytes more so_far true marked =
         let v = (w.each n (visited_as n marked)).2 in
@@ -259,7 +259,7 @@ module _ (f : List ℕ) (F : Frame) where
         let one1 = rw unmarked at (one ∙ number_next n) in
         let bytes1 = rw unmarked at (bytes ∙ extents_next f F (is_marked reached.marks.items) n) in
         let more1 = rw unmarked at (more ∙ references_next f F (is_marked reached.marks.items) n) in
-        let same : t.used ≡ before.used = omega (arith, bytes1, bytes0) in
+        let same : t.used.octets ≡ before.used.octets = omega (arith, bytes1, bytes0) in
         let one2 : t.reached ≡ before.reached = omega (arith, one1, one0) in
         let more2 : t.references ≡ before.references = omega (arith, more1, more0) in
         record {
@@ -270,13 +270,13 @@ module _ (f : List ℕ) (F : Frame) where
         }
 
     -- the objects below n, in their order
-    tallied_to : (n : ℕ) → n ≤ F.objects → (t : Tally) → t.reached ≡ number_below (is_marked reached.marks.items) n → t.used ≡ extents_below f F (is_marked reached.marks.items) n
+    tallied_to : (n : ℕ) → n ≤ F.objects → (t : Tally) → t.reached ≡ number_below (is_marked reached.marks.items) n → t.used.octets ≡ extents_below f F (is_marked reached.marks.items) n
         → t.references ≡ references_below f F (is_marked reached.marks.items) n → Tallied f F reached.marks.items n t
     tallied_to zero low t one bytes more =
         let none = tallied_none f F reached.marks.items in
         record { kept = none.kept; sums = subst (Sums f F (Reach f F) 0) (sym bytes) none.sums; reached = one; references = more }
     tallied_to (suc n) low t one bytes more =
-        let before : Tally = record { reached = number_below (is_marked reached.marks.items) n; used = extents_below f F (is_marked reached.marks.items) n; references = references_below f F (is_marked reached.marks.items) n } in
+        let before : Tally = record { reached = number_below (is_marked reached.marks.items) n; used = record { octets = extents_below f F (is_marked reached.marks.items) n }; references = references_below f F (is_marked reached.marks.items) n } in
         subst (λ k. Tallied f F reached.marks.items k t) (sym (next_is n))
         (tallied_next n (omega (arith, low)) before t refl refl refl one bytes more (tallied_to n (omega (arith, low)) before refl refl refl) (is_marked reached.marks.items n) refl)
 

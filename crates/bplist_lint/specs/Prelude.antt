@@ -18,6 +18,7 @@ pub use Rattle.bplist_objects.specs.declared.fault.ObjectFault.{ObjectFault}
 pub use Rattle.bplist_objects.specs.declared.frame.Frame.{Frame}
 pub use Rattle.bplist_objects.specs.declared.head.Head.{Head}
 pub use Rattle.bplist_objects.specs.declared.kind.Kind.TheVariants.{Dict}
+pub use Rattle.bplist_objects.specs.declared.rule.Rule.TheVariants.{Overfull}
 pub use Rattle.bplist_keys.specs.Classes.{AreClassed, HasNamedKeys, IsNew, IsStamped, defect_key}
 pub use Rattle.bplist_keys.specs.Failures.{failed_to_read}
 pub use Rattle.bplist_keys.specs.Marks.{IsMarked}
@@ -30,7 +31,6 @@ pub use Rattle.bplist_cert.specs.Valid.{IsValid, IsVouchedBy}
 pub use Rattle.bplist_lint.specs.FileFault.{IsCircle, IsFileCircle, IsFileFault}
 pub use Rattle.bplist_lint.specs.Graph.{AreLeast, AreObjects, AreWhole, Ends, IsCircleOf, IsFirstWithout, IsWhole, Reaches}
 pub use Rattle.bplist_lint.specs.HeightWalks.{AreClosed, AreLeastOf, Finds, IsHeightWalk, Shows, Standing, first_state, state_at}
-pub use Rattle.bplist_lint.specs.KeyClasses.{IsWrongFault}
 pub use Rattle.bplist_lint.specs.KeyLists.{AreAbove, AreRanked, HaveRanks, IsListed, positions_in, ranks_in}
 pub use Rattle.bplist_lint.specs.LeastHeights.{AreLeastHeights, StandLeast}
 pub use Rattle.bplist_lint.specs.Linted.{HasNoHeights, IsLinted, IsLintedBy, IsLintedWithKind, KeepsRules}

@@ -43,6 +43,6 @@ module _ (f : List ℕ) (F : Frame) where
   -- the reached objects before n, which are marked, keep the rules, and this is their tally
   pub record Tallied (marks : List Bool) (n : ℕ) (tally : Tally) : Type 0 where
     pub kept : KeepReached reach_rules n
-    pub sums : Sums f F (Reach f F) n tally.used
+    pub sums : Sums f F (Reach f F) n tally.used.octets
     pub reached : tally.reached ≡ number_below (is_marked marks) n
     pub references : tally.references ≡ references_below (is_marked marks) n

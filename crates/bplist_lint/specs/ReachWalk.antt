@@ -110,7 +110,7 @@ module _ (f : List ℕ) (F : Frame) where
     pub each : (m : ℕ) → IsMarked visited m → IsMarked marks m × (m < next) × IsVisited marks keys m
     pub childless_known : AreChildless f F childless
     pub reached : tally.reached ≡ number_below (is_marked visited) F.objects
-    pub used : tally.used ≡ extents_below (is_marked visited) F.objects
+    pub used : tally.used.octets ≡ extents_below (is_marked visited) F.objects
     pub references : tally.references ≡ references_below f F (is_marked visited) F.objects
 
   -- the state of the walk between two visits, with this stack

@@ -7,12 +7,12 @@ use Rattle.bplist_lint.specs.declared.tally.Tally.{Tally}
 
 -- what is tallied has room before the table; each object and each reference takes at least a byte
 pub record IsRoomy (F : Frame) (tally : Tally) : Type 0 where
-  pub room : tally.used + 8 ≤ F.table
-  pub reached : tally.reached ≤ tally.used
-  pub references : tally.references ≤ tally.used
+  pub room : tally.used.octets + 8 ≤ F.table
+  pub reached : tally.reached ≤ tally.used.octets
+  pub references : tally.references ≤ tally.used.octets
 
 -- `now` is the tally with one more object, which is at this place and has this head
 pub record IsTalliedWith (tally : Tally) (place : ℕ) (head : Head) (now : Tally) : Type 0 where
   pub reached : now.reached ≡ tally.reached + 1
-  pub used : now.used ≡ tally.used + (head.«end» - place)
+  pub used : now.used.octets ≡ tally.used.octets + (head.«end» - place)
   pub references : now.references ≡ tally.references + ref_count head.kind head.count

@@ -4,35 +4,14 @@
 //! class, and a key without a class is not a text.
 
 ghost use Rattle.std.specs.Prelude.{◌≡◌, ◌↔◌, ℕ, ◌<◌, length};
-ghost use Rattle.bplist_lint.specs.Prelude.{OnlyReads, frame_in, HonestlyIn, IsSafeHead, Reach, KeepsAll, KeepsByObject, object_rules, HasHead, Dict, KeysAreSound, HasGoodKeys, BreaksKeys, Judges, refused_read, IsMarked, AreChildless, KeepReached, AreNamed, key_rules, AreClassed, IsStamped, IsNew, defect_key, IsWrongFault, Head as head_record, IsReachedFault, reach_rules};
+ghost use Rattle.bplist_lint.specs.Prelude.{OnlyReads, frame_in, HonestlyIn, Reach, KeepsAll, KeepsByObject, object_rules, HasHead, Dict, KeysAreSound, HasGoodKeys, BreaksKeys, Judges, refused_read, IsMarked, AreChildless, KeepReached, AreNamed, key_rules, AreClassed, IsStamped, IsNew, Head as head_record, IsReachedFault, reach_rules};
 
 use bplist_cert::Refusal;
-use bplist_keys::{ClassTable, KeyDefect, NamedKeys, Offsets, classes_of, object_shape};
-use bplist_objects::{Fault, Framed, Head, Kind, ObjectNo, Rule, ref_place};
+use bplist_keys::{ClassTable, NamedKeys, Offsets, classes_of, object_shape};
+use bplist_objects::{Framed, Kind, ObjectNo};
 use std::alloc::Global;
 
-/// Returns the fault of the keys of dictionary `n`.
-fn key_fault<P: Framed>(src: &P, n: ObjectNo, head: &Head, wrong: KeyDefect) -> Fault
-    requires head { IsSafeHead (frame_in (P.means src.now)) head.now }
-    requires dict { head.now.kind ≡ Dict }
-    requires within { defect_key wrong < head.now.count }
-    ensures { IsWrongFault (frame_in (P.means src.now)) n head.now wrong result }
-{
-    match wrong {
-        KeyDefect::NotText(i) => Fault {
-            rule: Rule::KeyKind,
-            object: Some(n),
-            place: ref_place(src, head, i),
-        },
-        KeyDefect::Repeated(i) => Fault {
-            rule: Rule::KeyTwice,
-            object: Some(n),
-            place: ref_place(src, head, i),
-        },
-    }
-}
-
-/// Checks the keys of marked object `n`, if it is a dictionary.
+/// Looks at the keys of marked object `n`, where it is a dictionary.
 fn check_dict_keys<P: Offsets>(src: &mut P, n: u32, table: &mut ClassTable) -> Result<(), Refusal>
     requires { n < (frame_in (P.means src.old)).objects }
     ensures reads { OnlyReads (refused_read result) (P.means src.old) (P.means src.new) }
@@ -49,7 +28,7 @@ fn check_dict_keys<P: Offsets>(src: &mut P, n: u32, table: &mut ClassTable) -> R
     match head.kind {
         Kind::Dict => match table.first_wrong(src, n, &head)? {
             None => Ok(()),
-            Some(wrong) => Err(Refusal::Fault(key_fault(src, ObjectNo(n), &head, wrong))),
+            Some(wrong) => Err(Refusal::Fault(wrong.fault(src, ObjectNo(n), &head))),
         },
         _ => Ok(()),
     }

@@ -91,7 +91,7 @@ fn are_good<P: Framed>(src: &mut P, head: &Head, good: &mut BitSet) -> Result<bo
     let mut number = good.next_outside(first);
     while number < end {
         let reference = ref_at(src, &frame, head, number - first)?;
-        if reference >= frame.objects as u64 {
+        if frame.object(reference).is_none() {
             return Ok(false);
         }
         good.insert(number);

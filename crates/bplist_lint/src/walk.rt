@@ -8,7 +8,7 @@ use crate::heights::unmarked;
 use crate::tally::Tally;
 use bplist_keys::{Failure, NamedKeys, Offsets};
 use bplist_objects::{
-    Framed, Head, Kind, ObjectFault, ObjectNo, Visit, check_body, read_refs_in, refs_of, visit_in,
+    Frame, Framed, Head, Kind, ObjectFault, ObjectNo, check_body, read_refs_in, refs_of, shape_in,
 };
 use bplist_octets::ReadFault;
 use std::alloc::{AllocError, AllocFailed, Global};
@@ -106,28 +106,27 @@ impl Reached {
 /// The most references that are read at once.
 const BLOCK: usize = 32;
 
-/// Marks the objects with these numbers. Puts an object on the stack if it was not marked before and the walk does not
-/// come to it later.
-fn mark_block(objects: u32, numbers: &[u64], worklist: &mut Worklist) -> Result<(), Stop>
-    requires steady { IsSteady objects worklist.old }
-    ensures steady { OnOk result (IsSteady objects worklist.new) }
+/// Marks the objects with these numbers. One that was not marked and that the walk does not come to
+/// later goes onto the stack.
+fn mark_block(frame: &Frame, numbers: &[u64], worklist: &mut Worklist) -> Result<(), Stop>
+    requires steady { IsSteady frame.now.objects worklist.old }
+    ensures steady { OnOk result (IsSteady frame.now.objects worklist.new) }
     ensures reads { stop_failed result ≡ false }
     ensures current { worklist.new.current ≡ worklist.old.current }
     ensures work { OnOk result (count_by not worklist.new.marks.items + vec_len worklist.new.stack
         ≤ count_by not worklist.old.marks.items + vec_len worklist.old.stack) }
-    ensures below { OnOk result ((k : ℕ) → k < length numbers.now → slice_index numbers.now k < objects) }
+    ensures below { OnOk result ((k : ℕ) → k < length numbers.now → slice_index numbers.now k < frame.now.objects) }
     ensures noted { OnOk result (Noted numbers.now (worklist.old.current + 1) (length numbers.now)
         worklist.old.marks.items worklist.old.stack.items worklist.new.marks.items worklist.new.stack.items) }
 {
     for number in numbers {
-        if *number >= objects as u64 {
+        let Some(m) = frame.object(*number) else {
             return Err(Stop::Trouble);
-        }
-        let m = *number as u32;
-        if !worklist.marks[m as usize] {
-            worklist.marks[m as usize] = true;
-            if m <= worklist.current {
-                worklist.stack.push(m)?;
+        };
+        if !worklist.marks[m.0 as usize] {
+            worklist.marks[m.0 as usize] = true;
+            if m.0 <= worklist.current {
+                worklist.stack.push(m.0)?;
             }
         }
     }
@@ -169,7 +168,7 @@ fn mark_body<P: Framed>(
         worklist.old.marks.items worklist.old.stack.items worklist.new.marks.items worklist.new.stack.items
         × (head.now.kind ≡ Dict → (k : ℕ) → k < head.now.count → IsMarked named.new.marks.items (ref f F head.now k)))) }
 {
-    let objects = src.frame().objects;
+    let frame = src.frame();
     let count = refs_of(head);
     let mut numbers = [0; BLOCK];
     let mut done = 0;
@@ -177,7 +176,7 @@ fn mark_body<P: Framed>(
         let now = (count - done).min(BLOCK as u64);
         let block = &mut numbers[..now as usize];
         read_refs_in(src, head, done, block)?;
-        mark_block(objects, block, worklist)?;
+        mark_block(&frame, block, worklist)?;
         named.insert_all(&block[..keys_among(head, done, block.len())]);
         done += now;
     }
@@ -200,31 +199,17 @@ fn visit<P: Offsets>(src: &mut P, n: u32, progress: &mut Progress) -> Result<(),
 {
     let frame = src.frame();
     let place = src.offset(n)?;
-    match visit_in(src, ObjectNo(n), place)? {
-        Visit::Done(end) => {
-            let Some(tally) = progress.tally.with(&frame, place, end, 0) else {
-                return Err(Stop::Trouble);
-            };
-            progress.tally = tally;
-            progress.childless[n as usize] = true;
-            Ok(())
-        }
-        Visit::Body(head) => {
-            let references = refs_of(&head);
-            let Some(tally) = progress.tally.with(&frame, place, head.end, references) else {
-                return Err(Stop::Trouble);
-            };
-            progress.tally = tally;
-            if references == 0 {
-                progress.childless[n as usize] = true;
-                check_body(src, &frame, ObjectNo(n), place, &head)?;
-                Ok(())
-            } else {
-                // A copy, so that the head of a leaf stays in registers.
-                let container = head;
-                mark_body(src, &container, &mut progress.worklist, &mut progress.named)
-            }
-        }
+    let head = shape_in(src, ObjectNo(n), place)?;
+    let Ok(tally) = progress.tally.with(&frame, ObjectNo(n), place, &head) else {
+        return Err(Stop::Trouble);
+    };
+    progress.tally = tally;
+    if refs_of(&head) == 0 {
+        progress.childless[n as usize] = true;
+        check_body(src, &frame, ObjectNo(n), place, &head)?;
+        Ok(())
+    } else {
+        mark_body(src, &head, &mut progress.worklist, &mut progress.named)
     }
 }
 

@@ -7,6 +7,7 @@ pub use Rattle.bplist_octets.specs.Windows.{borrowed}
 pub use Rattle.bplist_objects.specs.Announced.{HasHead, IsFront, IsMarker, MayCount, item_size}
 pub use Rattle.bplist_objects.specs.Answers.{Gives, Never, read_failed}
 pub use Rattle.bplist_objects.specs.CountFaults.{IsLongCountFault}
+pub use Rattle.bplist_objects.specs.Extents.{TakeOctets, Takes}
 pub use Rattle.bplist_objects.specs.File.{FileHolds}
 pub use Rattle.bplist_objects.specs.Frame.{IsFrame, Keeps, frame_rules, number_rules, off, trailer, trailer_rules}
 pub use Rattle.bplist_objects.specs.FrameRules.{Breaks, IsFrameFault}
@@ -33,4 +34,4 @@ pub use Rattle.bplist_objects.specs.declared.frame.ObjectNo.{ObjectNo}
 pub use Rattle.bplist_objects.specs.declared.head.Head.{Head}
 pub use Rattle.bplist_objects.specs.declared.kind.Kind.TheVariants.{Int, Uid}
 pub use Rattle.bplist_objects.specs.declared.rule.Rule.{Rule}
-pub use Rattle.bplist_objects.specs.declared.rule.Rule.TheVariants.{Magic, OffsetHigh}
+pub use Rattle.bplist_objects.specs.declared.rule.Rule.TheVariants.{Magic, OffsetHigh, Overfull}

@@ -7,11 +7,11 @@ use crate::fault::{ObjectFault, broken};
 use crate::frame::{Frame, ObjectNo};
 use crate::head::{Head, shape_at};
 use crate::kind::Kind;
-use crate::numbers::{Width, wide_in};
+use crate::numbers::wide_in;
 use crate::offset_table::offset_of;
-use crate::refs::refs_of;
+use crate::refs::first_high_ref;
 use crate::rule::Rule;
-use crate::scan::{first_high_in, first_not_below};
+use crate::scan::first_high_in;
 use bplist_octets::Source;
 
 /// Checks the body of object `n` at `place` by rules 18 to 20, and returns the fault of the first that is broken.
@@ -49,11 +49,10 @@ pub fn check_body<S: Source>(
         }
         Kind::Array | Kind::Set | Kind::Dict => {
             let _len = src.len();
-            let bytes = frame.ref_size;
-            let objects = frame.objects as u64;
-            match first_not_below(src, head.body, Width { bytes }, refs_of(head), objects)? {
+            let size = frame.ref_size as u64;
+            match first_high_ref(src, frame, head)? {
                 None => Ok(()),
-                Some(i) => Err(broken(Rule::RefHigh, n, head.body + i * bytes as u64)),
+                Some(i) => Err(broken(Rule::RefHigh, n, head.body + i * size)),
             }
         }
         _ => Ok(()),

@@ -24,6 +24,7 @@
 //! | head | [`Head`], what marker and count say, by rules 14 to 17: [`shape_of`], and [`shape_at`] for a known place |
 //! | body | heads by rules 14 to 20: [`head_of`], [`head_at`]; [`check_body`] |
 //! | refs | the references of a container: [`refs_of`], [`ref_at`], [`read_refs`] |
+//! | extents | [`Extents`], what objects take together, by rule 31 |
 //! | leaf | the values of leaves: [`int_of`], [`uid_of`], [`octets_at`] |
 //! | text | the units of texts: [`unit_at`], [`read_units`]; their order: [`key_cmp`] |
 //! | framed | [`Framed`], a source that has its frame, and [`Plist`], which makes one |
@@ -39,6 +40,7 @@
 
 mod body;
 mod count;
+mod extents;
 mod fault;
 mod frame;
 mod framed;
@@ -58,6 +60,7 @@ mod text;
 mod visit;
 
 pub use body::{check_body, head_at, head_of};
+pub use extents::Extents;
 pub use fault::{Fault, ObjectFault};
 pub use frame::{Frame, ObjectNo, frame_of, trailer_of};
 pub use framed::{Framed, Plist};

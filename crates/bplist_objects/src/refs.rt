@@ -1,12 +1,13 @@
-//! The references of arrays, sets and dictionaries.
+//! The references of arrays, sets and dictionaries. Rule 20: each of them is the number of an object.
 
-ghost use Rattle.std.specs.Prelude.{◌≡◌, ℕ, ◌+◌, ◌≤◌, ◌<◌, IfOk, OnOk, is_err, length, slice_index};
-ghost use Rattle.bplist_objects.specs.Prelude.{OnlyReads, Honestly, IsSafe, IsSafeHead, ref_count, nth_number, refs, content_at};
+ghost use Rattle.std.specs.Prelude.{◌≡◌, ℕ, ◌+◌, ◌≤◌, ◌<◌, IfOk, IfSome, OnOk, MatchOption, is_err, length, slice_index};
+ghost use Rattle.bplist_objects.specs.Prelude.{OnlyReads, Honestly, IsSafe, IsSafeHead, ref_count, AreBelow, IsFirstNotBelow, nth_number, refs, content_at};
 
-use crate::frame::Frame;
+use crate::frame::{Frame, ObjectNo};
 use crate::head::Head;
 use crate::kind::Kind;
 use crate::numbers::{Width, number_in, numbers_in};
+use crate::scan::first_not_below;
 use bplist_octets::{ReadFault, Source};
 
 /// Returns the number of references of an object with this head: the count of an Array or a Set, twice the count of a
@@ -23,9 +24,44 @@ pub fn refs_of(head: &Head) -> u64
     }
 }
 
-/// Returns the number that is reference `i` of an object with this head, in file order: in a Dict the keys come before
-/// the values. Over the source from which `head_of` returned the head it is the number of an object. Over another
-/// source it may be anything. An error is a failed read.
+impl Frame {
+    /// The object that a reference with this number names, if there is one.
+    #[inline(always)]
+    pub fn object(&self, number: u64) -> Option<ObjectNo>
+        ensures { MatchOption result (self.now.objects ≤ number) (λ m. (m.0 ≡ number) × (m.0 < self.now.objects)) }
+    {
+        if number >= self.objects as u64 {
+            return None;
+        }
+        Some(ObjectNo(number as u32))
+    }
+}
+
+/// The first reference of an object with this head that names no object. It finds by blocks what `Frame::object` says of one
+/// reference.
+#[inline(always)]
+pub(crate) fn first_high_ref<S: Source>(
+    src: &mut S,
+    frame: &Frame,
+    head: &Head,
+) -> Result<Option<u64>, ReadFault>
+    requires safe { IsSafe (length (S.means src.old).octets) frame.now }
+    requires head { IsSafeHead frame.now head.now }
+    ensures reads { OnlyReads (is_err result) (S.means src.old) (S.means src.new) }
+    ensures found { IfOk result (λ found. Honestly (S.means src.old) (λ f. MatchOption found
+        (AreBelow f head.now.body frame.now.ref_size (ref_count head.now.kind head.now.count) frame.now.objects)
+        (IsFirstNotBelow f head.now.body frame.now.ref_size (ref_count head.now.kind head.now.count) frame.now.objects))) }
+    ensures inside { IfOk result (λ found. IfSome found (λ i. i < ref_count head.now.kind head.now.count)) }
+{
+    let _len = src.len();
+    let bytes = frame.ref_size;
+    let objects = frame.objects as u64;
+    first_not_below(src, head.body, Width { bytes }, refs_of(head), objects)
+}
+
+/// The number of reference `i` of an object with this head, in the order in which they are written: in a
+/// Dict the keys stand before the values. Over the source that the head was read from by `head_of` it is the
+/// number of an object, over another it may be anything.
 pub fn ref_at<S: Source>(src: &mut S, frame: &Frame, head: &Head, i: u64) -> Result<u64, ReadFault>
     requires safe { IsSafe (length (S.means src.old).octets) frame.now }
     requires head { IsSafeHead frame.now head.now }

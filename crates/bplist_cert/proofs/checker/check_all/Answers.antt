@@ -18,7 +18,7 @@ loop-done-init g c =
       same = refl;
       reached = omega arith;
       keys = λ honest seen. seen;
-      running = λ honest. start m.octets (frame_in m) c.args.walk.certificate.now Quick (c.frame-objects.ensures.framed.framed honest);
+      running = λ honest. rw c.new-used.ensures (start m.octets (frame_in m) c.args.walk.certificate.now Quick (c.frame-objects.ensures.framed.framed honest));
     }
 
 pub returns-in_err-look-clause-exact : goal.returns-in_err-look-clause-exact
@@ -63,7 +63,7 @@ loop-done-preserved g c =
       running = λ honest.
           let places = (rw v.same at c.in_ok-read_offsets_in.ensures.offsets) honest in
           let exact = (rw (c.in_ok-read_offsets_in.ensures.reads, v.same) at c.in_ok-used.ensures.exact) honest in
-          subst (λ k. AreCheckedBelow m.octets (frame_in m) c.args.walk.certificate.now Quick (c.loop-done.done + k) c.in_ok-used.used) all
+          subst (λ k. AreCheckedBelow m.octets (frame_in m) c.args.walk.certificate.now Quick (c.loop-done.done + k) c.in_ok-used.used.octets) all
           (exact places (v.running honest));
     }
 
@@ -72,6 +72,6 @@ returns-clause-exact g c = λ honest seen.
     let m = g.P.Source.means c.args.src.now in
     let objects : c.frame-objects.result.objects ≡ (frame_in m).objects = ap (λ (x : Frame). x.objects) c.frame-objects.ensures.frame in
     let e : c.loop-done.done ≡ (frame_in m).objects = omega (arith, objects, c.loop-done.invariant.reached, c.loop-done-test.false) in (
-      subst (λ k. AreCheckedBelow m.octets (frame_in m) c.args.walk.certificate.now Quick k c.loop-done.used) e (c.loop-done.invariant.running honest),
+      subst (λ k. AreCheckedBelow m.octets (frame_in m) c.args.walk.certificate.now Quick k c.loop-done.used.octets) e (c.loop-done.invariant.running honest),
       subst (λ k. AreSeen m.octets (frame_in m) c.args.walk.certificate.now k c.loop-done.found) e (c.loop-done.invariant.keys honest seen),
     )

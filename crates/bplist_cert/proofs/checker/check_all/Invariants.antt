@@ -13,7 +13,7 @@ invariant-loop-done g l =
       same : means l.src ≡ means l.fn.src;
       reached : l.done ≤ (frame_in (means l.fn.src)).objects;
       keys : HonestlyIn (means l.fn.src) (λ f F. AreSeen f F l.walk.certificate.now 0 l.fn.found → AreSeen f F l.walk.certificate.now l.done l.found);
-      running : HonestlyIn (means l.fn.src) (λ f F. AreCheckedBelow f F l.walk.certificate.now Quick l.done l.used);
+      running : HonestlyIn (means l.fn.src) (λ f F. AreCheckedBelow f F l.walk.certificate.now Quick l.done l.used.octets);
     }
 
 abbrev pub decreases-loop-done : goal.decreases-loop-done

@@ -16,7 +16,7 @@ loop-i-init g c =
       same = refl;
       running = λ honest places run.
           let e : c.args.from ≡ c.args.from + 0 = omega arith in
-          subst (λ k. AreCheckedBelow m.octets (frame_in m) c.args.walk.certificate.now Quick k c.args.used) e run;
+          subst (λ k. AreCheckedBelow m.octets (frame_in m) c.args.walk.certificate.now Quick k c.args.used.octets) e run;
     }
 
 pub loop-i-preserved : goal.loop-i-preserved
@@ -34,15 +34,15 @@ loop-i-preserved g c =
             let exact = rw c.loop-i.invariant.same at w.in_ok-used.ensures.exact in
             let v : IsVouchedBy heights (c.args.from + c.loop-i.i) = omega (arith, height, w.if-heights-n-gt0) in
             let before = c.loop-i.invariant.running honest places run in
-            subst (λ k. AreCheckedBelow m.octets (frame_in m) c.args.walk.certificate.now Quick k w.in_ok-used.used) e
-            (held_more m.octets (frame_in m) heights keys (c.args.from + c.loop-i.i) Quick c.loop-i.used before w.in_ok-used.used
+            subst (λ k. AreCheckedBelow m.octets (frame_in m) c.args.walk.certificate.now Quick k w.in_ok-used.used.octets) e
+            (held_more m.octets (frame_in m) heights keys (c.args.from + c.loop-i.i) Quick c.loop-i.used.octets before w.in_ok-used.used.octets
             (exact honest (places c.loop-i.i c.loop-i-test.true) v before.sums));
       }
       | else-heights-n-gt0 w ↦ rw (w.src-is, w.used-is) record {
         same = c.loop-i.invariant.same;
         running = λ honest places run.
-            subst (λ k. AreCheckedBelow m.octets (frame_in m) c.args.walk.certificate.now Quick k c.loop-i.used) e
-            (passed m.octets (frame_in m) heights keys (c.args.from + c.loop-i.i) Quick (omega (arith, height, w.if-heights-n-gt0)) c.loop-i.used (c.loop-i.invariant.running honest places run));
+            subst (λ k. AreCheckedBelow m.octets (frame_in m) c.args.walk.certificate.now Quick k c.loop-i.used.octets) e
+            (passed m.octets (frame_in m) heights keys (c.args.from + c.loop-i.i) Quick (omega (arith, height, w.if-heights-n-gt0)) c.loop-i.used.octets (c.loop-i.invariant.running honest places run));
       }
     ]
 
@@ -57,12 +57,12 @@ returns-in_err-used-clause-exact g c = λ honest places run.
     let before = c.loop-i.invariant.running honest places run in
     let p = err_from_is_err_and c.from_residual.result c.from_residual.ensures.1 in
     rw (p.1, p.2) (given_weaker _ _ c.in_err-used.field-0.0
-    (λ fault h. fault_met m.octets (frame_in m) heights keys (c.args.from + c.loop-i.i) v c.args.walk.look c.loop-i.used before fault h)
+    (λ fault h. fault_met m.octets (frame_in m) heights keys (c.args.from + c.loop-i.i) v c.args.walk.look c.loop-i.used.octets before fault h)
     (exact honest (places c.loop-i.i c.loop-i-test.true) v before.sums))
 
 pub returns-clause-exact : goal.returns-clause-exact
 returns-clause-exact g c = λ honest places run.
     let m = g.P.Source.means c.args.src.now in
     let e : c.args.from + c.loop-i.i ≡ c.args.from + length c.args.places.now = omega (arith, c.loop-i-test.false, c.loop-i.auto.i-end) in
-    subst (λ k. AreCheckedBelow m.octets (frame_in m) c.args.walk.certificate.now Quick k c.loop-i.used) e
+    subst (λ k. AreCheckedBelow m.octets (frame_in m) c.args.walk.certificate.now Quick k c.loop-i.used.octets) e
     (c.loop-i.invariant.running honest places run)

@@ -12,6 +12,6 @@ invariant-loop-i g l =
     record {
       same : means l.src ≡ means l.fn.src;
       running : HonestlyIn (means l.fn.src) (λ f F. ArePlaces f F l.from l.places
-          → AreCheckedBelow f F l.walk.certificate.now Quick l.from l.fn.used
-          → AreCheckedBelow f F l.walk.certificate.now Quick (l.from + l.i) l.used);
+          → AreCheckedBelow f F l.walk.certificate.now Quick l.from l.fn.used.octets
+          → AreCheckedBelow f F l.walk.certificate.now Quick (l.from + l.i) l.used.octets);
     }

@@ -52,7 +52,7 @@ returns-in-Ok-clause-exact g c = λ honest.
     let run = c.in-Ok.ensures.exact honest ((rw same at c.in_ok-found.ensures.none) honest heights) in
     let shown = c.deref-heights.ensures.value ∙ ap (λ (x : Lists). x.heights) c.cert.view_is in
     let keyed = rw (c.in-Ok.ensures.reads, c.frame-objects.ensures.frame, same, shown) at c.in_ok-check-in-Ok.ensures.exact in
-    all_good f F heights keys c.in-Ok.used run.0 (keyed honest run.0.kept run.1)
+    all_good f F heights keys c.in-Ok.used.octets run.0 (keyed honest run.0.kept run.1)
 
 pub returns-in-Err-Fault-clause-exact : goal.returns-in-Err-Fault-clause-exact
 returns-in-Err-Fault-clause-exact g c = λ honest.

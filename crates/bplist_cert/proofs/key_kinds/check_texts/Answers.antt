@@ -13,7 +13,7 @@ returns-in-Some-clause-exact g c = λ honest low.
     let before = v.texts honest low in
     let first = ((rw (c.in_ok-read_ahead.ensures.reads, v.same, c.in-Some.is) at c.in_ok-i.ensures.exact) honest before.0 placed).1 in
     let there = keyless_there m.octets (frame_in m) c.args.dict.now.head c.loop-done.done c.read_ahead.new.refs refs before.1 (omega (arith, long, c.min-now.ensures, c.loop-done-test.true)) c.in-Some.i first in
-    let fault = rw (c.in_ok-i.ensures.reads, c.in_ok-read_ahead.ensures.reads, v.same) at c.keyless.ensures in
+    let fault = rw (c.in_ok-i.ensures.reads, c.in_ok-read_ahead.ensures.reads, v.same) at c.fault.ensures in
     (fault.0, fault.1, (c.loop-done.done + c.in-Some.i, there, fault.2))
 
 pub loop-done-preserved : goal.loop-done-preserved

@@ -7,18 +7,23 @@ use Rattle.bplist_objects.specs.declared.kind.Kind.TheVariants.{Dict}
 use Rattle.std.proofs.lemmas.Result.{err_from_is_err_and}
 use Rattle.bplist_cert.proofs.TextObjects.{shape_kept}
 use Rattle.bplist_cert.proofs.CheckSteps.{given_weaker}
+use Rattle.bplist_cert.proofs.KeyRepeats.{none_there}
 use Rattle.bplist_cert.specs.CheckRules.{HasOrder}
 use Rattle.bplist_cert.specs.KeyPairs.{HaveTextShapes}
 use Rattle.bplist_cert.proofs.key_lists.is_listed.Goals as goal
 
-pub returns-in_ok-has_good_list-in-Dict-clause-exact : goal.returns-in_ok-has_good_list-in-Dict-clause-exact
-returns-in_ok-has_good_list-in-Dict-clause-exact g c = λ honest known at kept.
+pub returns-in_ok-order_fault-in-Dict-clause-exact : goal.returns-in_ok-order_fault-in-Dict-clause-exact
+returns-in_ok-order_fault-in-Dict-clause-exact g c = λ honest known at kept.
     let f = (g.P.Source.means c.args.src.now).octets in
     let F : Frame = frame_in (g.P.Source.means c.args.src.now) in
     let here = c.in_ok-head.head in
     let has_here = (c.in_ok-head.ensures.rules honest at).0 in
-    let found = (rw c.in_ok-head.ensures.reads at c.in_ok-has_good_list-in-Dict.ensures.exact) honest known in
-    (found.0, λ good head has dict. subst (λ (h : Head). HaveTextShapes f F h × HasOrder f F c.args.keys.now c.args.n h) (HasHead-unique f F c.args.n here head has_here has) (found.1 good))
+    let found = (rw c.in_ok-head.ensures.reads at c.in_ok-order_fault-in-Dict.ensures.exact) honest known in (
+      found.0,
+      λ good head has dict.
+          subst (λ (h : Head). HaveTextShapes f F h × HasOrder f F c.args.keys.now c.args.n h) (HasHead-unique f F c.args.n here head has_here has)
+          (none_there _ _ c.in_ok-order_fault-in-Dict.field-0 c.is_none.result c.is_none.ensures good found.1),
+    )
 
 pub returns-in_err-head-clause-exact : goal.returns-in_err-head-clause-exact
 returns-in_err-head-clause-exact g c = λ honest known at kept.

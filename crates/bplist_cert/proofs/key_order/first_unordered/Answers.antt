@@ -1,55 +1,68 @@
-use Rattle.std.proofs.Common.{◌∙◌, arith}
+use Rattle.std.proofs.Common.{◌≡◌, ◌∙◌, subst, arith}
 use Rattle.bplist_objects.specs.declared.frame.Frame.{Frame}
 use Rattle.bplist_objects.specs.Framed.{frame_in}
-use Rattle.bplist_cert.proofs.OrderedLists.{in_order, out_of_order, order_more}
+use Rattle.bplist_cert.proofs.KeyPairs.{AscendTo, ascend_more, shapes_all, in_order_to, follows_in_order}
 use Rattle.bplist_cert.proofs.key_order.first_unordered.Goals as goal
 
-pub returns-then-position-dict-clause-exact : goal.returns-then-position-dict-clause-exact
-returns-then-position-dict-clause-exact g c = λ honest runs texts.
-    let before = c.loop-j.invariant.ordered honest runs texts in (
-      before.0,
-      (
+pub returns-in_default-clause-exact : goal.returns-in_default-clause-exact
+returns-in_default-clause-exact g c = λ honest pairs.
+    let f = (g.P.Source.means c.args.src.now).octets in
+    let F : Frame = frame_in (g.P.Source.means c.args.src.now) in
+    let v = c.loop-j.invariant in
+    let high = (rw (c.in_default.is, v.same) at c.in_ok-m.ensures.exact) honest (c.in_ok-read_few.ensures.few honest) in (
+      v.pairs honest pairs,
+      λ texts. (
         omega (arith, c.loop-j-test.true, c.requires.whole),
-        before.1,
-        λ more. let low = (more c.loop-j.j (omega arith)).0 in omega (arith, low, c.if-position-dict.true),
+        in_order_to f F c.args.dict.now.head c.args.list.now c.loop-j.j (v.ascend honest pairs),
+        λ more.
+            let low = (more c.loop-j.j (omega arith)).0 in
+            let text = texts _ low in
+            let inside = text.1.within in
+            omega (arith, high low, inside),
       ),
     )
 
-pub returns-in_default-clause-exact : goal.returns-in_default-clause-exact
-returns-in_default-clause-exact g c = λ honest runs texts.
-    absurd ((rw (c.loop-j.invariant.same, c.in_default.is) at c.in_ok-key.ensures.exact) honest texts)
-
-pub returns-then-not-branch-clause-exact : goal.returns-then-not-branch-clause-exact
-returns-then-not-branch-clause-exact g c = λ honest runs texts.
+pub returns-in_default-2-clause-exact : goal.returns-in_default-2-clause-exact
+returns-in_default-2-clause-exact g c = λ honest pairs.
     let f = (g.P.Source.means c.args.src.now).octets in
     let F : Frame = frame_in (g.P.Source.means c.args.src.now) in
-    let key = (rw (c.loop-j.invariant.same, c.in-Some.is) at c.in_ok-key.ensures.exact) honest texts in
-    let before = c.loop-j.invariant.ordered honest runs texts in
-    let after = (rw (c.in_ok-key.ensures.reads, c.loop-j.invariant.same) at c.in_ok-comes_after.ensures.value) honest before.0 in (
-      (rw (c.in_ok-key.ensures.reads, c.loop-j.invariant.same) at c.in_ok-comes_after.ensures.runs) honest before.0,
-      (
+    let v = c.loop-j.invariant in
+    let is = (rw (c.in-Some.is, v.same) at c.in_ok-m.ensures.exact) honest (c.in_ok-read_few.ensures.few honest) in
+    let here = (rw (c.in_default-2.is, c.in_ok-m.ensures.reads, v.same) at c.in_ok-key.ensures.exact) honest (v.pairs honest pairs) (v.read honest pairs) in (
+      here.0,
+      λ texts. (
         omega (arith, c.loop-j-test.true, c.requires.whole),
-        before.1,
-        λ more. out_of_order f F c.args.dict.now.head c.args.list.now c.loop-j.j c.loop-j.before (c.loop-j.invariant.last honest texts) c.in-Some.key key c.in_ok-comes_after.field-0 after c.if-not-branch.true
-            (more c.loop-j.j (omega arith)),
+        in_order_to f F c.args.dict.now.head c.args.list.now c.loop-j.j (v.ascend honest pairs),
+        λ more. here.1 (follows_in_order f F c.args.dict.now.head c.args.list.now c.loop-j.j c.loop-j.before c.in-Some.m (v.ascend honest pairs) texts is (v.last honest) more),
       ),
     )
 
 pub loop-j-preserved : goal.loop-j-preserved
-loop-j-preserved g c = record {
-  same = c.in_ok-comes_after.ensures.reads ∙ c.in_ok-key.ensures.reads ∙ c.loop-j.invariant.same;
-  ordered = λ honest runs texts.
-      let f = (g.P.Source.means c.args.src.now).octets in
-      let F : Frame = frame_in (g.P.Source.means c.args.src.now) in
-      let key = (rw (c.loop-j.invariant.same, c.in-Some.is) at c.in_ok-key.ensures.exact) honest texts in
-      let before = c.loop-j.invariant.ordered honest runs texts in
-      let after = (rw (c.in_ok-key.ensures.reads, c.loop-j.invariant.same) at c.in_ok-comes_after.ensures.value) honest before.0 in (
-        (rw (c.in_ok-key.ensures.reads, c.loop-j.invariant.same) at c.in_ok-comes_after.ensures.runs) honest before.0,
-        order_more f F c.args.dict.now.head c.args.list.now c.loop-j.j before.1
-            (in_order f F c.args.dict.now.head c.args.list.now c.loop-j.j c.loop-j.before (c.loop-j.invariant.last honest texts) c.in-Some.key key (omega (arith, c.if-position-dict.false)) c.in_ok-comes_after.field-0 after c.if-not-branch.false),
-      );
-  last = λ honest texts.
-      let key = (rw (c.loop-j.invariant.same, c.in-Some.is) at c.in_ok-key.ensures.exact) honest texts in
-      (c.loop-j.j, omega arith, key);
-  safe = (rw (c.loop-j.invariant.same, c.in-Some.is) at c.in_ok-key.ensures.safe);
-}
+loop-j-preserved g c =
+    let f = (g.P.Source.means c.args.src.now).octets in
+    let F : Frame = frame_in (g.P.Source.means c.args.src.now) in
+    let v = c.loop-j.invariant in
+    let inside = rw (c.in-Some.is, v.same) at c.in_ok-m.ensures.inside in
+    let key = rw c.in-Some-2.is at c.in_ok-key.ensures.key in
+    let few = c.in_ok-read_few.ensures.few in
+    let is = rw (c.in-Some.is, v.same) at c.in_ok-m.ensures.exact in
+    let exact = rw (c.in-Some-2.is, c.in_ok-m.ensures.reads, v.same) at c.in_ok-key.ensures.exact in
+    record {
+      same = c.in_ok-key.ensures.reads ∙ c.in_ok-m.ensures.reads ∙ v.same;
+      inside = rw (c.in_ok-m.ensures.reads, v.same) at key.1;
+      pairs = λ honest pairs. (exact honest (v.pairs honest pairs) (v.read honest pairs)).0;
+      ascend = λ honest pairs.
+          ascend_more f F c.args.dict.now.head c.args.list.now c.loop-j.j c.loop-j.before c.in-Some.m (v.ascend honest pairs) inside.0 (is honest (few honest)) (v.last honest)
+          (exact honest (v.pairs honest pairs) (v.read honest pairs)).1.1;
+      read = λ honest pairs. (exact honest (v.pairs honest pairs) (v.read honest pairs)).1.0;
+      last = λ honest. (c.loop-j.j, omega arith, key.0 ∙ is honest (few honest));
+    }
+
+pub returns-clause-exact : goal.returns-clause-exact
+returns-clause-exact g c = λ honest pairs.
+    let f = (g.P.Source.means c.args.src.now).octets in
+    let F : Frame = frame_in (g.P.Source.means c.args.src.now) in
+    let v = c.loop-j.invariant in
+    let e : c.loop-j.j ≡ c.args.dict.now.head.count = omega (arith, c.requires.whole, c.loop-j-test.false, c.loop-j.auto.j-end) in
+    let so = subst (AscendTo f F c.args.dict.now.head c.args.list.now) e (v.ascend honest pairs) in
+    (v.pairs honest pairs, (shapes_all f F c.args.dict.now.head c.args.list.now so, in_order_to f F c.args.dict.now.head c.args.list.now c.args.dict.now.head.count so))

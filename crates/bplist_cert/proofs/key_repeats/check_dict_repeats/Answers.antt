@@ -5,7 +5,7 @@ use Rattle.bplist_objects.specs.Framed.{frame_in}
 use Rattle.bplist_cert.specs.Looks.{KeepBeforeKeysBelow}
 use Rattle.bplist_cert.proofs.TextObjects.{shape_kept}
 use Rattle.bplist_cert.proofs.CheckSteps.{object_refused}
-use Rattle.bplist_cert.proofs.KeyRepeats.{none_there, keys_inside, seen_own, sound_keys, good_at, classed_texts, apart_differ, again_twice, texts_classed}
+use Rattle.bplist_cert.proofs.KeyRepeats.{none_there, keys_inside, seen_own, sound_keys, good_at, classed_texts, apart_differ, twice_fault}
 use Rattle.bplist_cert.proofs.key_repeats.check_dict_repeats.Goals as goal
 
 pub returns-in_err-head-clause-exact : goal.returns-in_err-head-clause-exact
@@ -49,29 +49,16 @@ returns-in-None-clause-exact g c = λ honest low vouched seen classed stamps lea
     let texts = (rw (c.in_ok-found.ensures.reads, c.in_ok-head.ensures.reads) at c.in_ok-check_texts.ensures.exact) honest learnt in
     (texts.0, good_at f F None c.args.n head has (λ _. (texts.1, apart_differ f F head _ (classed head has c.in-Dict.is) head.count (omega arith) found.1)))
 
-pub returns-in-Some-NotText-clause-exact : goal.returns-in-Some-NotText-clause-exact
-returns-in-Some-NotText-clause-exact g c = λ honest low vouched seen classed stamps learnt.
+pub returns-in-Some-clause-exact : goal.returns-in-Some-clause-exact
+returns-in-Some-clause-exact g c = λ honest low vouched seen classed stamps learnt.
     let f = (g.P.Source.means c.args.src.now).octets in
     let F : Frame = frame_in (g.P.Source.means c.args.src.now) in
     let head = c.in_ok-head.head in
     let has = (c.in_ok-head.ensures.rules honest).0 in
-    let which = rw c.in-Some-NotText.is at c.in-Some-NotText.field-0-is in
-    let found = (rw (c.in-Some-NotText.is, which, c.in_ok-head.ensures.reads) at c.in_ok-found.ensures.exact) honest stamps in
+    let found = (rw (c.in-Some.is, c.in_ok-head.ensures.reads) at c.in_ok-found.ensures.exact) honest stamps in
     let texts = (rw (c.in_ok-found.ensures.reads, c.in_ok-head.ensures.reads) at c.in_ok-check_texts.ensures.exact) honest learnt in
-    absurd (found.2 (texts_classed f F head _ (classed head has c.in-Dict.is) (suc c.in-Some-NotText.i) (omega (arith, found.0)) (λ k l. texts.1 k (omega (arith, l, found.0)))))
-
-pub returns-in-Some-Repeated-clause-exact : goal.returns-in-Some-Repeated-clause-exact
-returns-in-Some-Repeated-clause-exact g c = λ honest low vouched seen classed stamps learnt.
-    let f = (g.P.Source.means c.args.src.now).octets in
-    let F : Frame = frame_in (g.P.Source.means c.args.src.now) in
-    let head = c.in_ok-head.head in
-    let has = (c.in_ok-head.ensures.rules honest).0 in
-    let which = rw c.in-Some-Repeated.is at c.in-Some-Repeated.field-0-is in
-    let found = (rw (c.in-Some-Repeated.is, which, c.in_ok-head.ensures.reads) at c.in_ok-found.ensures.exact) honest stamps in
-    let texts = (rw (c.in_ok-found.ensures.reads, c.in_ok-head.ensures.reads) at c.in_ok-check_texts.ensures.exact) honest learnt in
-    let twice = again_twice f F head _ (classed head has c.in-Dict.is) texts.1 c.in-Some-Repeated.i found.1 in
-    let place = rw (c.in_ok-check_texts.ensures.reads, c.in_ok-found.ensures.reads, c.in_ok-head.ensures.reads) at c.ref_place.ensures in
-    (head, has, (c.in-Dict.is, inr (texts.1, (refl, refl, (c.in-Some-Repeated.i, twice, place)))))
+    let told = rw (c.in_ok-check_texts.ensures.reads, c.in_ok-found.ensures.reads, c.in_ok-head.ensures.reads) at c.fault.ensures in
+    (head, has, (c.in-Dict.is, inr (texts.1, twice_fault f F head _ (classed head has c.in-Dict.is) texts.1 (record { 0 = c.args.n }) c.in-Some.wrong c.fault.result found told)))
 
 pub returns-in_default : goal.returns-in_default
 returns-in_default g c = record {

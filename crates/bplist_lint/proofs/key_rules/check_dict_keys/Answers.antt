@@ -40,7 +40,7 @@ returns-in-Some-clause-exact g c = λ honest kept keys low.
     let known = keys head has c.in-Dict.is in
     let inside = keys_inside f F n kept head has c.in-Dict.is in
     let wrong = (rw (c.in_ok-head.ensures.reads, c.in-Some.is) at c.in_ok-first_wrong-in-Dict.ensures.exact) honest low in
-    wrong_fault f F framed head classes known.0 known.1 inside (record { 0 = n }) has c.in-Dict.is c.in-Some.wrong c.key_fault.result wrong (rw (c.in_ok-first_wrong-in-Dict.ensures.reads, c.in_ok-head.ensures.reads) at c.key_fault.ensures)
+    wrong_fault f F framed head classes known.0 known.1 inside (record { 0 = n }) has c.in-Dict.is c.in-Some.wrong c.fault.result wrong (rw (c.in_ok-first_wrong-in-Dict.ensures.reads, c.in_ok-head.ensures.reads) at c.fault.ensures)
 
 pub returns-in_default : goal.returns-in_default
 returns-in_default g c = record {

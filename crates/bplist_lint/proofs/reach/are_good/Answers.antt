@@ -6,7 +6,7 @@ use Rattle.bplist_objects.specs.Safe.{ref_count}
 use Rattle.bplist_objects.specs.Scan.{nth_number}
 use Rattle.bplist_objects.proofs.BodyLaws.{refs_fit}
 use Rattle.bplist_lint.specs.ReachSearch.{place_index, reference_at}
-use Rattle.bplist_lint.proofs.ReachSteps.{size_small, numbers_low, reference_at_k, all_good}
+use Rattle.bplist_lint.proofs.ReachSteps.{size_small, numbers_low, reference_at_k, all_good, some_there}
 use Rattle.bplist_lint.proofs.reach.are_good.Goals as goal
 
 pub refs_of-requires : goal.refs_of-requires
@@ -70,7 +70,7 @@ loop-number-preserved g c =
         | inl old ↦ i.good honest known m old
         | inr e ↦
             let value = (rw (c.frame-frame.ensures.frame, i.reads) at c.in_ok-reference.ensures.value) honest in
-            let low_j : reference_at f F j < F.objects = (let high = rw c.frame-frame.ensures.frame at c.if-reference-frame.false in omega (arith, at_j, value, high)) in
+            let low_j : reference_at f F j < F.objects = (let low = rw c.frame-frame.ensures.frame at (some_there _ _ c.object.result c.is_none.result c.is_none.ensures c.if-is_none.false c.object.ensures) in omega (arith, at_j, value, low.1.0, low.1.1)) in
             rw e low_j
       ];
       known = λ m low high. rw same (elim (cases_lt m j) [

@@ -14,7 +14,7 @@ pub refs_of-count-requires : goal.refs_of-count-requires
 refs_of-count-requires g c =
     let h = c.args.head.now in
     let F : Frame = frame_in (g.P.Source.means c.args.src.now) in
-    let fit = refs_fit F.ref_size h.count h.kind c.frame-objects.ensures.framed.safe.safe.ref_low in
+    let fit = refs_fit F.ref_size h.count h.kind c.frame-frame.ensures.framed.safe.safe.ref_low in
     omega (arith, fit.1, c.requires.head.body)
 
 pub loop-done-preserved : goal.loop-done-preserved
@@ -26,7 +26,7 @@ loop-done-preserved g c =
     let done = c.loop-done.done in
     let now = c.min-now.result in
     let marked = c.in_ok-mark_block.ensures in
-    let below_block = rw c.frame-objects.ensures.frame at marked.below in
+    let below_block = rw c.frame-frame.ensures.frame at marked.below in
     let block = c.read_refs_in.new.into in
     let long : length block ≡ now = grind (arith, common_steps) in
     let most : done + now ≤ c.refs_of-count.result = omega (arith, c.min-now.ensures) in
@@ -34,7 +34,7 @@ loop-done-preserved g c =
       reads = c.in_ok-read_refs_in.ensures.reads ∙ i.reads;
       few = most;
       room = grind (arith, common_steps);
-      steady = rw c.frame-objects.ensures.frame at marked.steady;
+      steady = rw c.frame-frame.ensures.frame at marked.steady;
       current = marked.current ∙ i.current;
       work = omega (arith, marked.work, i.work);
       all_named = c.insert_all.ensures.all ∙ i.all_named;

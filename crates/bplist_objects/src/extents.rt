@@ -1,0 +1,52 @@
+//! Rule 31: what objects take in a file together.
+
+ghost use Rattle.std.specs.Prelude.{◌≡◌, ℕ, ◌+◌, ◌-◌, ◌≤◌, ◌<◌, List, ◌∷◌, IfOk, MatchResult, Some};
+ghost use Rattle.bplist_objects.specs.Prelude.{Overfull, TakeOctets, Takes};
+
+use crate::fault::Fault;
+use crate::frame::{Frame, ObjectNo};
+use crate::rule::Rule;
+
+/// The bytes that objects take together, each from its marker to its end.
+#[derive(Clone, Copy, Debug, PartialEq, Eq, Drop)]
+pub struct Extents {
+    /// How many bytes these are. An object that lies in another one counts by itself.
+    pub octets: u64,
+}
+
+impl Extents {
+    /// No object takes a byte.
+    pub fn new() -> Extents
+        ensures { result ≡ record { octets = 0 } }
+    {
+        Extents { octets: 0 }
+    }
+
+    /// These bytes and those of object `n`, which goes from `place` to `end`. If all of them are more than lie between header
+    /// and offset table, the object breaks rule 31.
+    #[inline(always)]
+    pub fn with(self, frame: &Frame, n: ObjectNo, place: u64, end: u64) -> Result<Extents, Fault>
+        requires table { 8 ≤ frame.now.table }
+        requires extent { place ≤ «end» }
+        ensures room { MatchResult result
+            (λ now. (now.octets ≡ self.octets + («end» - place)) × (now.octets + 8 ≤ frame.now.table))
+            (λ fault. (fault.rule ≡ Overfull) × (fault.object ≡ Some n) × (fault.place ≡ place)
+            × (frame.now.table < self.octets + («end» - place) + 8)) }
+        ensures sum { (f ns : List ℕ) → TakeOctets f frame.now ns self.octets → Takes f frame.now n.0 («end» - place)
+            → IfOk result (λ now. TakeOctets f frame.now (n.0 ∷ ns) now.octets) }
+    {
+        let _places = (frame.table, frame.objects);
+        let extent = end - place;
+        let room = frame.table - 8;
+        if self.octets > room || extent > room - self.octets {
+            return Err(Fault {
+                rule: Rule::Overfull,
+                object: Some(n),
+                place,
+            });
+        }
+        Ok(Extents {
+            octets: self.octets + extent,
+        })
+    }
+}
