@@ -102,7 +102,7 @@ module _ (f : List ℕ) (F : Frame) where
           ap₂ compare_units (sym first) (sym second) ∙ less,
     )
 
-    -- where the keys are texts and number j is in order too, its key comes after the one before
+    -- if the keys are texts and number j is in order too, its key comes after the one before
     pub follows_in_order : (j : ℕ) (before : Option ReadKey) (m : ℕ) → AscendTo j → KeysAreTexts f F head head.count → m ≡ ref f F head (slice_index list j) → IsLast j before → AreInOrder f F head list (suc j)
         → Follows f F before m
     follows_in_order j None m so texts is last more =

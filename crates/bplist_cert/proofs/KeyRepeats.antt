@@ -1,4 +1,4 @@
--- What the classes of the keys of a vouched dictionary say of them.
+-- What the classes of the keys of a vouched dictionary say about the keys.
 use Rattle.std.proofs.Common.{Bool, not, IsTrue, Option, Some, None, MatchOption, is_some, Result, Ok, Err, ◌≡◌, ℕ, ◌*◌, ◌<◌, ◌≤◌, List, suc, [], ◌∷◌, slice_index, count_by, sym, ap, ◌∙◌, subst, inr, arith}
 use Rattle.std.proofs.lemmas.Bool.{false≢true}
 use Rattle.bplist_objects.specs.declared.rule.Rule.{Rule}
@@ -140,7 +140,7 @@ module _ (f : List ℕ) (F : Frame) where
       pub again_twice : (j : ℕ) → FailsAt (AreApart (ref f F head) classes) head.count j → IsFirstTwice f F head j
       again_twice = fails_too (AreApart (ref f F head) classes) (KeysDiffer f F head) head.count apart_differ differ_apart
 
-      -- what is wrong with keys that are texts is that one comes twice
+      -- if keys that are texts are wrong, then because one comes twice
       pub twice_fault : (n : ObjectNo) (wrong : KeyDefect) (fault : Fault) → IsKeyDefect (ref f F head) classes head.count wrong → IsWrongFault F n head wrong fault → IsTwiceFault f F n.0 head fault
       twice_fault n (defects.NotText i) fault is told = absurd (is.2 (texts_classed (suc i) (omega (arith, is.0)) (λ k l. texts k (omega (arith, l, is.0)))))
       twice_fault n (defects.Repeated j) fault is told = (told.0, told.1, (j, again_twice j is.1, told.2))

@@ -35,9 +35,9 @@ struct Walk<'a> {
     look: Look,
 }
 
-/// Looks at object `n`, which is vouched for and stands at `place`, by the rules before those of keys, where the vouched
-/// objects before it take `used` bytes, and answers how many they take with it. A quick look reads no byte twice: at
-/// references it looks by rules 20, 28 and 29 at once, since objects alone have heights.
+/// Checks vouched object `n` at `place` by the rules before those of keys. The vouched objects before it take `used`
+/// bytes; returns how many they take with it. A quick check reads no byte twice: it decides rules 20, 28 and 29
+/// together, because only an object has a height.
 fn check_object<P: Framed>(
     src: &mut P,
     walk: Walk,
@@ -111,8 +111,8 @@ fn check_block<P: Framed>(
     Ok(used)
 }
 
-/// Looks at all vouched objects, in the order of their numbers, and at the keys of the dictionaries among them: block by block,
-/// as places and objects are at hand then. How many bytes they take.
+/// Checks all vouched objects in the order of their numbers. Returns how many bytes they take. The keys of each block
+/// are looked at right after it, while its places and objects are at hand.
 fn check_all<P: Offsets>(
     src: &mut P,
     walk: Walk,
@@ -183,8 +183,8 @@ fn object_of(fault: &Fault) -> u32
     }
 }
 
-/// Looks at all vouched objects, and then at the keys of the dictionaries among them, up to the first object that breaks a
-/// rule before those of keys. How many bytes they take.
+/// Checks all vouched objects, then the keys of the dictionaries among them, up to the first object that breaks a rule
+/// before those of keys. Returns how many bytes the objects take.
 fn check_objects<P: Offsets>(
     alloc: Global,
     src: &mut P,

@@ -35,8 +35,8 @@ impl ListLook {
     }
 }
 
-/// Looks at the keys of vouched object `n` and at its key list, where it is a dictionary. Where all vouched objects were seen, keys
-/// that are texts by marker and count are texts.
+/// Checks the keys of vouched object `n` and its key list, if it is a dictionary. If all vouched objects were seen, a key
+/// that is a text by marker and count is a text.
 fn check_dict_order<P: Offsets>(
     src: &mut P,
     seen: &VouchedPrefix,

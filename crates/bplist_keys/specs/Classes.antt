@@ -75,7 +75,7 @@ module _ (key : ℕ → ℕ) (classes : List ℕ) where
 abbrev pub defect_key : KeyDefect → ℕ
 defect_key defect = elim defect [ defects.NotText i ↦ i | defects.Repeated j ↦ j ]
 
--- the fault of the keys of dictionary n, where this is wrong with them
+-- the fault of the keys of dictionary n, if this is wrong with them
 abbrev pub IsWrongFault : Frame → ObjectNo → Head → KeyDefect → Fault → Type 0
 IsWrongFault F n head (defects.NotText i) fault =
     (fault.rule ≡ rules.KeyKind) × (fault.object ≡ Some n) × (fault.place ≡ head.body + i * F.ref_size)

@@ -36,7 +36,7 @@ pub enum KeyDefect {
 impl KeyDefect {
     ghost use Rattle.bplist_keys.specs.Classes.{defect_key, IsWrongFault};
 
-    /// The fault of dictionary `n`, which has this head, by rule 21 or 22.
+    /// Returns the fault of dictionary `n`, which has this head, by rule 21 or 22.
     pub fn fault<P: Framed>(self, src: &P, n: ObjectNo, head: &Head) -> Fault
         requires head { IsSafeHead (frame_in (P.means src.now)) head.now }
         requires dict { head.now.kind ≡ Dict }
@@ -58,7 +58,7 @@ impl KeyDefect {
     }
 }
 
-/// The classes of keys, and for each the dictionary that it was seen in last: its number and 1, or 0 for none.
+/// The classes of keys, and for each class the last dictionary that has it: its number plus 1, or 0 for none.
 #[derive(Drop)]
 pub struct ClassTable {
     pub classes: Ranks,

@@ -45,7 +45,7 @@ number_low F place some within =
     let below : place / F.ref_size < row_length F = omega (arith, low) in
     mul-add-lt (place % F.ref_size) (row_length F) (place / F.ref_size) F.ref_size (mod-lt place some) below
 
--- what was found, where it is not said that there is none
+-- what was found, if something was
 pub some_there : {X : Type 0} (A : Type 0) (B : X → Type 0) (found : Option X) (none : Bool) → is_some found ≡ not none → none ≡ false → MatchOption found A B → (x : X) × B x
 some_there A B (Some x) none e some h = (x, h)
 some_there A B None none e some h = absurd (false≢true (e ∙ ap not some))

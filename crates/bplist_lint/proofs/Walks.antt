@@ -238,7 +238,7 @@ module _ (f : List ℕ) (F : Frame) where
     number_next : (n : ℕ) → number_below (is_marked reached.marks.items) (suc n) ≡ number_below (is_marked reached.marks.items) n + cond (is_marked reached.marks.items n) 1 0
     number_next n = sum_next (λ m. cond (is_marked reached.marks.items m) 1 0) n
 
-    -- one object more of those in their order
+    -- one more object in their order
     tallied_next : (n : ℕ) → n < F.objects → (before t : Tally) → before.reached ≡ number_below (is_marked reached.marks.items) n → before.used.octets ≡ extents_below f F (is_marked reached.marks.items) n
         → before.references ≡ references_below f F (is_marked reached.marks.items) n → t.reached ≡ number_below (is_marked reached.marks.items) (suc n) → t.used.octets ≡ extents_below f F (is_marked reached.marks.items) (suc n)
         → t.references ≡ references_below f F (is_marked reached.marks.items) (suc n) → Tallied f F reached.marks.items n before → (b : Bool) → is_marked reached.marks.items n ≡ b → Tallied f F reached.marks.items (n + 1) t

@@ -1,4 +1,4 @@
--- What the classes of keys say of a file whose objects are marked. Source: profile.
+-- What the classes of keys say about a file whose objects are marked. Source: profile.
 use Rattle.std.specs.Prelude.{ℕ, Bool, List}
 use Rattle.bplist_objects.specs.declared.frame.Frame.{Frame}
 use Rattle.bplist_objects.specs.Frame.{IsFrame}

@@ -11,7 +11,7 @@ use bplist_keys::{ClassTable, NamedKeys, Offsets, classes_of, object_shape};
 use bplist_objects::{Framed, Kind, ObjectNo};
 use std::alloc::Global;
 
-/// Looks at the keys of marked object `n`, where it is a dictionary.
+/// Checks the keys of marked object `n`, if it is a dictionary.
 fn check_dict_keys<P: Offsets>(src: &mut P, n: u32, table: &mut ClassTable) -> Result<(), Refusal>
     requires { n < (frame_in (P.means src.old)).objects }
     ensures reads { OnlyReads (refused_read result) (P.means src.old) (P.means src.new) }

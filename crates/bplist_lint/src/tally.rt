@@ -12,7 +12,7 @@ pub struct Tally {
     pub reached: u64,
     /// The bytes that they take.
     pub used: Extents,
-    /// How many references they have.
+    /// The number of their references.
     pub references: u64,
 }
 

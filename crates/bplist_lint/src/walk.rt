@@ -106,8 +106,8 @@ impl Reached {
 /// The most references that are read at once.
 const BLOCK: usize = 32;
 
-/// Marks the objects with these numbers. One that was not marked and that the walk does not come to
-/// later goes onto the stack.
+/// Marks the objects with these numbers. Puts an object on the stack if it was not marked before and the walk does not
+/// come to it later.
 fn mark_block(frame: &Frame, numbers: &[u64], worklist: &mut Worklist) -> Result<(), Stop>
     requires steady { IsSteady frame.now.objects worklist.old }
     ensures steady { OnOk result (IsSteady frame.now.objects worklist.new) }

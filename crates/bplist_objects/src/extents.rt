@@ -1,4 +1,4 @@
-//! Rule 31: what objects take in a file together.
+//! Adds up the bytes that objects take together: rule 31.
 
 ghost use Rattle.std.specs.Prelude.{◌≡◌, ℕ, ◌+◌, ◌-◌, ◌≤◌, ◌<◌, List, ◌∷◌, IfOk, MatchResult, Some};
 ghost use Rattle.bplist_objects.specs.Prelude.{Overfull, TakeOctets, Takes};
@@ -7,23 +7,23 @@ use crate::fault::Fault;
 use crate::frame::{Frame, ObjectNo};
 use crate::rule::Rule;
 
-/// The bytes that objects take together, each from its marker to its end.
+/// The bytes that objects take together, each from its marker to its end. An object inside another one counts by itself.
 #[derive(Clone, Copy, Debug, PartialEq, Eq, Drop)]
 pub struct Extents {
-    /// How many bytes these are. An object that lies in another one counts by itself.
+    /// The number of bytes.
     pub octets: u64,
 }
 
 impl Extents {
-    /// No object takes a byte.
+    /// Returns the extents of no objects.
     pub fn new() -> Extents
         ensures { result ≡ record { octets = 0 } }
     {
         Extents { octets: 0 }
     }
 
-    /// These bytes and those of object `n`, which goes from `place` to `end`. If all of them are more than lie between header
-    /// and offset table, the object breaks rule 31.
+    /// Adds the bytes of object `n`, from `place` to `end`. If they are then more than there are between header and offset
+    /// table, the object breaks rule 31, and this is the fault.
     #[inline(always)]
     pub fn with(self, frame: &Frame, n: ObjectNo, place: u64, end: u64) -> Result<Extents, Fault>
         requires table { 8 ≤ frame.now.table }

@@ -1,4 +1,4 @@
-//! The references of arrays, sets and dictionaries. Rule 20: each of them is the number of an object.
+//! The references of arrays, sets and dictionaries, each of which is the number of an object: rule 20.
 
 ghost use Rattle.std.specs.Prelude.{◌≡◌, ℕ, ◌+◌, ◌≤◌, ◌<◌, IfOk, IfSome, OnOk, MatchOption, is_err, length, slice_index};
 ghost use Rattle.bplist_objects.specs.Prelude.{OnlyReads, Honestly, IsSafe, IsSafeHead, ref_count, AreBelow, IsFirstNotBelow, nth_number, refs, content_at};
@@ -25,7 +25,7 @@ pub fn refs_of(head: &Head) -> u64
 }
 
 impl Frame {
-    /// The object that a reference with this number names, if there is one.
+    /// Returns the object with this number, if there is one: rule 20 asks this of each reference.
     #[inline(always)]
     pub fn object(&self, number: u64) -> Option<ObjectNo>
         ensures { MatchOption result (self.now.objects ≤ number) (λ m. (m.0 ≡ number) × (m.0 < self.now.objects)) }
@@ -37,8 +37,8 @@ impl Frame {
     }
 }
 
-/// The first reference of an object with this head that names no object. It finds by blocks what `Frame::object` says of one
-/// reference.
+/// Returns the index of the first reference of an object with this head that is not the number of an object. It decides
+/// for all references, block by block, what `Frame::object` decides for one.
 #[inline(always)]
 pub(crate) fn first_high_ref<S: Source>(
     src: &mut S,
@@ -59,9 +59,9 @@ pub(crate) fn first_high_ref<S: Source>(
     first_not_below(src, head.body, Width { bytes }, refs_of(head), objects)
 }
 
-/// The number of reference `i` of an object with this head, in the order in which they are written: in a
-/// Dict the keys stand before the values. Over the source that the head was read from by `head_of` it is the
-/// number of an object, over another it may be anything.
+/// Returns the number that is reference `i` of an object with this head, in file order: in a Dict the keys come before
+/// the values. Over the source from which `head_of` returned the head it is the number of an object. Over another
+/// source it may be anything. An error is a failed read.
 pub fn ref_at<S: Source>(src: &mut S, frame: &Frame, head: &Head, i: u64) -> Result<u64, ReadFault>
     requires safe { IsSafe (length (S.means src.old).octets) frame.now }
     requires head { IsSafeHead frame.now head.now }
