@@ -5,7 +5,7 @@ ghost use Rattle.bplist_lint.specs.Prelude.{OnlyReads, frame_in, HonestlyIn, Rea
 
 use crate::tally::Tally;
 use bplist_keys::Offsets;
-use bplist_objects::{ObjectFault, ObjectNo, head_in};
+use bplist_objects::{ObjectFault, ObjectNo, head_in, refs_of};
 
 /// Checks reached object `n`, and adds it to the tally.
 fn check_reached_object<P: Offsets>(src: &mut P, n: u32, tally: Tally) -> Result<Tally, ObjectFault>
@@ -19,7 +19,7 @@ fn check_reached_object<P: Offsets>(src: &mut P, n: u32, tally: Tally) -> Result
     let frame = src.frame();
     let place = src.offset(n)?;
     let head = head_in(src, ObjectNo(n), place)?;
-    Ok(tally.with(&frame, ObjectNo(n), place, &head)?)
+    Ok(tally.with(&frame, ObjectNo(n), place, head.end, refs_of(&head))?)
 }
 
 /// Checks each marked object, in the order of their numbers. Exactly the reached objects must be marked.

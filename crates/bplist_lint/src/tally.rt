@@ -1,9 +1,9 @@
 //! Counts the reached objects, their bytes and their references.
 
 ghost use Rattle.std.specs.Prelude.{◌≡◌, ◌+◌, ◌-◌, ◌≤◌, ◌<◌, IfOk, MatchResult, Some};
-ghost use Rattle.bplist_lint.specs.Prelude.{IsSafeHead, ref_count, Overfull, IsRoomy};
+ghost use Rattle.bplist_lint.specs.Prelude.{Overfull, IsRoomy};
 
-use bplist_objects::{Extents, Fault, Frame, Head, ObjectNo, refs_of};
+use bplist_objects::{Extents, Fault, Frame, ObjectNo};
 
 /// Sums over the reached objects seen so far.
 #[derive(Clone, Copy, Debug, PartialEq, Eq, Drop)]
@@ -28,26 +28,33 @@ impl Tally {
         }
     }
 
-    /// The tally with object `n` more, which stands at `place` and has this head, or the fault of rule 31.
+    /// Returns the tally with one more object: object `n`, from `place` to `end`, with this number of references. Returns the
+    /// fault of rule 31 if there is no room for it.
     #[inline(always)]
-    pub fn with(self, frame: &Frame, n: ObjectNo, place: u64, head: &Head) -> Result<Tally, Fault>
-        requires low { 1 ≤ frame.now.ref_size }
-        requires head { IsSafeHead frame.now head.now }
-        requires behind { place < head.now.body }
+    pub fn with(
+        self,
+        frame: &Frame,
+        n: ObjectNo,
+        place: u64,
+        end: u64,
+        references: u64,
+    ) -> Result<Tally, Fault>
+        requires extent { place + references < «end» }
+        requires inside { «end» ≤ frame.now.table }
         requires roomy { IsRoomy frame.now self }
         ensures used { MatchResult result
-            (λ now. now.used.octets ≡ self.used.octets + (head.now.«end» - place))
+            (λ now. now.used.octets ≡ self.used.octets + («end» - place))
             (λ fault. (fault.rule ≡ Overfull) × (fault.object ≡ Some n) × (fault.place ≡ place)
-            × (frame.now.table < self.used.octets + (head.now.«end» - place) + 8)) }
+            × (frame.now.table < self.used.octets + («end» - place) + 8)) }
         ensures reached { IfOk result (λ now. now.reached ≡ self.reached + 1) }
-        ensures references { IfOk result (λ now. now.references ≡ self.references + ref_count head.now.kind head.now.count) }
+        ensures references { IfOk result (λ now. now.references ≡ self.references + references) }
         ensures roomy { IfOk result (IsRoomy frame.now) }
     {
-        let used = self.used.with(frame, n, place, head.end)?;
+        let used = self.used.with(frame, n, place, end)?;
         Ok(Tally {
             reached: self.reached + 1,
             used,
-            references: self.references + refs_of(head),
+            references: self.references + references,
         })
     }
 }

@@ -8,7 +8,8 @@ use crate::heights::unmarked;
 use crate::tally::Tally;
 use bplist_keys::{Failure, NamedKeys, Offsets};
 use bplist_objects::{
-    Frame, Framed, Head, Kind, ObjectFault, ObjectNo, check_body, read_refs_in, refs_of, shape_in,
+    Frame, Framed, Head, Kind, ObjectFault, ObjectNo, Visit, check_body, read_refs_in, refs_of,
+    visit_in,
 };
 use bplist_octets::ReadFault;
 use std::alloc::{AllocError, AllocFailed, Global};
@@ -199,17 +200,34 @@ fn visit<P: Offsets>(src: &mut P, n: u32, progress: &mut Progress) -> Result<(),
 {
     let frame = src.frame();
     let place = src.offset(n)?;
-    let head = shape_in(src, ObjectNo(n), place)?;
-    let Ok(tally) = progress.tally.with(&frame, ObjectNo(n), place, &head) else {
-        return Err(Stop::Trouble);
-    };
-    progress.tally = tally;
-    if refs_of(&head) == 0 {
-        progress.childless[n as usize] = true;
-        check_body(src, &frame, ObjectNo(n), place, &head)?;
-        Ok(())
-    } else {
-        mark_body(src, &head, &mut progress.worklist, &mut progress.named)
+    match visit_in(src, ObjectNo(n), place)? {
+        Visit::Done(end) => {
+            let Ok(tally) = progress.tally.with(&frame, ObjectNo(n), place, end, 0) else {
+                return Err(Stop::Trouble);
+            };
+            progress.tally = tally;
+            progress.childless[n as usize] = true;
+            Ok(())
+        }
+        Visit::Body(head) => {
+            let references = refs_of(&head);
+            let Ok(tally) = progress
+                .tally
+                .with(&frame, ObjectNo(n), place, head.end, references)
+            else {
+                return Err(Stop::Trouble);
+            };
+            progress.tally = tally;
+            if references == 0 {
+                progress.childless[n as usize] = true;
+                check_body(src, &frame, ObjectNo(n), place, &head)?;
+                Ok(())
+            } else {
+                // A copy, so that the head of a leaf stays in registers.
+                let container = head;
+                mark_body(src, &container, &mut progress.worklist, &mut progress.named)
+            }
+        }
     }
 }
 

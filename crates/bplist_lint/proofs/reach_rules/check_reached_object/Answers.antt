@@ -31,4 +31,4 @@ returns-clause-exact g c = λ honest marks marked reached t.
     let is = c.in_ok-place.ensures.value honest in
     let h = (rw c.in_ok-place.ensures.reads at c.in_ok-head.ensures.rules) honest is in
     let with = c.in_ok-with.ensures in
-    tallied_more _ F framed c.args.n c.requires.within reached marks c.args.tally t c.in_ok-head.head h.0 h.1 marked (let room = rw c.frame-frame.ensures.frame at with.roomy in omega (arith, is, room.room, with.used)) _ with.reached (omega (arith, is, with.used)) with.references
+    tallied_more _ F framed c.args.n c.requires.within reached marks c.args.tally t c.in_ok-head.head h.0 h.1 marked (let room = rw c.frame-frame.ensures.frame at with.roomy in omega (arith, is, room.room, with.used)) _ with.reached (omega (arith, is, with.used)) (omega (arith, with.references, c.refs_of.ensures))
