@@ -7,7 +7,7 @@
 ##   make dist           archive, Debian packages, wheel and SHA256SUMS, into dist/
 ##   make install        program, manual page, completions, C library, header and bplist.pc, below PREFIX
 ##   make uninstall      removes all of it; give it the same words as install
-##   make check          for every day: proves what changed, and tries it by the quick scripts, in some minutes
+##   make check          for every day: proves what changed, builds it and runs the quick tests; three minutes and the proofs
 ##   make gate           runs every test, as .ci/run does, before a push; `make test` is the same
 ##   make edits          tries every must-fail edit, also those that the gate leaves out
 ##   make bench          times program and library
