@@ -27,6 +27,6 @@ Puts old new before after bytes result =
 abbrev pub SendsAll : Option (List ℕ) → Option (List ℕ) → List ℕ → Result (Unit {0}) RunFault → Type 0
 SendsAll old new bytes result = MatchResult result (λ _. Appends old new bytes) (Fails old new begun bytes)
 
--- no pair of surrogates stands round this place
+-- this place is not inside a pair of surrogates
 abbrev pub IsCut : List ℕ → ℕ → Type 0
 IsCut units place = (is_high_surrogate (slice_index units (place - 1)) && is_low_surrogate (slice_index units place)) ≡ false

@@ -30,7 +30,7 @@ read_weaker P Q (Ok x) on h = on x h
 read_weaker P Q (Err e) on h = h
 
 -- ---- sums along references
--- a block is added, and what is behind it is left
+-- a block is added, and what comes after it is left
 pub block_counted : (counts : List ℕ) (total more whole : ℕ) (xs block : List ℕ) (from n : ℕ) → block ≡ part xs from n
     → more ≡ cap (total + sum_by (slice_index counts) block) → cap (total + sum_by (slice_index counts) (drop from xs)) ≡ whole
     → cap (more + sum_by (slice_index counts) (drop (from + n) xs)) ≡ whole

@@ -9,7 +9,7 @@ use bplist_objects::ObjectNo;
 use bplist_octets::Source;
 use std::alloc::Global;
 
-/// The objects that are higher than this, by number.
+/// Returns the objects that are higher than this, by number.
 fn higher_than<S: Source>(
     alloc: Global,
     checked: &Checked<S>,
@@ -29,9 +29,8 @@ fn higher_than<S: Source>(
     Ok(order)
 }
 
-/// The objects that are higher than this, in the order of their heights.
-///
-/// An object of height 0 is not vouched for, and one of height 1 has no references.
+/// Returns the objects that are higher than this, in the order of their heights. An object of height 0 is not vouched
+/// for, and one of height 1 has no references.
 pub(crate) fn in_order<S: Source>(
     alloc: Global,
     checked: &Checked<S>,

@@ -1,4 +1,4 @@
-//! How many nodes the value of an object has, by the containers alone.
+//! Counts the nodes of a value by its containers alone. No leaf is read.
 
 ghost use Rattle.std.specs.Prelude.{◌≡◌, ℕ, ◌+◌, ◌<◌, List, length, slice_index, sum_by, Err};
 ghost use Rattle.std.specs.List.{AllByRecursion};
@@ -14,10 +14,10 @@ use bplist_objects::{Head, ObjectNo, read_refs_in, refs_of};
 use bplist_octets::Source;
 use std::alloc::Global;
 
-/// How many references are read at once at most.
+/// The most references that are read at once.
 const BLOCK: usize = 128;
 
-/// What the table says of an object, 0 outside.
+/// Returns the table's count for an object, or 0 for an object outside the table.
 fn count_at(counts: &[u64], n: u64) -> u64
     ensures { result ≡ slice_index counts.now n }
 {
@@ -28,7 +28,7 @@ fn count_at(counts: &[u64], n: u64) -> u64
     }
 }
 
-/// The total with the counts of these objects added, or 18446744073709551615 where it is greater.
+/// Adds the counts of these objects to the total. Returns 18446744073709551615 if the sum is greater.
 fn add_counts(counts: &[u64], objects: &[u64], start: u64) -> u64
     ensures { result ≡ cap (start + sum_by (slice_index counts.now) objects.now) }
 {
@@ -39,7 +39,7 @@ fn add_counts(counts: &[u64], objects: &[u64], start: u64) -> u64
     total
 }
 
-/// One and the counts of the objects that the references of this head name.
+/// Returns 1 plus the counts of the objects to which this head refers.
 fn count_refs<S: Source>(
     checked: &mut Checked<S>,
     head: &Head,
@@ -65,7 +65,7 @@ fn count_refs<S: Source>(
     Ok(total)
 }
 
-/// How many nodes the value of an object has, where the table has the counts of its references.
+/// Returns the number of nodes of an object's value, if the table has the counts of its references.
 fn count_object<S: Source>(
     checked: &mut Checked<S>,
     n: ObjectNo,
@@ -81,8 +81,8 @@ fn count_object<S: Source>(
     count_refs(checked, &head, counts)
 }
 
-/// Gives the table the counts of these objects, one after the other. The order is one in which each comes after those to
-/// which it refers, but for objects of height 1.
+/// Writes the counts of these objects into the table, one after the other. Each object must come after those to which it
+/// refers; objects of height 1 have their count from the start.
 fn count_in_order<S: Source>(
     checked: &mut Checked<S>,
     order: &[u32],
@@ -101,7 +101,7 @@ fn count_in_order<S: Source>(
     Ok(())
 }
 
-/// The counts of all objects that the certificate vouches for.
+/// Returns the counts of all vouched objects.
 fn count_all<S: Source>(alloc: Global, checked: &mut Checked<S>) -> Result<Vec<u64>, CursorFault>
     ensures reads { OnlyReadsFile (cursor_read result) checked.old checked.new }
     ensures exact { HonestlyChecked checked.old (λ f F. GivesCursor (λ counts. (n : ℕ)
@@ -114,13 +114,13 @@ fn count_all<S: Source>(alloc: Global, checked: &mut Checked<S>) -> Result<Vec<u
     Ok(counts)
 }
 
-/// How many nodes the tree of a node's value has, or 18446744073709551615 where there are more.
+/// Returns the number of nodes of a node's value, or 18446744073709551615 if there are more.
 ///
-/// No leaf is read, since one of height 1 counts as it is: each other object is looked at once, after those to which it
-/// refers, so that shared objects cost no more than others. The call takes memory by the number of objects.
+/// An object of height 1 counts as one node and is not read. Each other object is read once, after those to which it
+/// refers, so a shared object costs no more than another one. Memory is taken by the number of objects.
 ///
-/// `Changed`: the certificate does not vouch for the object, or the source gives other bytes than those that were checked.
-/// `Read`: a read of the source failed. `Memory`: a growth was refused.
+/// Errors: `Changed` if the certificate does not vouch for the object, or if the source gives other bytes than those that
+/// were checked; `Read` if a read of the source failed; `Memory` if an allocation was refused.
 pub fn count_nodes<S: Source>(
     alloc: Global,
     checked: &mut Checked<S>,
