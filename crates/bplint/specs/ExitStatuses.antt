@@ -6,8 +6,8 @@ use Rattle.bplint.specs.declared.args.Shown.{Shown}
 use Rattle.bplint.specs.declared.args.Shown.TheVariants.{Map, Members, Text, Tree, Values}
 use Rattle.bplint_lines.specs.declared.fault.RunFault.{RunFault}
 use Rattle.bplint_lines.specs.declared.raw_fault.RawFault.{RawFault}
-use Rattle.bplint_lines.specs.declared.said.Said.{Said}
-use Rattle.bplint_lines.specs.declared.said.Said.TheVariants.{All, SomeMissing}
+use Rattle.bplint_lines.specs.declared.fault.Said.{Said}
+use Rattle.bplint_lines.specs.declared.fault.Said.TheVariants.{All, SomeMissing}
 use Rattle.bplint_lines.specs.Answers.{Leaves, LeavesSomeBy}
 use Rattle.bplint_lines.specs.RawFaults.{raw_report_of}
 use Rattle.bplint_engine.specs.Get.{LinesSay, found_line}

@@ -1,7 +1,8 @@
 //! Reads the command line with `clap`.
+
 ghost use Rattle.std.specs.Prelude.{◌≡◌, IfOk, length};
 ghost use Rattle.bplint_engine.specs.Commands.{PrintsOnePath};
-ghost use Rattle.bplint_engine.specs.declared.command.Verb.TheVariants as verbs;
+ghost use Rattle.bplint_engine.specs.declared.run.Verb.TheVariants as verbs;
 
 use crate::subcommands::bplint;
 use bplint_engine::{Command, Verb};

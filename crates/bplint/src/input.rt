@@ -1,7 +1,10 @@
 //! Opens the inputs FILE and CERT. Each is read by place, or as a whole.
-ghost use Rattle.std.specs.Prelude.{◌≡◌, ◌⊎◌, ◌≤◌, ◌<◌, [], IfErr, IfOk, IfSome, MatchOption, MatchResult, None, Ok, codes, length, true, vec_len};
+
+ghost use Rattle.std.specs.Prelude.{◌≡◌, ◌⊎◌, ◌≤◌, ◌<◌, [], IfErr, IfOk, IfSome, MatchOption, MatchResult, None, Ok};
+ghost use Rattle.std.specs.Prelude.{codes, length, true, vec_len};
 ghost use Rattle.std.specs.Str.{bytes_eq};
-ghost use Rattle.bplint.specs.Inputs.{IsInputFault, IsNothing, IsReadFault, HasLength, IsReadWhole, IsShort, IsWholeFault, KeepsWhole, OfWhole, starts_with_bplist};
+ghost use Rattle.bplint.specs.Inputs.{IsInputFault, IsNothing, IsReadFault, HasLength, IsReadWhole, IsShort};
+ghost use Rattle.bplint.specs.Inputs.{IsWholeFault, KeepsWhole, OfWhole, starts_with_bplist};
 ghost use Rattle.bplint_engine.specs.Check.{IsDecoded};
 ghost use Rattle.bplint_engine.specs.Hexadecimal.{spelled};
 

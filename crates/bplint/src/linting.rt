@@ -1,14 +1,12 @@
 //! The command `lint` for one FILE, for several, or for all files below a folder.
-ghost use Rattle.std.specs.Prelude.{◌≤◌};
+
+ghost use Rattle.std.specs.Prelude.{◌≤◌, ◌≡◌, max};
 
 use crate::args::{Job, Lint, Operands, Request};
-use crate::endings::end;
-use crate::file_names::{shown_name, shown_octets};
-use crate::folders::{Entry, entry_at, is_folder, paths_in};
+use crate::folders::{Entry, entry_at, is_folder, paths_in, shown_name, shown_octets};
 use crate::input::{Inputs, open_inputs};
-use crate::output::{LineOut, NoOut};
+use crate::output::{LineOut, NoOut, end};
 use crate::runs::{Ending, answer};
-use crate::tally::Tally;
 use crate::unread::Unread;
 use bplint_engine::{Command, Verb};
 use bplint_lines::RunFault;
@@ -209,4 +207,77 @@ impl<'a, R: Files<File = File> + Input + Print + Eprint> Linter<'a, R> {
 fn unnamed_prefix(alloc: Global, path: &[u8]) -> Result<String, AllocError> {
     let shown = shown_octets(alloc, path)?;
     format!(in alloc; "{shown}: ")
+}
+
+//@@ tally: Counts the files of a `lint` run, and keeps the greatest exit status.
+
+/// The counts so far.
+#[derive(Drop)]
+pub struct Tally {
+    /// The number of files that hold a value.
+    sound: u64,
+    /// The number of files that break a rule.
+    unsound: u64,
+    /// The number of files and folders that could not be read.
+    unreadable: u64,
+    /// The number of entries of folders that were skipped: those that are no files, and files of another format.
+    passed: u64,
+    /// The greatest exit status.
+    status: u8,
+    ghost is_status: { status ≤ 4 },
+}
+
+impl Tally {
+    pub fn new() -> Tally
+        ensures { result.status ≡ 0 }
+    {
+        Tally {
+            sound: 0,
+            unsound: 0,
+            unreadable: 0,
+            passed: 0,
+            status: 0,
+        }
+    }
+
+    /// Returns the greatest exit status so far.
+    pub fn status(&self) -> u8
+        ensures { result ≡ self.now.status }
+    {
+        self.status
+    }
+
+    /// Counts a file whose run ended with this status.
+    pub fn count(&mut self, status: u8)
+        requires { status ≤ 4 }
+        ensures { self.new.status ≡ max self.old.status status }
+    {
+        match status {
+            0 => self.sound = self.sound.saturating_add(1),
+            1 => self.unsound = self.unsound.saturating_add(1),
+            _ => self.unreadable = self.unreadable.saturating_add(1),
+        }
+        self.status = self.status.max(status);
+    }
+
+    /// Counts a file that is skipped.
+    pub fn pass_over(&mut self)
+        ensures { self.new.status ≡ self.old.status }
+    {
+        self.passed = self.passed.saturating_add(1);
+    }
+
+    /// Returns the line with all counts.
+    pub fn line(&self, alloc: Global) -> Result<String, AllocError> {
+        let (sound, unsound, unreadable, passed) = (
+            self.sound,
+            self.unsound,
+            self.unreadable,
+            self.passed,
+        );
+        let looked_at = sound.saturating_add(unsound).saturating_add(unreadable);
+        format!(in alloc;
+            "files looked at {looked_at}, sound {sound}, not sound {unsound}, unreadable {unreadable}, passed over {passed}"
+        )
+    }
 }

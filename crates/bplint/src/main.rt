@@ -26,15 +26,12 @@ ghost use Rattle.std.specs.Prelude.{◌≤◌};
 
 mod args;
 mod arguments;
-mod endings;
-mod file_names;
 mod folders;
 mod input;
 mod linting;
 mod output;
 mod runs;
 mod subcommands;
-mod tally;
 mod unread;
 
 use args::Line;

@@ -1,4 +1,5 @@
 //! Answers one request about one FILE.
+
 ghost use Rattle.std.specs.Prelude.{◌≡◌, Err, IsTrue, MatchResult, Ok};
 ghost use Rattle.bplint.specs.ExitStatuses.{LeavesShown};
 
@@ -8,7 +9,7 @@ use crate::output::OutFile;
 use bplint_engine::{list_all_on, list_on, run_certified, show_on, show_raw_on, show_text_on};
 use bplint_lines::{RawFault, RunFault, Said, explain};
 use bplint_map::map_on;
-use bplist_octets::{Pane, SliceSource, Source, Window, Windows};
+use bplist_octets::{Pane, Panes, SliceSource, Source, Window};
 use std::alloc::Global;
 use std::fs::{File, Files};
 use std::io::Write;
@@ -81,7 +82,7 @@ fn try_answer<W: Write>(
         Operand::File(file) => {
             let mut file = Window::new(file);
             let mut panes = vec![in alloc; Pane::EMPTY; PANES].map_err(|_| RunFault::Memory)?;
-            let src = Windows::new(&mut file, &mut panes);
+            let src = Panes::new(&mut file, &mut panes);
             answer_on(alloc, request, src, cert, out)
         }
     }

@@ -1,5 +1,6 @@
 //! Inputs that could not be read, and why.
-use crate::file_names::shown_name;
+
+use crate::folders::shown_name;
 use crate::runs::Ending;
 use bplint_lines::{RawFault, RunFault};
 use bplist_octets::ReadFault;

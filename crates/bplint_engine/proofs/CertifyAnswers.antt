@@ -1,7 +1,7 @@
 -- What `certify` says, derived from the contract of the linter.
 use Rattle.std.proofs.Common.{ℕ, List, Bool, true}
-use Rattle.bplist_lint.specs.declared.refusal.LintRefusal.{LintRefusal}
-use Rattle.bplist_lint.specs.declared.refusal.LintRefusal.TheVariants as lint_refusals
+use Rattle.bplist_lint.specs.declared.answer.LintRefusal.{LintRefusal}
+use Rattle.bplist_lint.specs.declared.answer.LintRefusal.TheVariants as lint_refusals
 use Rattle.bplist_lint.specs.FileFault.{IsFileFault, IsFileCircle}
 use Rattle.bplist_lint.proofs.Passes.{Refuses}
 use Rattle.bplint_engine.specs.Output.{IsRefusal}

@@ -6,13 +6,13 @@ use Rattle.bplist_cert.specs.Encoding.{octets_of, IsCertRefusal}
 use Rattle.bplist_cert.specs.Lists.{Lists, IsCertificate}
 use Rattle.bplist_cert.specs.declared.certificate.CertRefusal.{CertRefusal}
 use Rattle.bplint_lines.specs.declared.fault.RunFault.{RunFault}
-use Rattle.bplint_lines.specs.declared.said.Said.{Said}
+use Rattle.bplint_lines.specs.declared.fault.Said.{Said}
 use Rattle.bplint_lines.specs.Answers.{Answer, Leaves}
 use Rattle.bplint_engine.specs.Check.{IsDecoded}
 use Rattle.bplint_engine.specs.Commands.{Asked}
 use Rattle.bplint_engine.specs.Said.{Says, most, takes_cert}
-use Rattle.bplint_engine.specs.declared.command.Verb.{Verb}
-use Rattle.bplint_engine.specs.declared.command.Verb.TheVariants.{Lint, Check, Get, Certify, Print}
+use Rattle.bplint_engine.specs.declared.run.Verb.{Verb}
+use Rattle.bplint_engine.specs.declared.run.Verb.TheVariants.{Lint, Check, Get, Certify, Print}
 use Rattle.bplint_engine.proofs.LeftBytes.{said_as}
 
 -- what decoding returns

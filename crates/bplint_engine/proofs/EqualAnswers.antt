@@ -7,7 +7,7 @@ use Rattle.std.proofs.lemmas.Slice.Eq.{bytes_eq-Decides}
 use Rattle.bplist_objects.specs.declared.frame.ObjectNo.{ObjectNo}
 use Rattle.bplist_cursor.proofs.Escapes.{not_empty}
 use Rattle.bplist_lint.specs.Trail.{number}
-use Rattle.bplint_lines.specs.declared.said.Said.{Said}
+use Rattle.bplint_lines.specs.declared.fault.Said.{Said}
 use Rattle.bplint_lines.specs.Answers.{gives}
 
 pub same_gives : (s t : Said) (xs ys : List ℕ) → s ≡ t → xs ≡ ys → gives s xs ≡ gives t ys

@@ -8,11 +8,11 @@ use Rattle.std.specs.List.{AllZip, flat_map, list_any}
 use Rattle.bplist_objects.specs.declared.frame.Frame.{Frame}
 use Rattle.bplist_objects.specs.Value.{Value}
 use Rattle.bplist_objects.specs.Holds.{Holds}
-use Rattle.bplist_cursor.specs.declared.found.Why.{Why}
-use Rattle.bplist_cursor.specs.declared.reply.Query.{Query}
-use Rattle.bplist_cursor.specs.declared.reply.Query.TheVariants.{Get}
-use Rattle.bplist_cursor.specs.declared.reply.Reply.{Reply}
-use Rattle.bplist_cursor.specs.declared.reply.Reply.TheVariants.{Face, Missing}
+use Rattle.bplist_cursor.specs.declared.node.Why.{Why}
+use Rattle.bplist_cursor.specs.declared.answers.Query.{Query}
+use Rattle.bplist_cursor.specs.declared.answers.Query.TheVariants.{Get}
+use Rattle.bplist_cursor.specs.declared.answers.Reply.{Reply}
+use Rattle.bplist_cursor.specs.declared.answers.Reply.TheVariants.{Face, Missing}
 use Rattle.bplist_cursor.specs.Answered.{IsAnswered, RefusesBy}
 use Rattle.bplist_cursor.specs.declared.certified_answers.AnswerFault.{AnswerFault}
 use Rattle.bplist_cert.specs.Encoding.{octets_of}
@@ -28,8 +28,8 @@ use Rattle.bplint_engine.specs.declared.output.Output.{Output}
 use Rattle.bplint_lines.specs.Answers.{Answer, gives}
 use Rattle.bplint_engine.specs.Output.{Answers, IsRefusal}
 use Rattle.bplint_lines.specs.Faults.{Gives, IsExcused}
-use Rattle.bplint_lines.specs.declared.said.Said.{Said}
-use Rattle.bplint_lines.specs.declared.said.Said.TheVariants.{All, SomeMissing}
+use Rattle.bplint_lines.specs.declared.fault.Said.{Said}
+use Rattle.bplint_lines.specs.declared.fault.Said.TheVariants.{All, SomeMissing}
 use Rattle.bplint_engine.specs.Get.{LinesSay, answer_fault, found_line, is_missing, replies_said, reply_line, said_of}
 use Rattle.bplint_engine.specs.Check.{CheckSays}
 use Rattle.bplint_engine.specs.Ls.{listed}

@@ -6,7 +6,7 @@ use Rattle.std.proofs.lemmas.Grind.{merely}
 use Rattle.hex.specs.declared.error.FromHexError.{FromHexError}
 use Rattle.bplint_lines.specs.declared.fault.RunFault.{RunFault}
 use Rattle.bplint_lines.specs.declared.fault.RunFault.TheVariants.{Hex, Memory}
-use Rattle.bplint_lines.specs.declared.said.Said.{Said}
+use Rattle.bplint_lines.specs.declared.fault.Said.{Said}
 use Rattle.bplint_lines.specs.Answers.{Answer, refuses, Leaves}
 use Rattle.bplint_engine.specs.Output.{is_read}
 use Rattle.bplint_engine.specs.Commands.{Asked}

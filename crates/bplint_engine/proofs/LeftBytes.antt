@@ -1,11 +1,11 @@
 -- What a run leaves with the writer.
 use Rattle.std.proofs.Common.{◌⊎◌, inl, inr, ℕ, List, [], append-nil, sym, ◌∙◌, Option, None, Some, Result, Ok, Err, refl, arith}
 use Rattle.std.specs.Io.KnownBytes.{Appends, Keeps}
-use Rattle.bplist_ascii.specs.Sending.{SendsSome}
+use Rattle.bplist_octets.specs.Sending.{SendsSome}
 use Rattle.bplint_lines.specs.declared.fault.RunFault.{RunFault}
 use Rattle.bplint_lines.specs.declared.fault.RunFault.TheVariants as faults
 use Rattle.bplint_engine.specs.declared.output.Output.{Output}
-use Rattle.bplint_lines.specs.declared.said.Said.{Said}
+use Rattle.bplint_lines.specs.declared.fault.Said.{Said}
 use Rattle.bplint_lines.specs.Answers.{Answer, gives, refuses, BeginsAnswer, LeavesBy, LeavesWithin}
 use Rattle.bplint_engine.specs.Output.{Answers, IsRefusal, Sends}
 

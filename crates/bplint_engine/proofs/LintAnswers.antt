@@ -1,9 +1,9 @@
 -- What `lint` says, derived from the contract of the linter.
 use Rattle.std.proofs.Common.{◌≡◌, ℕ, List, ◌++◌, codes, refl}
-use Rattle.bplist_objects.specs.declared.kind.Kind.{Kind}
+use Rattle.bplist_objects.specs.declared.head.Kind.{Kind}
 use Rattle.bplist_lint.specs.declared.answer.Lint.{Lint}
 use Rattle.bplist_lint.specs.Linted.{IsLintedWithKind}
-use Rattle.bplint_lines.specs.declared.said.Said.TheVariants.{All}
+use Rattle.bplint_lines.specs.declared.fault.Said.TheVariants.{All}
 use Rattle.bplint_lines.specs.Answers.{gives}
 use Rattle.bplint_engine.specs.Lint.{LintSays}
 use Rattle.bplint_lines.specs.OutputLines.{lint_line}

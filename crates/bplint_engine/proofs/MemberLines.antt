@@ -1,12 +1,12 @@
 -- The lines of the members of containers.
 use Rattle.std.proofs.Common.{◌≡◌, ◌<◌, ◌+◌, ◌-◌, ◌*◌, ◌++◌, [], ◌∙◌, ℕ, zero, suc, List, codes, length, slice_get, Option, Some, Ok, ap, append_assoc, append-nil, arith, refl, subst, sym}
 use Rattle.bplist_objects.specs.Value.{Value, leaf, array, set, dict, text, Values, no_values, value, Pairs, no_pairs, pair, keys}
-use Rattle.bplist_cursor.specs.declared.faces.Face.{Face}
+use Rattle.bplist_cursor.specs.declared.face.Face.{Face}
 use Rattle.bplist_objects.specs.declared.head.Head.{Head}
 use Rattle.bplist_objects.specs.Heads.{Content, Spells, content_at}
 use Rattle.bplist_cert.specs.CheckedFile.{CheckedFile}
 use Rattle.bplist_cert.specs.Valid.{IsVouchedBy}
-use Rattle.bplist_cursor.specs.declared.found.Node.{Node}
+use Rattle.bplist_cursor.specs.declared.node.Node.{Node}
 use Rattle.bplist_cursor.specs.declared.faults.Unread.{Unread}
 use Rattle.bplist_cursor.specs.declared.faults.Unread.TheVariants as unread
 use Rattle.bplist_cursor.proofs.Causes.{IsUnread}
@@ -14,8 +14,8 @@ use Rattle.std.specs.List.{enumerate_from, flat_map}
 use Rattle.bplist_cursor.specs.Members.{HoldsMember, entries, member_of, member_reference, members, named}
 use Rattle.bplist_cursor.proofs.Membership.{held_members, in_turn}
 use Rattle.bplist_cursor.specs.Replies.{face}
-use Rattle.bplint_engine.specs.declared.member_lines.Members.{Members}
-use Rattle.bplint_engine.specs.declared.member_lines.Members.TheVariants.{Array, Set, Dict}
+use Rattle.bplint_engine.specs.declared.ls.Members.{Members}
+use Rattle.bplint_engine.specs.declared.ls.Members.TheVariants.{Array, Set, Dict}
 use Rattle.bplint_lines.specs.Faults.{IsExcused}
 use Rattle.bplint_engine.proofs.LowerFaults.{unread_fault}
 use Rattle.bplint_engine.specs.Ls.{IsContainer, IsHeadFor, IsLeaf, first_lines, line_of_member, line_of_pair, listed, member_line, named_line}

@@ -9,8 +9,8 @@ use Rattle.bplint_engine.specs.Commands.{Asked}
 use Rattle.bplint_engine.specs.Get.{found_line}
 use Rattle.bplint_engine.specs.Hexadecimal.{spelled}
 use Rattle.bplint_engine.specs.Said.{Says, SaysOver, Spells, takes_cert}
-use Rattle.bplint_engine.specs.declared.command.Verb.{Verb}
-use Rattle.bplint_engine.specs.declared.command.Verb.TheVariants as verbs
+use Rattle.bplint_engine.specs.declared.run.Verb.{Verb}
+use Rattle.bplint_engine.specs.declared.run.Verb.TheVariants as verbs
 use Rattle.bplint_engine.proofs.OneLint.{one_lint}
 use Rattle.bplint_engine.proofs.OneCheck.{one_check}
 use Rattle.bplint_engine.proofs.OnePaths.{one_for_paths}

@@ -9,25 +9,25 @@ use Rattle.bplist_objects.specs.Holds.{Holds}
 use Rattle.bplist_cert.specs.CheckedFile.{CheckedFile}
 use Rattle.bplist_cursor.specs.declared.faults.CursorFault.{CursorFault}
 use Rattle.bplist_cursor.specs.declared.faults.CursorFault.TheVariants as cursor_faults
-use Rattle.bplist_cursor.specs.declared.found.Node.{Node}
-use Rattle.bplist_cursor.specs.declared.found.Found.TheVariants.{At}
-use Rattle.bplist_cursor.specs.declared.found.Why.{Why}
+use Rattle.bplist_cursor.specs.declared.node.Node.{Node}
+use Rattle.bplist_cursor.specs.declared.node.Found.TheVariants.{At}
+use Rattle.bplist_cursor.specs.declared.node.Why.{Why}
 use Rattle.bplist_cursor.proofs.Causes.{IsExcused}
 use Rattle.bplist_cursor.specs.Found.{IsFound, IsHeld}
 use Rattle.bplist_cursor.specs.Leads.{LeadTo}
 use Rattle.bplist_cursor.specs.Look.{look}
 use Rattle.bplist_cursor.specs.Path.{IsPathOf}
-use Rattle.bplist_ascii.specs.Sending.{Sending, SendsSome, Takes, TakesPart, AtMost}
+use Rattle.bplist_octets.specs.Sending.{Sending, SendsSome, Takes, TakesPart, AtMost}
 use Rattle.bplist_ascii.specs.Printed.{IsPut, HasText}
-use Rattle.bplist_ascii.specs.declared.sink.WriteFault.{WriteFault}
-use Rattle.bplist_ascii.specs.declared.print_fault.PrintFault.{PrintFault}
-use Rattle.bplist_ascii.specs.declared.print_fault.PrintFault.TheVariants as print_faults
-use Rattle.bplist_ascii.proofs.SinkSteps.{out_start, out_takes, out_end, out_part, part_of_more, takes_then_part}
+use Rattle.bplist_octets.specs.declared.sink.WriteFault.{WriteFault}
+use Rattle.bplist_ascii.specs.declared.printer.PrintFault.{PrintFault}
+use Rattle.bplist_ascii.specs.declared.printer.PrintFault.TheVariants as print_faults
+use Rattle.bplist_octets.proofs.SinkSteps.{out_start, out_takes, out_end, out_part, part_of_more, takes_then_part}
 use Rattle.bplint_lines.specs.declared.fault.RunFault.{RunFault}
 use Rattle.bplint_lines.specs.declared.fault.RunFault.TheVariants as faults
 use Rattle.bplint_engine.specs.declared.output.Output.{Output}
-use Rattle.bplint_lines.specs.declared.said.Said.{Said}
-use Rattle.bplint_lines.specs.declared.said.Said.TheVariants.{All, SomeMissing}
+use Rattle.bplint_lines.specs.declared.fault.Said.{Said}
+use Rattle.bplint_lines.specs.declared.fault.Said.TheVariants.{All, SomeMissing}
 use Rattle.bplint_lines.specs.Answers.{Answer, gives, BeginsAnswer, Leaves, LeavesBy}
 use Rattle.bplint_engine.specs.Output.{Answers, IsRefusal}
 use Rattle.bplint_engine.proofs.LowerFaults.{cursor_fault, print_fault}

@@ -2,8 +2,8 @@
 use Rattle.std.proofs.Common.{◌≡◌, ℕ, List, [], ◌++◌, sym, ap, ◌∙◌, subst, append_assoc, append-nil, refl}
 use Rattle.std.specs.Prelude.{Option}
 use Rattle.std.specs.Io.KnownBytes.{Appends}
-use Rattle.bplist_ascii.specs.Sending.{Sending, SendsSome, Takes, TakesPart}
-use Rattle.bplist_ascii.proofs.SinkSteps.{out_end, out_start, out_takes, part_of_more, some_of_takes, takes_nothing, takes_then_part, takes_then_some}
+use Rattle.bplist_octets.specs.Sending.{Sending, SendsSome, Takes, TakesPart}
+use Rattle.bplist_octets.proofs.SinkSteps.{out_end, out_start, out_takes, part_of_more, some_of_takes, takes_nothing, takes_then_part, takes_then_some}
 use Rattle.bplist_cursor.specs.declared.faults.CursorFault.{CursorFault}
 use Rattle.bplist_cursor.specs.declared.faults.CursorFault.TheVariants as cursor_faults
 use Rattle.bplist_cursor.proofs.Causes.{IsExcused as IsCursorExcused}

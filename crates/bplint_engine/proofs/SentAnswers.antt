@@ -7,15 +7,15 @@ use Rattle.bplist_objects.specs.Holds.{Holds}
 use Rattle.bplist_objects.specs.Value.{Value}
 use Rattle.bplist_cursor.specs.declared.faults.CursorFault.{CursorFault}
 use Rattle.bplist_cursor.specs.declared.faults.CursorFault.TheVariants as cursor_faults
-use Rattle.bplist_cursor.specs.declared.found.Why.{Why}
+use Rattle.bplist_cursor.specs.declared.node.Why.{Why}
 use Rattle.bplist_cursor.proofs.Causes.{IsExcused as IsCursorExcused}
 use Rattle.bplist_cursor.specs.Path.{IsPathOf}
 use Rattle.bplint_lines.specs.declared.fault.RunFault.{RunFault}
 use Rattle.bplint_lines.specs.declared.fault.RunFault.TheVariants as faults
 use Rattle.bplint_lines.specs.declared.raw_fault.RawFault.{RawFault}
 use Rattle.bplint_lines.specs.declared.raw_fault.RawFault.TheVariants.{Run, NoRawForm}
-use Rattle.bplint_lines.specs.declared.said.Said.{Said}
-use Rattle.bplint_lines.specs.declared.said.Said.TheVariants.{SomeMissing}
+use Rattle.bplint_lines.specs.declared.fault.Said.{Said}
+use Rattle.bplint_lines.specs.declared.fault.Said.TheVariants.{SomeMissing}
 use Rattle.bplint_lines.specs.Answers.{Answer, LeavesSomeBy, gives}
 use Rattle.bplint_lines.specs.Faults.{IsExcused}
 use Rattle.bplint_lines.specs.OutputLines.{missing_line}

@@ -2,9 +2,9 @@
 use Rattle.std.proofs.Common.{◌≡◌, ℕ, List, [], ap, append-nil, subst}
 use Rattle.std.specs.Prelude.{Option, Result, Ok, Err, MatchResult, OnOk, IfErr}
 use Rattle.std.specs.Io.KnownBytes.{Appends}
-use Rattle.bplist_ascii.specs.declared.sink.WriteFault.{WriteFault}
-use Rattle.bplist_ascii.specs.Sending.{Sending, SendsPart, Takes, TakesPart}
-use Rattle.bplist_ascii.proofs.SinkSteps.{out_start, out_takes, out_end, out_part}
+use Rattle.bplist_octets.specs.declared.sink.WriteFault.{WriteFault}
+use Rattle.bplist_octets.specs.Sending.{Sending, SendsPart, Takes, TakesPart}
+use Rattle.bplist_octets.proofs.SinkSteps.{out_start, out_takes, out_end, out_part}
 
 -- a sink that held a text was flushed
 pub all_sent : (old mid new : Option (List ℕ)) (s t u : Sending) (bytes : List ℕ) (r : Result (Unit {0}) WriteFault) → s ≡ record { sent = 0; held = [] }

@@ -2,8 +2,8 @@
 use Rattle.std.proofs.Common.{◌≡◌, ◌<◌, ◌≤◌, ◌++◌, ℕ, List, arith, length, ap}
 use Rattle.std.specs.Prelude.{Option}
 use Rattle.bplist_objects.specs.Value.{Value}
-use Rattle.bplist_ascii.specs.Sending.{Sending, Takes}
-use Rattle.bplist_ascii.proofs.SinkSteps.{takes_nothing}
+use Rattle.bplist_octets.specs.Sending.{Sending, Takes}
+use Rattle.bplist_octets.proofs.SinkSteps.{takes_nothing}
 use Rattle.bplint_lines.specs.declared.fault.RunFault.{RunFault}
 use Rattle.bplint_lines.specs.Faults.{IsExcused}
 use Rattle.bplint_engine.specs.Ls.{named_line}

@@ -6,8 +6,8 @@ use Rattle.std.proofs.lemmas.Grind.{flat_map-append}
 use Rattle.bplist_objects.specs.declared.frame.Frame.{Frame}
 use Rattle.bplist_objects.specs.Value.{Value, leaf, array, set, dict}
 use Rattle.bplist_cert.specs.CheckedFile.{CheckedFile}
-use Rattle.bplist_ascii.specs.Sending.{Takes}
-use Rattle.bplist_ascii.proofs.SinkSteps.{takes_more, takes_nothing}
+use Rattle.bplist_octets.specs.Sending.{Takes}
+use Rattle.bplist_octets.proofs.SinkSteps.{takes_more, takes_nothing}
 use Rattle.bplint_lines.specs.declared.fault.RunFault.{RunFault}
 use Rattle.bplint_engine.specs.declared.tree_walk.Listing.{Listing}
 use Rattle.bplint_engine.specs.declared.tree_walk.Opened.{Opened}

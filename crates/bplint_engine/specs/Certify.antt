@@ -8,7 +8,7 @@ use Rattle.bplist_cert.specs.Lists.{Lists, IsCertificate}
 use Rattle.bplist_lint.specs.declared.answer.Lint.{Lint}
 use Rattle.bplist_lint.specs.Linted.{IsLintedBy}
 use Rattle.bplist_lint.specs.Upgraded.{IsUpgraded}
-use Rattle.bplint_lines.specs.declared.said.Said.TheVariants.{All}
+use Rattle.bplint_lines.specs.declared.fault.Said.TheVariants.{All}
 use Rattle.bplint_lines.specs.Answers.{Answer, gives, refuses}
 use Rattle.bplint_engine.specs.Lint.{LintSays}
 

@@ -6,7 +6,7 @@ use Rattle.bplist_cert.specs.Encoding.{octets_of, IsCertRefusal}
 use Rattle.bplist_cert.specs.Lists.{Lists, IsCertificate}
 use Rattle.bplist_cert.specs.declared.certificate.CertRefusal.{CertRefusal}
 use Rattle.bplint_lines.specs.declared.fault.RunFault.TheVariants.{Fault}
-use Rattle.bplint_lines.specs.declared.said.Said.TheVariants.{All}
+use Rattle.bplint_lines.specs.declared.fault.Said.TheVariants.{All}
 use Rattle.bplint_lines.specs.Answers.{Answer, gives, refuses}
 use Rattle.bplint_lines.specs.OutputLines.{check_line}
 

@@ -1,7 +1,7 @@
 -- What a caller asks the engine to do. Source: profile.
 use Rattle.std.specs.Prelude.{◌≡◌, ℕ, Bool, List, length}
-use Rattle.bplint_engine.specs.declared.command.Verb.{Verb}
-use Rattle.bplint_engine.specs.declared.command.Verb.TheVariants.{Print}
+use Rattle.bplint_engine.specs.declared.run.Verb.{Verb}
+use Rattle.bplint_engine.specs.declared.run.Verb.TheVariants.{Print}
 
 -- a command: verb, path texts, limit of Print, whether inputs are hexadecimal, whether Certify writes key lists
 pub record Asked : Type 0 where

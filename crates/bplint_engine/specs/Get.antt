@@ -4,15 +4,15 @@ use Rattle.std.specs.List.{flat_map, list_any}
 use Rattle.bplist_objects.specs.Value.{Value}
 use Rattle.bplist_cursor.specs.declared.certified_answers.AnswerFault.{AnswerFault}
 use Rattle.bplist_cursor.specs.declared.certified_answers.AnswerFault.TheVariants as answers
-use Rattle.bplist_cursor.specs.declared.found.Why.{Why}
-use Rattle.bplist_cursor.specs.declared.reply.Reply.{Reply}
-use Rattle.bplist_cursor.specs.declared.reply.Reply.TheVariants.{Face, Missing}
+use Rattle.bplist_cursor.specs.declared.node.Why.{Why}
+use Rattle.bplist_cursor.specs.declared.answers.Reply.{Reply}
+use Rattle.bplist_cursor.specs.declared.answers.Reply.TheVariants.{Face, Missing}
 use Rattle.bplist_cursor.specs.Look.{look}
 use Rattle.bplist_cursor.specs.Replies.{face}
 use Rattle.bplint_lines.specs.declared.fault.RunFault.{RunFault}
 use Rattle.bplint_lines.specs.declared.fault.RunFault.TheVariants as faults
-use Rattle.bplint_lines.specs.declared.said.Said.{Said}
-use Rattle.bplint_lines.specs.declared.said.Said.TheVariants.{All, SomeMissing}
+use Rattle.bplint_lines.specs.declared.fault.Said.{Said}
+use Rattle.bplint_lines.specs.declared.fault.Said.TheVariants.{All, SomeMissing}
 use Rattle.bplint_lines.specs.Answers.{Answer, gives}
 use Rattle.bplint_lines.specs.OutputLines.{face_line, missing_line}
 use Rattle.bplint_engine.specs.PathTexts.{ForPaths}

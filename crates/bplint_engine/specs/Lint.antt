@@ -1,11 +1,11 @@
 -- What `lint` says. Source: profile.
 use Rattle.std.specs.Prelude.{◌≡◌, ◌++◌, ℕ, List, codes, map}
-use Rattle.bplist_objects.specs.declared.kind.Kind.{Kind}
+use Rattle.bplist_objects.specs.declared.head.Kind.{Kind}
 use Rattle.bplist_lint.specs.declared.answer.Lint.{Lint}
 use Rattle.bplist_lint.specs.FileFault.{IsFileFault, IsFileCircle}
 use Rattle.bplist_lint.specs.Linted.{IsLintedWithKind}
 use Rattle.bplist_lint.specs.Trail.{number}
-use Rattle.bplint_lines.specs.declared.said.Said.TheVariants.{All}
+use Rattle.bplint_lines.specs.declared.fault.Said.TheVariants.{All}
 use Rattle.bplint_lines.specs.declared.fault.RunFault.TheVariants.{Circle, Fault}
 use Rattle.bplint_lines.specs.Answers.{Answer, gives, refuses}
 use Rattle.bplint_lines.specs.OutputLines.{lint_line}

@@ -7,10 +7,10 @@ use Rattle.bplist_objects.specs.Holds.{Holds}
 use Rattle.bplist_objects.specs.Value.{Value, leaf, array, set, dict, text, keys}
 use Rattle.bplist_cert.specs.CheckedFile.{CheckedFile}
 use Rattle.bplist_cert.specs.Valid.{IsVouchedBy}
-use Rattle.bplist_cursor.specs.declared.found.Why.{Why}
+use Rattle.bplist_cursor.specs.declared.node.Why.{Why}
 use Rattle.bplist_cursor.specs.Members.{entries, members, member_of}
-use Rattle.bplint_engine.specs.declared.member_lines.Members.{Members}
-use Rattle.bplint_engine.specs.declared.member_lines.Members.TheVariants.{Array, Set, Dict}
+use Rattle.bplint_engine.specs.declared.ls.Members.{Members}
+use Rattle.bplint_engine.specs.declared.ls.Members.TheVariants.{Array, Set, Dict}
 use Rattle.bplint_lines.specs.MemberNames.{bracketed, index_name, key_name}
 use Rattle.bplint_engine.specs.Get.{found_line}
 

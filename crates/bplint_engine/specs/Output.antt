@@ -1,10 +1,10 @@
 -- The output or fault of a command, and how it is sent. Source: profile.
 use Rattle.std.specs.Prelude.{◌≡◌, ℕ, List, Bool, Option, Result, Ok, Err}
 use Rattle.std.specs.Io.KnownBytes.{Appends, Keeps}
-use Rattle.bplist_ascii.specs.Sending.{SendsPart}
+use Rattle.bplist_octets.specs.Sending.{SendsPart}
 use Rattle.bplint_lines.specs.declared.fault.RunFault.{RunFault}
 use Rattle.bplint_lines.specs.declared.fault.RunFault.TheVariants as faults
-use Rattle.bplint_lines.specs.declared.said.Said.{Said}
+use Rattle.bplint_lines.specs.declared.fault.Said.{Said}
 use Rattle.bplint_lines.specs.Answers.{Answer, gives, refuses, read_failed}
 use Rattle.bplint_engine.specs.declared.output.Output.{Output}
 

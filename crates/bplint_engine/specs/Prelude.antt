@@ -15,7 +15,7 @@ pub use Rattle.bplist_cursor.specs.Members.{member_of}
 pub use Rattle.bplist_cursor.specs.Path.{IsPathOf}
 pub use Rattle.bplist_cursor.specs.Replies.{face, reply}
 pub use Rattle.bplist_cursor.specs.Shown.{HasRoom}
-pub use Rattle.bplist_ascii.specs.Sending.{SendsPart, Takes, TakesPart}
+pub use Rattle.bplist_octets.specs.Sending.{SendsPart, Takes, TakesPart}
 pub use Rattle.bplint_lines.specs.Answers.{Answer, Leaves, LeavesBy, read_failed}
 pub use Rattle.bplint_lines.specs.Faults.{Gives}
 pub use Rattle.bplint_lines.specs.OutputLines.{check_line, face_line, lint_line, missing_line}

@@ -8,7 +8,7 @@ use Rattle.bplist_cursor.specs.Leads.{LeadTo}
 use Rattle.bplist_cursor.specs.Look.{look}
 use Rattle.bplist_cursor.specs.OldStyle.{value_text}
 use Rattle.bplist_ascii.specs.Printed.{HasText}
-use Rattle.bplint_lines.specs.declared.said.Said.TheVariants.{All, SomeMissing}
+use Rattle.bplint_lines.specs.declared.fault.Said.TheVariants.{All, SomeMissing}
 use Rattle.bplint_lines.specs.declared.fault.RunFault.TheVariants as faults
 use Rattle.bplint_lines.specs.Answers.{Answer, gives, refuses}
 use Rattle.bplint_engine.specs.Get.{found_line}

@@ -6,25 +6,25 @@ use Rattle.std.specs.Fmt.{decimal, signed_decimal}
 use Rattle.std.specs.Io.KnownBytes.{Keeps}
 use Rattle.bplist_octets.specs.Octets.{part}
 use Rattle.bplist_objects.specs.declared.frame.Frame.{Frame}
-use Rattle.bplist_objects.specs.declared.kind.Kind.TheVariants.{Bytes as data_kind}
+use Rattle.bplist_objects.specs.declared.head.Kind.TheVariants.{Bytes as data_kind}
 use Rattle.bplist_objects.specs.File.{FileHolds}
 use Rattle.bplist_objects.specs.Frame.{IsFrame}
 use Rattle.bplist_objects.specs.Safe.{IsSafeBody}
 use Rattle.bplist_objects.specs.Units.{IsTextKind, units_of}
 use Rattle.bplist_objects.specs.Value.{Value, leaf, bytes, text, int, uid, boolean}
-use Rattle.bplist_cursor.specs.declared.faces.Face.{Face}
-use Rattle.bplist_cursor.specs.declared.faces.Face.TheVariants as faces
+use Rattle.bplist_cursor.specs.declared.face.Face.{Face}
+use Rattle.bplist_cursor.specs.declared.face.Face.TheVariants as faces
 use Rattle.bplist_cursor.specs.Leads.{LeadTo}
 use Rattle.bplist_cursor.specs.Look.{look}
 use Rattle.bplist_cursor.specs.Path.{IsPathOf}
 use Rattle.bplint_lines.specs.declared.fault.RunFault.TheVariants as faults
 use Rattle.bplint_lines.specs.declared.raw_fault.RawFault.{RawFault}
 use Rattle.bplint_lines.specs.declared.raw_fault.RawFault.TheVariants.{Run, NoRawForm}
-use Rattle.bplint_lines.specs.declared.said.Said.{Said}
-use Rattle.bplint_lines.specs.declared.said.Said.TheVariants.{All, SomeMissing}
+use Rattle.bplint_lines.specs.declared.fault.Said.{Said}
+use Rattle.bplint_lines.specs.declared.fault.Said.TheVariants.{All, SomeMissing}
 use Rattle.bplint_lines.specs.Answers.{Answer, gives, refuses, LeavesSomeBy}
-use Rattle.bplint_engine.specs.declared.raw_form.Raw.{Raw}
-use Rattle.bplint_engine.specs.declared.raw_form.Raw.TheVariants.{Data, Text, Word}
+use Rattle.bplint_engine.specs.declared.raw_bytes.Raw.{Raw}
+use Rattle.bplint_engine.specs.declared.raw_bytes.Raw.TheVariants.{Data, Text, Word}
 use Rattle.bplint_engine.specs.Get.{found_line}
 use Rattle.bplint_engine.specs.PathTexts.{ForPaths}
 

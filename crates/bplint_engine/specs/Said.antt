@@ -1,7 +1,7 @@
 -- What a run says: the answer to each command. Source: profile.
 use Rattle.std.specs.Prelude.{◌≡◌, ℕ, List, [], Bool, true, false, MatchResult, if◌then◌else◌}
-use Rattle.bplint_engine.specs.declared.command.Verb.{Verb}
-use Rattle.bplint_engine.specs.declared.command.Verb.TheVariants.{Lint, Check, Get, Certify, Print}
+use Rattle.bplint_engine.specs.declared.run.Verb.{Verb}
+use Rattle.bplint_engine.specs.declared.run.Verb.TheVariants.{Lint, Check, Get, Certify, Print}
 use Rattle.bplint_lines.specs.declared.fault.RunFault.TheVariants.{Hex}
 use Rattle.bplint_lines.specs.Answers.{Answer, refuses}
 use Rattle.bplint_engine.specs.Certify.{CertifySays}

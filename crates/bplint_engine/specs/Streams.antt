@@ -2,7 +2,7 @@
 use Rattle.std.specs.Prelude.{◌≡◌, ℕ, ◌-◌, ◌&&◌, List, [], ◌++◌, false, slice_index, Option, Result, MatchResult}
 use Rattle.std.specs.Char.Utf16.{is_high_surrogate, is_low_surrogate}
 use Rattle.std.specs.Io.KnownBytes.{Appends}
-use Rattle.bplist_ascii.specs.Sending.{Sending, SendsSome, Takes, TakesPart}
+use Rattle.bplist_octets.specs.Sending.{Sending, SendsSome, Takes, TakesPart}
 use Rattle.bplint_lines.specs.declared.fault.RunFault.{RunFault}
 use Rattle.bplint_lines.specs.declared.fault.RunFault.TheVariants as faults
 

@@ -6,7 +6,7 @@ use Rattle.bplist_cursor.specs.Look.{look}
 use Rattle.bplist_cursor.specs.Members.{entries, members}
 use Rattle.bplist_cursor.specs.Nodes.{nodes}
 use Rattle.bplint_lines.specs.declared.fault.RunFault.TheVariants.{TooLong}
-use Rattle.bplint_lines.specs.declared.said.Said.TheVariants.{All, SomeMissing}
+use Rattle.bplint_lines.specs.declared.fault.Said.TheVariants.{All, SomeMissing}
 use Rattle.bplint_lines.specs.Answers.{Answer, gives, refuses}
 use Rattle.bplint_lines.specs.MemberNames.{bracketed, index_name, key_name}
 use Rattle.bplint_engine.specs.Get.{found_line}

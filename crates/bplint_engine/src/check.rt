@@ -1,8 +1,9 @@
 //! The command `check`: says whether a certificate is valid for a file.
+
 ghost use Rattle.std.specs.Prelude.{◌≡◌, ◌++◌, ℕ, List, IfErr, IfOk, IsTrue, codes, slice_index};
 ghost use Rattle.bplint_engine.specs.Prelude.{OnlyReads, read_failed, Answers, CheckSays, IsDecoded, check_line};
 
-use crate::certified_file::check_decoded;
+use crate::certify::check_decoded;
 use crate::output::Output;
 use bplint_lines::{RunFault, Said, add_check};
 use bplist_cert::{CertRefusal, Certificate, Checked};

@@ -1,15 +1,17 @@
 //! The command `get`: one line for each path.
-ghost use Rattle.std.specs.Prelude.{◌≡◌, ◌++◌, ℕ, List, Err, IfOk, IsTrue, MatchResult, OnOk, map, string_bytes};
-ghost use Rattle.std.specs.List.{flat_map};
-ghost use Rattle.std.specs.List.{list_any};
-ghost use Rattle.bplint_engine.specs.Prelude.{OnlyReads, Holds, Value, OnlyReadsFile, reply, answer_read, answer_fault, read_failed, Answers, Gives, CheckSays, IsDecoded, LinesSay, found_line, reply_line};
+
+ghost use Rattle.std.specs.Prelude.{◌≡◌, ◌++◌, ℕ, List, Err, IfOk, IsTrue, MatchResult, OnOk, map, string_bytes, ◌∷◌};
+ghost use Rattle.std.specs.Prelude.{[], length};
+ghost use Rattle.std.specs.List.{flat_map, list_any, AllZip};
+ghost use Rattle.bplint_engine.specs.Prelude.{OnlyReads, Holds, Value, OnlyReadsFile, reply, answer_read, answer_fault};
+ghost use Rattle.bplint_engine.specs.Prelude.{read_failed, Answers, Gives, CheckSays, IsDecoded, LinesSay, found_line};
+ghost use Rattle.bplint_engine.specs.Prelude.{reply_line, IsPathOf, IsWrongAmong, OnPath};
 ghost use Rattle.bplint_engine.specs.Get as spec;
 
 use crate::output::Output;
-use crate::path_queries::queries_of;
 use bplint_lines::{RunFault, Said, add_face, add_missing};
 use bplist_cert::{CertRefusal, Certificate, Checked};
-use bplist_cursor::{AnswerFault, Query, Reply, answer_all, answer_certified};
+use bplist_cursor::{AnswerFault, Path, Query, Reply, answer_all, answer_certified};
 use bplist_octets::Source;
 use std::alloc::{AllocError, Global};
 
@@ -130,4 +132,40 @@ fn add_reply(alloc: Global, reply: &Reply, lines: &mut Vec<u8>) -> Result<(), Al
         _ => return Ok(()),
     }
     Ok(lines.push(b'\n')?)
+}
+
+//@@ path_queries: Parses path texts, and makes queries of them.
+
+/// Makes one `Get` query for each path text, in order. Returns the fault of the first wrong text.
+pub(crate) fn queries_of(alloc: Global, texts: &[String]) -> Result<Vec<Query>, RunFault>
+    ensures { MatchResult result
+        (λ queries. (paths : List (List (List ℕ))) × AllZip IsPathOf (map (λ text. string_bytes text) texts.now) paths
+        × (queries.items ≡ map (λ path. Query.Get path) paths))
+        (OnPath (IsWrongAmong (map (λ text. string_bytes text) texts.now))) }
+{
+    let mut queries = Vec::new(alloc);
+    for text in texts {
+        let path = Path::parse(alloc, text.as_str())?;
+        queries.push(Query::Get(path))?;
+    }
+    Ok(queries)
+}
+
+/// Parses the only path text.
+pub(crate) fn path_of(alloc: Global, texts: &[String]) -> Result<Path, RunFault>
+    requires { length texts.now ≡ 1 }
+    ensures { MatchResult result
+        (λ path. AllZip IsPathOf (map (λ text. string_bytes text) texts.now) (path ∷ []))
+        (OnPath (IsWrongAmong (map (λ text. string_bytes text) texts.now))) }
+{
+    path_in(alloc, texts[0].as_str())
+}
+
+/// Parses a path text.
+pub(crate) fn path_in(alloc: Global, text: &str) -> Result<Path, RunFault>
+    ensures { MatchResult result
+        (λ path. AllZip IsPathOf (text.now ∷ []) (path ∷ []))
+        (OnPath (IsWrongAmong (text.now ∷ []))) }
+{
+    Ok(Path::parse(alloc, text)?)
 }

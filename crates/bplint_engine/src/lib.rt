@@ -38,35 +38,25 @@
 //! - `laws`: facts about the definitions.
 #![tactic(auto)]
 
-mod certified_file;
 mod certify;
-mod characters;
 mod check;
-mod command;
-mod delivery;
 mod get;
-mod hexadecimal;
 mod laws;
 mod lint;
 mod ls;
-mod member_lines;
 mod names;
 mod output;
-mod path_queries;
 mod print;
 mod raw;
-mod raw_form;
-mod raw_parts;
+mod raw_bytes;
 mod run;
 mod show;
 mod tree;
 mod tree_walk;
 
-pub use command::{Command, Verb};
-pub use hexadecimal::undo_hex;
 pub use laws::{one_answer, one_answer_over, tree_of_ls};
 pub use ls::list_on;
 pub use raw::show_raw_on;
-pub use run::{run_certified, run_on, run_over};
+pub use run::{Command, Verb, run_certified, run_on, run_over, undo_hex};
 pub use show::{show_on, show_text_on};
 pub use tree::list_all_on;

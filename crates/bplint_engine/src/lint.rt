@@ -1,4 +1,5 @@
 //! The command `lint`: says whether a file holds a value.
+
 ghost use Rattle.std.specs.Prelude.{◌≡◌, ◌++◌, IfOk, IsTrue, codes};
 ghost use Rattle.bplint_engine.specs.Prelude.{OnlyReads, read_failed, Answers, LintSays, lint_line};
 

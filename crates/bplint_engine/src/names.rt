@@ -1,4 +1,5 @@
 //! The names of nodes in a recursive listing, in one buffer that names share.
+
 ghost use Rattle.std.specs.Prelude.{◌≡◌, ◌↔◌, IfOk, IsTrue, Some, length, slice_get};
 ghost use Rattle.bplint_lines.specs.MemberNames.{bracketed, index_name, key_name};
 ghost use Rattle.bplint_engine.specs.Names.{Extends, IsNameIn, name_in};

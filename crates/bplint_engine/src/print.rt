@@ -1,16 +1,19 @@
 //! The command `print`: writes one value as old-style text.
-ghost use Rattle.std.specs.Prelude.{◌≡◌, ◌∷◌, ◌++◌, ℕ, List, [], IfErr, IfOk, IsTrue, OnOk, codes, length, map, string_bytes};
-ghost use Rattle.bplint_engine.specs.Prelude.{OnlyReads, Holds, Value, IsVouchedBy, OnlyReadsFile, Takes, TakesPart, Leaves, LeavesBy, read_failed, missing_line, CheckSays, IsDecoded, NodeSays, PathSays, PrintSays};
 
-use crate::certified_file::check_decoded;
-use crate::delivery::send_output;
-use crate::output::Output;
-use crate::path_queries::path_of;
+ghost use Rattle.std.specs.Prelude.{◌≡◌, ◌∷◌, ◌++◌, ℕ, List, [], IfErr, IfOk, IsTrue, OnOk, codes, length, map};
+ghost use Rattle.std.specs.Prelude.{string_bytes};
+ghost use Rattle.bplint_engine.specs.Prelude.{OnlyReads, Holds, Value, IsVouchedBy, OnlyReadsFile, Takes, TakesPart};
+ghost use Rattle.bplint_engine.specs.Prelude.{Leaves, LeavesBy, read_failed, missing_line, CheckSays, IsDecoded};
+ghost use Rattle.bplint_engine.specs.Prelude.{NodeSays, PathSays, PrintSays};
+
+use crate::certify::check_decoded;
+use crate::get::path_of;
+use crate::output::{Output, send_output};
 use bplint_lines::{RunFault, Said, add_missing};
-use bplist_ascii::{Sink, WriteFault, print_into};
+use bplist_ascii::print_into;
 use bplist_cert::{CertRefusal, Certificate, Checked};
 use bplist_cursor::{Found, Node, Path, Why, locate, measure};
-use bplist_octets::Source;
+use bplist_octets::{Sink, Source, WriteFault};
 use std::alloc::Global;
 use std::io::Write;
 

@@ -1,14 +1,16 @@
 //! The call of `show --raw`: writes the raw bytes of one value in a file that has no certificate.
-ghost use Rattle.std.specs.Prelude.{◌≡◌, None, IsTrue};
-ghost use Rattle.bplint_engine.specs.Prelude.{OnlyReads, Holds, Value, IsVouchedBy, OnlyReadsFile, LintSays, read_failed};
-ghost use Rattle.bplint_engine.specs.Raw.{LeadsToRawless, LeavesRawBy, IsRawless, NodeShowsRaw, PathShowsRaw, ShowsRaw, raw_bytes, raw_read_failed};
 
-use crate::certified_file::checked_by_lint;
-use crate::delivery::send_output;
-use crate::path_queries::path_in;
+ghost use Rattle.std.specs.Prelude.{◌≡◌, None, IsTrue};
+ghost use Rattle.bplint_engine.specs.Prelude.{OnlyReads, Holds, Value, IsVouchedBy, OnlyReadsFile, LintSays};
+ghost use Rattle.bplint_engine.specs.Prelude.{read_failed};
+ghost use Rattle.bplint_engine.specs.Raw.{LeadsToRawless, LeavesRawBy, IsRawless, NodeShowsRaw, PathShowsRaw, ShowsRaw};
+ghost use Rattle.bplint_engine.specs.Raw.{raw_bytes, raw_read_failed};
+
+use crate::certify::checked_by_lint;
+use crate::get::path_in;
+use crate::output::send_output;
 use crate::print::missing_output;
-use crate::raw_form::raw_of;
-use crate::raw_parts::send_raw;
+use crate::raw_bytes::{raw_of, send_raw};
 use bplint_lines::{RawFault, RunFault, Said};
 use bplist_cert::Checked;
 use bplist_cursor::{Found, Node, Path, locate};

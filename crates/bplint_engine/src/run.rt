@@ -1,20 +1,23 @@
 //! Runs one command over a file and a certificate.
-ghost use Rattle.std.specs.Prelude.{◌≡◌, ℕ, List, [], false, IsTrue, if◌then◌else◌};
-ghost use Rattle.bplint_engine.specs.Prelude.{OnlyReads, IsDecoded, PrintsOnePath, Leaves, read_failed, Says, SaysOver, most, takes_cert};
+
+ghost use Rattle.std.specs.Prelude.{◌≡◌, ℕ, List, [], false, IsTrue, if◌then◌else◌, ◌⊎◌, ◌-◌, ◌==◌, IfOk, IfErr, IsErr};
+ghost use Rattle.std.specs.Prelude.{Ok, length, slice_index, take};
+ghost use Rattle.bplint_engine.specs.Prelude.{OnlyReads, IsDecoded, PrintsOnePath, Leaves, read_failed, Says, SaysOver};
+ghost use Rattle.bplint_engine.specs.Prelude.{most, takes_cert, spelled};
 
 use crate::certify::certify_output;
 use crate::check::check_output;
-use crate::command::{Command, Verb};
-use crate::delivery::send_made;
 use crate::get::get_output;
-use crate::hexadecimal::undo_hex;
 use crate::lint::lint_output;
+use crate::output::send_made;
 use crate::print::print_answer;
 use bplint_lines::{RunFault, Said};
 use bplist_cert::{CertRefusal, Certificate};
 use bplist_octets::{SliceSource, Source};
+use hex::FromHexError;
 use std::alloc::Global;
 use std::io::Write;
+use std::marker::Model;
 
 /// Runs a command over a source and a decoded certificate. Returns the source too.
 ///
@@ -120,4 +123,77 @@ fn run_over_bytes<W: Write>(
     ensures whole { read_failed result ≡ false }
 {
     run_on(alloc, command, SliceSource::new(file), cert, out).0
+}
+
+//@@ command: The commands that the engine runs, and their options.
+
+/// The five commands of [`crate::run_on`].
+#[derive(Clone, Copy, Debug, PartialEq, Eq, Drop)]
+pub enum Verb {
+    /// Decide whether a file holds a value.
+    Lint,
+    /// Check a certificate against a file.
+    Check,
+    /// Print one line for the value under each path.
+    Get,
+    /// Write a certificate of a file.
+    Certify,
+    /// Print the value under one path as old-style text.
+    Print,
+}
+
+/// A command with its options.
+#[derive(Debug, Drop)]
+pub struct Command {
+    /// Which command to run.
+    pub verb: Verb,
+    /// The path texts. Only `Get` and `Print` use them. `Print` needs exactly one.
+    pub paths: Vec<String>,
+    /// The largest text that `Print` may write, in bytes, not counting the final line feed.
+    pub limit: u64,
+    /// If true, the file and the certificate are given as hexadecimal text, and `Certify` writes hexadecimal text.
+    pub hex: bool,
+    /// If true, `Certify` also writes key lists.
+    pub sorted: bool,
+}
+
+impl Model for Command {
+    ghost use Rattle.std.specs.Prelude.{map, string_bytes};
+    ghost use Rattle.bplint_engine.specs.Commands.{Asked};
+
+    ghost Value = { Asked };
+
+    ghost view = { λ c. record {
+      verb = c.verb;
+      paths = map (λ text. string_bytes text) c.paths.items;
+      limit = c.limit;
+      hex = c.hex;
+      sorted = c.sorted;
+    } };
+}
+
+//@@ hexadecimal: Input as hexadecimal text.
+
+/// Decodes hexadecimal text with digits of either case. Drops one line feed at the end of the text. Returns `Hex` if
+/// the text is anything else, and `Memory` if memory is refused.
+pub fn undo_hex(alloc: Global, text: &[u8]) -> Result<Vec<u8>, RunFault>
+    ensures bytes { IfOk result (λ bytes. spelled text.now ≡ Ok bytes.items) }
+    ensures refused { IfErr result (λ fault.
+        (fault ≡ RunFault.Memory) ⊎ ((fault ≡ RunFault.Hex) × IsErr (spelled text.now))) }
+{
+    match hex::decode(alloc, without_line_feed(text)) {
+        Ok(bytes) => Ok(bytes),
+        Err(FromHexError::OutOfMemory) => Err(RunFault::Memory),
+        Err(_) => Err(RunFault::Hex),
+    }
+}
+
+fn without_line_feed(text: &[u8]) -> &[u8]
+    ensures { let last = length text.now - 1 in
+        result.now ≡ (if slice_index text.now last == 10 then take last text.now else text.now) }
+{
+    match text {
+        [digits @ .., b'\n'] => digits,
+        _ => text,
+    }
 }

@@ -1,12 +1,12 @@
 //! The calls of `show`: values under paths of a file that has no certificate.
-ghost use Rattle.std.specs.Prelude.{◌∷◌, [], IsTrue, map, string_bytes};
-ghost use Rattle.bplint_engine.specs.Prelude.{OnlyReads, Leaves, read_failed, Answers, LinesSay, LintSays, PrintSays, found_line};
 
-use crate::certified_file::checked_by_lint;
-use crate::delivery::send_made;
-use crate::get::answer_queries;
-use crate::output::Output;
-use crate::path_queries::{path_in, queries_of};
+ghost use Rattle.std.specs.Prelude.{◌∷◌, [], IsTrue, map, string_bytes};
+ghost use Rattle.bplint_engine.specs.Prelude.{OnlyReads, Leaves, read_failed, Answers, LinesSay, LintSays, PrintSays};
+ghost use Rattle.bplint_engine.specs.Prelude.{found_line};
+
+use crate::certify::checked_by_lint;
+use crate::get::{answer_queries, path_in, queries_of};
+use crate::output::{Output, send_made};
 use crate::print::print_checked;
 use bplint_lines::{RunFault, Said};
 use bplist_octets::Source;

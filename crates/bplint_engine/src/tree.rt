@@ -1,13 +1,15 @@
 //! The command `ls --recursive`: lists a value and everything inside it, in a file that has no certificate.
+
 ghost use Rattle.std.specs.Prelude.{◌≡◌, IsTrue};
-ghost use Rattle.bplint_engine.specs.Prelude.{Gives, OnlyReads, Holds, Value, IsVouchedBy, OnlyReadsFile, LintSays, read_failed};
+ghost use Rattle.bplint_engine.specs.Prelude.{Gives, OnlyReads, Holds, Value, IsVouchedBy, OnlyReadsFile, LintSays};
+ghost use Rattle.bplint_engine.specs.Prelude.{read_failed};
 ghost use Rattle.bplist_cursor.specs.Nodes.{cap, nodes};
 ghost use Rattle.bplint_lines.specs.Answers.{LeavesSomeBy};
 ghost use Rattle.bplint_engine.specs.Tree.{ListsAll, NodeLists, PathLists};
 
-use crate::certified_file::checked_by_lint;
-use crate::delivery::send_output;
-use crate::path_queries::path_in;
+use crate::certify::checked_by_lint;
+use crate::get::path_in;
+use crate::output::send_output;
 use crate::print::missing_output;
 use crate::tree_walk::{Listing, write_tree};
 use bplint_lines::{RunFault, Said};

@@ -1,24 +1,25 @@
 //! The walk that lists a value and everything inside it. A stack holds the containers whose members are not all listed
 //! yet.
-ghost use Rattle.std.specs.Prelude.{ℕ, List, ◌≡◌, ◌↔◌, ◌∷◌, ◌++◌, ◌*◌, ◌+◌, ◌^◌, ◌<◌, ◌≤◌, [], IfOk, IfSome, IsTrue, OnOk, Some, MatchOption, MatchResult, codes, length, reverse};
-ghost use Rattle.bplist_ascii.specs.Sending.{Takes};
+
+ghost use Rattle.std.specs.Prelude.{ℕ, List, ◌≡◌, ◌↔◌, ◌∷◌, ◌++◌, ◌*◌, ◌+◌, ◌^◌, ◌<◌, ◌≤◌, [], IfOk, IfSome, IsTrue};
+ghost use Rattle.std.specs.Prelude.{OnOk, Some, MatchOption, MatchResult, codes, length, reverse};
+ghost use Rattle.bplist_octets.specs.Sending.{Takes};
 ghost use Rattle.bplist_cursor.specs.Found.{IsHeld};
 ghost use Rattle.bplint_engine.specs.Ls.{named_line};
 ghost use Rattle.bplint_engine.specs.Names.{Extends, IsNameIn, name_in};
-ghost use Rattle.bplint_engine.specs.Prelude.{Gives, IsContainer, IsHeadFor, IsLeaf, IsSafeHead, OnlyReadsFile, Value, face_line, member_of, read_failed};
+ghost use Rattle.bplint_engine.specs.Prelude.{Gives, IsContainer, IsHeadFor, IsLeaf, IsSafeHead, OnlyReadsFile, Value};
+ghost use Rattle.bplint_engine.specs.Prelude.{face_line, member_of, read_failed};
 ghost use Rattle.bplint_engine.specs.Streams.{Fails, Puts, SendsAll, begun};
 ghost use Rattle.bplint_engine.specs.Tree.{joined_lines, tree_lines};
 ghost use Rattle.bplint_engine.specs.TreeWalks.{AreOpen, GoesOn, IsKept, IsMemberAt, IsOpen, StackLeft};
 
-use crate::ls::members_of;
-use crate::member_lines::{Members, add_value, member_face};
+use crate::ls::{Members, add_value, member_face, members_of};
 use crate::names::{Name, Names};
 use bplint_lines::RunFault;
-use bplist_ascii::Sink;
 use bplist_cert::Checked;
 use bplist_cursor::{Face, Node, face, member_by_head, node_head};
 use bplist_objects::Head;
-use bplist_octets::Source;
+use bplist_octets::{Sink, Source};
 use std::alloc::{AllocError, Global};
 use std::io::Write;
 

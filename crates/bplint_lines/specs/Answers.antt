@@ -1,10 +1,10 @@
 -- Answers to a command, and what they leave with the writer. Source: profile.
 use Rattle.std.specs.Prelude.{◌⊎◌, ℕ, List, Bool, true, false, Option, None, Some, IfSome, Result, Ok, Err}
 use Rattle.std.specs.Io.KnownBytes.{Appends, Keeps}
-use Rattle.bplist_ascii.specs.Sending.{SendsPart, SendsSome, AtMost}
+use Rattle.bplist_octets.specs.Sending.{SendsPart, SendsSome, AtMost}
 use Rattle.bplint_lines.specs.declared.fault.RunFault.{RunFault}
 use Rattle.bplint_lines.specs.declared.fault.RunFault.TheVariants as faults
-use Rattle.bplint_lines.specs.declared.said.Said.{Said}
+use Rattle.bplint_lines.specs.declared.fault.Said.{Said}
 
 -- bytes to write and whether each path led to a value, or a fault
 pub data Answer : Type 0 where

@@ -4,11 +4,11 @@ use denote.Enum.Declared.{tag_of}
 use Rattle.std.specs.Fmt.{decimal, signed_decimal}
 use Rattle.hex.specs.Hex.{encode_lower}
 use Rattle.bplist_objects.specs.contracts.kind.Kind.{the_type as kinds}
-use Rattle.bplist_objects.specs.declared.kind.Kind.{Kind}
-use Rattle.bplist_cursor.specs.declared.faces.Face.{Face}
-use Rattle.bplist_cursor.specs.declared.faces.Face.TheVariants as faces
-use Rattle.bplist_cursor.specs.declared.found.Why.{Why}
-use Rattle.bplist_cursor.specs.declared.found.Why.TheVariants.{NoKey, NoIndex, NotSteppable}
+use Rattle.bplist_objects.specs.declared.head.Kind.{Kind}
+use Rattle.bplist_cursor.specs.declared.face.Face.{Face}
+use Rattle.bplist_cursor.specs.declared.face.Face.TheVariants as faces
+use Rattle.bplist_cursor.specs.declared.node.Why.{Why}
+use Rattle.bplist_cursor.specs.declared.node.Why.TheVariants.{NoKey, NoIndex, NotSteppable}
 use Rattle.bplist_cursor.specs.Texts.{text_of_units, text_of_bytes}
 
 -- the words for the kinds, in the order of their declaration

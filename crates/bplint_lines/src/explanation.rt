@@ -1,17 +1,25 @@
 //! Explains a fault: the rule, the numbers of the file, the path to the object, and the bytes.
+
 ghost use Rattle.std.specs.Prelude.{◌≡◌, ℕ, List, [], ◌<◌, ◌++◌, IfOk, IfSome, MatchOption, length, string_bytes};
+ghost use Rattle.std.specs.Prelude.{codes};
 ghost use Rattle.bplist_octets.specs.Meaning.{OnlyReads};
 ghost use Rattle.bplist_objects.specs.Safe.{IsSafeFrame};
 ghost use Rattle.bplint_lines.specs.Answers.{read_failed};
 ghost use Rattle.bplint_lines.specs.Explanation.{rule_line, rule_of};
+ghost use Rattle.std.specs.Fmt.{decimal};
+ghost use Rattle.bplist_objects.specs.Words.{number_of, word_of};
+ghost use Rattle.bplist_objects.specs.declared.rule.Rule.{Rule};
+ghost use Rattle.bplist_objects.specs.RuleTexts.{text_of};
 
 use crate::fault::RunFault;
 use crate::file_lines::file_lines;
 use crate::object_path::{ObjectPath, head_in, key_front, path_to};
 use crate::output_lines::kind_name;
-use crate::rule_lines::rule_line_of;
 use bplist_ascii::text_of_units;
-use bplist_objects::{Fault, Frame, Kind, ObjectFault, ObjectNo, Rule, offset_of, trailer_of};
+use bplist_objects::{
+    Fault, Frame, Kind, ObjectFault, ObjectNo, Rule, offset_of, rule_name, rule_number,
+    rule_of_number, texts_of, trailer_of,
+};
 use bplist_octets::{SliceSource, Source};
 use std::alloc::{AllocError, Global};
 
@@ -240,4 +248,37 @@ fn dump(alloc: Global, start: u64, octets: &[u8], marked: usize) -> Result<Strin
     }
     line.push_str(if marked < octets.len() { "\n" } else { " []\n" })?;
     Ok(line)
+}
+
+//@@ rule_lines: Rules in plain words.
+
+/// Returns the rule that has this word in fault lines, or `None` if no rule has it.
+pub fn rule_of_word(word: &str) -> Option<Rule>
+    ensures { MatchOption result ((rule : Rule) → ¬ (word_of rule ≡ word.now)) (λ rule. word_of rule ≡ word.now) }
+{
+    for number in 1..u32::MAX {
+        let rule = rule_of_number(number)?;
+        if rule_name(rule) == word {
+            return Some(rule);
+        }
+    }
+    None
+}
+
+/// Returns two lines: number, word and requirement of a rule, and an example that breaks it.
+pub fn rule_text(alloc: Global, rule: Rule) -> Result<String, AllocError>
+    ensures { IfOk result (λ text. string_bytes text ≡ codes "rule " ++ decimal (number_of rule) ++ codes " " ++ word_of rule
+        ++ codes ": " ++ (text_of rule).0 ++ codes "\nbroken by: " ++ (text_of rule).1 ++ codes "\n") }
+{
+    let (number, word) = (rule_number(rule), rule_name(rule));
+    let (demand, breach) = texts_of(rule);
+    format!(in alloc; "rule {number} {word}: {demand}\nbroken by: {breach}\n")
+}
+
+/// Returns the line of a rule that explains a fault.
+pub(crate) fn rule_line_of(alloc: Global, rule: Rule) -> Result<String, AllocError>
+    ensures { IfOk result (λ text. string_bytes text ≡ rule_line rule) }
+{
+    let (number, (demand, _)) = (rule_number(rule), texts_of(rule));
+    format!(in alloc; "  rule {number}: {demand}\n")
 }

@@ -1,25 +1,37 @@
 //! The errors of a run, with the line and the exit status of each.
+
 ghost use Rattle.std.specs.Prelude.{◌≡◌, IfOk, string_bytes};
-ghost use Rattle.bplint_lines.specs.declared.fault.RunFault.TheVariants.{Changed, Circle, Fault, Memory, NoAsciiForm, Path};
-ghost use Rattle.bplint_lines.specs.declared.fault.RunFault.TheVariants.{Read, TooLong, Write};
-ghost use Rattle.bplist_ascii.specs.declared.print_fault.PrintFault.TheVariants as print;
+ghost use Rattle.bplint_lines.specs.declared.fault.RunFault.TheVariants.{Changed, Circle, Fault, Memory, NoAsciiForm};
+ghost use Rattle.bplint_lines.specs.declared.fault.RunFault.TheVariants.{Path, Read, TooLong, Write};
+ghost use Rattle.bplist_ascii.specs.declared.printer.PrintFault.TheVariants as print;
 ghost use Rattle.bplist_cert.specs.declared.certificate.CertRefusal.TheVariants as cert;
 ghost use Rattle.bplist_cert.specs.declared.refusal.Refusal.TheVariants as check;
 ghost use Rattle.bplist_cursor.specs.declared.certified_answers.AnswerFault.TheVariants as answer;
 ghost use Rattle.bplist_cursor.specs.declared.faults.CursorFault.TheVariants as cursor;
 ghost use Rattle.bplist_cursor.specs.declared.faults.Unread.TheVariants as unread;
 ghost use Rattle.bplist_cursor.specs.declared.path.PathFault.TheVariants as path;
-ghost use Rattle.bplist_lint.specs.declared.refusal.LintRefusal.TheVariants as lint;
-ghost use Rattle.bplist_lint.specs.declared.upgrade_fault.UpgradeFault.TheVariants as upgrade;
+ghost use Rattle.bplist_lint.specs.declared.answer.LintRefusal.TheVariants as lint;
+ghost use Rattle.bplist_lint.specs.declared.answer.UpgradeFault.TheVariants as upgrade;
 ghost use Rattle.bplint_lines.specs.FaultLines.{fault_line, report_of};
 
-use bplist_ascii::{PrintFault, WriteFault};
+use bplist_ascii::PrintFault;
 use bplist_cert::{CertRefusal, Refusal};
 use bplist_cursor::{AnswerFault, CursorFault, PathFault, Unread};
 use bplist_lint::{LintRefusal, ObjectNos, UpgradeFault};
 use bplist_objects::{Fault, ObjectNo, Rule, rule_name};
-use bplist_octets::ReadFault;
+use bplist_octets::{ReadFault, WriteFault};
 use std::alloc::{AllocError, AllocFailed, Global};
+
+//@@ said: The success values of a run.
+
+/// Whether each path led to a value, of a run that wrote its whole answer.
+#[derive(Clone, Copy, Debug, PartialEq, Eq, Drop)]
+pub enum Said {
+    /// Each path led to a value, or there was no path.
+    All,
+    /// At least one line says that a path leads nowhere.
+    SomeMissing,
+}
 
 /// Why a run has no answer.
 #[derive(Debug, Drop)]

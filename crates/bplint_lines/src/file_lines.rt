@@ -1,4 +1,5 @@
 //! Describes a file as a whole: its length and the numbers of its trailer, or what it looks like instead.
+
 ghost use Rattle.bplist_octets.specs.Meaning.{OnlyReads};
 ghost use Rattle.bplint_lines.specs.Answers.{read_failed};
 

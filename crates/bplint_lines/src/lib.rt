@@ -37,13 +37,9 @@ mod member_names;
 mod object_path;
 mod output_lines;
 mod raw_fault;
-mod rule_lines;
-mod said;
 
-pub use explanation::explain;
-pub use fault::RunFault;
+pub use explanation::{explain, rule_of_word, rule_text};
+pub use fault::{RunFault, Said};
 pub use member_names::{add_index, add_index_name, add_key_name};
 pub use output_lines::{add_check, add_face, add_lint, add_missing, kind_name};
 pub use raw_fault::RawFault;
-pub use rule_lines::{rule_of_word, rule_text};
-pub use said::Said;

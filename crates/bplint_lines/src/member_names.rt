@@ -1,6 +1,7 @@
 //! The names of members in lines.
 //!
 //! Each call adds a name to the bytes. The only error is refused memory.
+
 ghost use Rattle.std.specs.Prelude.{◌≡◌, ◌++◌, ◌∷◌, OnOk, true};
 ghost use Rattle.std.specs.List.{flat_map, list_all, list_any};
 ghost use Rattle.bplist_cursor.specs.Path.{escaped};

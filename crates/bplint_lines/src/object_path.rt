@@ -2,6 +2,7 @@
 //!
 //! The search follows members of arrays and values of dictionaries, as paths do. It does not go on from an object that
 //! breaks a rule about markers or counts.
+
 ghost use Rattle.std.specs.Prelude.{◌<◌, IfOk, IfSome, length};
 ghost use Rattle.bplist_octets.specs.Meaning.{OnlyReads};
 ghost use Rattle.bplist_objects.specs.Safe.{IsSafe, IsSafeFrame, IsSafeHead, ref_count};
@@ -34,7 +35,7 @@ struct Step {
 
 /// The state of the search: the objects that were found, in order, and the step that found each first.
 #[derive(Drop)]
-struct Search {
+struct PathSearch {
     /// By object number: the step to each object that was found. The top has a step from itself.
     steps: Vec<Option<Step>>,
     /// The objects that were found.
@@ -78,11 +79,11 @@ fn search_for<S: Source>(
     src: &mut S,
     frame: &Frame,
     target: u32,
-) -> Result<Search, RunFault>
+) -> Result<PathSearch, RunFault>
     requires { IsSafeFrame (length (S.means src.old).octets) frame.now }
     ensures reads { OnlyReads (read_failed result) (S.means src.old) (S.means src.new) }
 {
-    let mut search = Search {
+    let mut search = PathSearch {
         steps: vec![in alloc; None; frame.objects as usize]?,
         met: Vec::new(alloc),
         budget: frame.table,
@@ -107,7 +108,7 @@ fn search_for<S: Source>(
     Ok(search)
 }
 
-impl Search {
+impl PathSearch {
     /// Finds the objects that object `n` refers to.
     fn go_on<S: Source>(&mut self, src: &mut S, frame: &Frame, n: ObjectNo) -> Result<(), RunFault>
         requires safe { IsSafe (length (S.means src.old).octets) frame.now }

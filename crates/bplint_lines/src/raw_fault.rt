@@ -1,4 +1,5 @@
 //! The errors of `show --raw`, with the line and the exit status of each.
+
 ghost use Rattle.std.specs.Prelude.{◌≡◌, IfOk, string_bytes};
 ghost use Rattle.bplist_cursor.specs.declared.faults.CursorFault.TheVariants as cursor;
 ghost use Rattle.bplint_lines.specs.declared.fault.RunFault.TheVariants.{Changed, Memory, Read};

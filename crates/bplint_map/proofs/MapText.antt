@@ -10,16 +10,16 @@ use Rattle.bplist_objects.specs.declared.fault.Fault.{Fault}
 use Rattle.bplist_objects.specs.FrameRules.{IsFrameFault}
 use Rattle.bplint_lines.specs.Faults.{IsExcused}
 use Rattle.bplist_objects.specs.Frame.{IsFrame}
-use Rattle.bplist_ascii.specs.Sending.{Sending, SendsPart, SendsSome, Takes, TakesPart, IsOut}
-use Rattle.bplist_ascii.proofs.SinkSteps.{out_end, out_part, out_start, out_takes, part_of_more, takes_then_part, takes_then_some}
+use Rattle.bplist_octets.specs.Sending.{Sending, SendsPart, SendsSome, Takes, TakesPart, IsOut}
+use Rattle.bplist_octets.proofs.SinkSteps.{out_end, out_part, out_start, out_takes, part_of_more, takes_then_part, takes_then_some}
 use Rattle.bplint_lines.specs.declared.fault.RunFault.{RunFault}
 use Rattle.bplint_lines.specs.declared.fault.RunFault.TheVariants as faults
 use Rattle.bplint_map.specs.declared.object_order.ObjectOffset.{ObjectOffset}
 use Rattle.bplint_map.specs.declared.rows.Finding.{Finding}
 use Rattle.bplint_map.specs.declared.rows.Row.{Row}
-use Rattle.bplint_map.specs.declared.verdict.Verdict.{Verdict}
-use Rattle.bplint_lines.specs.declared.said.Said.TheVariants.{All}
-use Rattle.bplint_lines.specs.declared.said.Said.{Said}
+use Rattle.bplint_map.specs.declared.rows.Verdict.{Verdict}
+use Rattle.bplint_lines.specs.declared.fault.Said.TheVariants.{All}
+use Rattle.bplint_lines.specs.declared.fault.Said.{Said}
 use Rattle.bplint_lines.specs.Answers.{BeginsAnswer, LeavesSomeBy, gives}
 use Rattle.bplint_map.proofs.Findings.{findings_of}
 use Rattle.bplint_map.specs.Layout.{object, region, parts, row_end}

@@ -4,8 +4,8 @@ use Rattle.std.specs.Fmt.{decimal}
 use Rattle.std.specs.List.{flat_map, join_with_byte}
 use Rattle.bplist_objects.specs.declared.head.Head.{Head}
 use Rattle.bplist_objects.specs.Words.{word_of}
-use Rattle.bplint_map.specs.declared.verdict.Verdict.{Verdict}
-use Rattle.bplint_map.specs.declared.verdict.Verdict.TheVariants as verdicts
+use Rattle.bplint_map.specs.declared.rows.Verdict.{Verdict}
+use Rattle.bplint_map.specs.declared.rows.Verdict.TheVariants as verdicts
 use Rattle.bplint_map.specs.declared.rows.Finding.TheVariants.{Whole, Wrong, Lost}
 use Rattle.bplint_map.specs.declared.rows.Row.{Row}
 use Rattle.bplint_map.specs.Layout.{Part, object, region, row_end}

@@ -3,16 +3,16 @@ use Rattle.std.specs.Prelude.{◌≡◌, ℕ, ◌+◌, ◌*◌, List, [], ◌∷
 use Rattle.bplist_objects.specs.declared.frame.Frame.{Frame}
 use Rattle.bplist_objects.specs.Frame.{IsFrame}
 use Rattle.bplist_objects.specs.FrameRules.{IsFrameFault}
-use Rattle.bplist_ascii.specs.Sending.{Sending, SendsSome, Takes, TakesPart}
+use Rattle.bplist_octets.specs.Sending.{Sending, SendsSome, Takes, TakesPart}
 use Rattle.bplist_lint.specs.declared.answer.Lint.{Lint}
 use Rattle.bplist_lint.specs.FileFault.{IsFileFault, IsFileCircle}
 use Rattle.bplist_lint.specs.Linted.{IsLinted}
 use Rattle.bplint_lines.specs.declared.fault.RunFault.{RunFault}
 use Rattle.bplint_lines.specs.declared.fault.RunFault.TheVariants as faults
 use Rattle.bplint_map.specs.declared.rows.Finding.{Finding}
-use Rattle.bplint_lines.specs.declared.said.Said.TheVariants.{All}
-use Rattle.bplint_map.specs.declared.verdict.Verdict.{Verdict}
-use Rattle.bplint_map.specs.declared.verdict.Verdict.TheVariants as verdicts
+use Rattle.bplint_lines.specs.declared.fault.Said.TheVariants.{All}
+use Rattle.bplint_map.specs.declared.rows.Verdict.{Verdict}
+use Rattle.bplint_map.specs.declared.rows.Verdict.TheVariants as verdicts
 use Rattle.bplint_lines.specs.Answers.{Answer, gives, refuses}
 use Rattle.bplint_map.specs.Layout.{parts, region}
 use Rattle.bplint_map.specs.Lines.{part_line}

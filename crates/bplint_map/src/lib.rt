@@ -27,7 +27,6 @@ mod lines;
 mod map;
 mod object_order;
 mod rows;
-mod verdict;
 
 pub use laws::{gaps_are_all, overlaps_are_all, rows_are_in_order};
 pub use map::map_on;

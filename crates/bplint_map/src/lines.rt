@@ -1,13 +1,13 @@
 //! The lines of a map.
 //!
 //! Each call adds lines to the text. The only error is refused memory.
+
 ghost use Rattle.std.specs.Prelude.{◌≡◌, ◌++◌, List, ℕ, OnOk, codes, string_bytes};
 ghost use Rattle.bplist_objects.specs.Words.{word_of as word_of_rule};
 ghost use Rattle.bplint_map.specs.Layout.{object, row_end};
 ghost use Rattle.bplint_map.specs.Lines.{head_line, note, part_line, region_line, row_lines};
 
-use crate::rows::{Finding, Row};
-use crate::verdict::Verdict;
+use crate::rows::{Finding, Row, Verdict};
 use bplint_lines::kind_name;
 use bplist_objects::{Head, rule_name};
 use std::alloc::AllocError;

@@ -1,5 +1,7 @@
 //! The command `map`.
-ghost use Rattle.std.specs.Prelude.{◌≡◌, ℕ, List, ◌+◌, ◌++◌, ◌*◌, ◌^◌, ◌<◌, All, IfOk, IsTrue, codes, length, string_bytes, map as map_of};
+
+ghost use Rattle.std.specs.Prelude.{◌≡◌, ℕ, List, ◌+◌, ◌++◌, ◌*◌, ◌^◌, ◌<◌, All, IfOk, IsTrue, codes, length};
+ghost use Rattle.std.specs.Prelude.{string_bytes, map as map_of};
 ghost use Rattle.bplist_octets.specs.Meaning.{OnlyReads};
 ghost use Rattle.bplist_objects.specs.Framed.{HonestlyIn, frame_in};
 ghost use Rattle.bplist_objects.specs.Safe.{IsSafe};
@@ -12,12 +14,10 @@ ghost use Rattle.bplint_map.specs.declared.rows.Finding.{Finding};
 
 use crate::lines::{add_region, add_row, end_of};
 use crate::object_order::{ObjectOffset, objects_in_order};
-use crate::rows::row_of;
-use crate::verdict::{Verdict, verdict_of};
+use crate::rows::{Verdict, row_of, verdict_of};
 use bplint_lines::{RunFault, Said};
-use bplist_ascii::Sink;
 use bplist_objects::{Frame, Framed, ObjectFault, Plist, frame_of};
-use bplist_octets::Source;
+use bplist_octets::{Sink, Source};
 use std::alloc::{AllocError, Global};
 use std::io::Write;
 

@@ -1,4 +1,5 @@
 //! The objects of a file in byte order.
+
 ghost use Rattle.std.specs.Prelude.{◌≡◌, ℕ, List, ◌<◌, ◌≤◌, All, IfOk, map};
 ghost use Rattle.std.specs.List.{range_with_len};
 ghost use Rattle.bplist_octets.specs.Meaning.{OnlyReads};

@@ -6,7 +6,7 @@ ghost use Rattle.bplist_octets.specs.Meaning.{OnlyReads};
 ghost use Rattle.bplist_objects.specs.Answers.{read_failed};
 ghost use Rattle.bplist_objects.specs.Safe.{IsSafe, IsSafeBody, IsSafeHead};
 ghost use Rattle.bplist_objects.specs.Units.{IsTextKind};
-ghost use Rattle.bplist_objects.specs.declared.kind.Kind.TheVariants.{Bytes};
+ghost use Rattle.bplist_objects.specs.declared.head.Kind.TheVariants.{Bytes};
 
 use bplist_objects::{
     Frame, Head, Kind, ObjectFault, frame_of, head_of, int_of, key_cmp, octets_at, offset_of,

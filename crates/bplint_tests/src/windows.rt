@@ -1,7 +1,7 @@
 //! What windows give, and what they ask of their source.
 
 use crate::octets::{Read, all_answer, answers};
-use bplist_octets::{FaultySource, Pane, ReadFault, SliceSource, Window, Windows};
+use bplist_octets::{FaultySource, Pane, Panes, ReadFault, SliceSource, Window};
 
 /// Bytes from which their place can be told.
 fn numbered() -> [u8; 70_000] {
@@ -122,7 +122,7 @@ fn panes(rt: HostRuntime) {
     for (count, fails, reads) in PANES {
         let mut source = FaultySource::new(&bytes, *fails);
         assert!(rt; 0 < *count && *count <= 3);
-        let mut windows = Windows::new(&mut source, &mut panes[..*count]);
+        let mut windows = Panes::new(&mut source, &mut panes[..*count]);
         all_answer(&rt, &mut windows, &bytes, reads);
     }
 }
@@ -133,7 +133,7 @@ fn forward_in_whole_panes(rt: HostRuntime) {
     let bytes = numbered();
     let mut source = FaultySource::new(&bytes, 7);
     let mut panes = [Pane::EMPTY; 2];
-    let mut windows = Windows::new(&mut source, &mut panes);
+    let mut windows = Panes::new(&mut source, &mut panes);
     for k in 0..700 {
         answers(&rt, &mut windows, &bytes, (k * 100, 100, Ok(())));
     }
@@ -146,7 +146,7 @@ fn backward_in_large_parts(rt: HostRuntime) {
     let bytes = numbered();
     let mut source = FaultySource::new(&bytes, 8);
     let mut panes = [Pane::EMPTY; 2];
-    let mut windows = Windows::new(&mut source, &mut panes);
+    let mut windows = Panes::new(&mut source, &mut panes);
     for k in 1..701 {
         answers(&rt, &mut windows, &bytes, (70_000 - k * 100, 100, Ok(())));
     }
@@ -157,7 +157,7 @@ fn panes_that_held_another_source(rt: HostRuntime) {
     let mut panes = [Pane::EMPTY; 1];
     for bytes in [b"abc", b"xyz"] {
         let mut source = SliceSource::new(bytes);
-        let mut windows = Windows::new(&mut source, &mut panes);
+        let mut windows = Panes::new(&mut source, &mut panes);
         answers(&rt, &mut windows, bytes, (0, 3, Ok(())));
     }
 }

@@ -3,10 +3,10 @@
 use crate::runs::{outcome, with_path};
 use arrayvec::ArrayVec;
 use bplint_engine::{Verb, run_over};
-use bplist_ascii::{PrintFault, Sink, WriteFault, print};
+use bplist_ascii::{PrintFault, print};
 use bplist_cursor::{Node, measure};
 use bplist_objects::ObjectNo;
-use bplist_octets::SliceSource;
+use bplist_octets::{Sink, SliceSource, WriteFault};
 use bplist_samples::{
     PRINTABLE_DICT, Parts, Row, SMALLEST_FILE, ShortWriter, THREE_KEYS, Trouble, small,
 };

@@ -1,5 +1,4 @@
 mod Parts
-pub mod SinkSteps
 pub mod WriteSteps
 pub mod WalkSteps
 mod SearchSteps

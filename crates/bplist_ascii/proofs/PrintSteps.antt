@@ -6,12 +6,12 @@ use Rattle.bplist_objects.specs.Value.{Value}
 use Rattle.bplist_cursor.specs.declared.faults.Unread.{Unread}
 use Rattle.bplist_cursor.specs.declared.faults.Unread.TheVariants as unread
 use Rattle.bplist_cursor.specs.OldStyle.{value_text, plain}
-use Rattle.bplist_ascii.specs.declared.print_fault.PrintFault.{PrintFault}
-use Rattle.bplist_ascii.specs.declared.print_fault.PrintFault.TheVariants.{NoAsciiForm, TooLong, Write, Read, Changed, Memory}
-use Rattle.bplist_ascii.specs.Sending.{Sending, SendsPart, SendsSome, Takes, TakesPart, IsOut, AtMost}
+use Rattle.bplist_ascii.specs.declared.printer.PrintFault.{PrintFault}
+use Rattle.bplist_ascii.specs.declared.printer.PrintFault.TheVariants.{NoAsciiForm, TooLong, Write, Read, Changed, Memory}
+use Rattle.bplist_octets.specs.Sending.{Sending, SendsPart, SendsSome, Takes, TakesPart, IsOut, AtMost}
 use Rattle.bplist_ascii.specs.BoundedWrites.{AddFails, TakesWithin}
 use Rattle.bplist_ascii.specs.Printed.{IsPut, IsPrinted, HasText}
-use Rattle.bplist_ascii.proofs.SinkSteps.{out_start, out_takes, out_part, out_long}
+use Rattle.bplist_octets.proofs.SinkSteps.{out_start, out_takes, out_part, out_long}
 use Rattle.bplist_ascii.proofs.WriteSteps.{print_fault_of}
 
 -- a read failed before anything was put in, for a value without a text

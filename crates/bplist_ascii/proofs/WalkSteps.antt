@@ -4,20 +4,20 @@ use Rattle.std.specs.Prelude.{Option, slice_get}
 use Rattle.bplist_octets.specs.Octets.{part}
 use Rattle.bplist_objects.specs.declared.frame.Frame.{Frame}
 use Rattle.bplist_objects.specs.declared.head.Head.{Head}
-use Rattle.bplist_objects.specs.declared.kind.Kind.{Kind}
-use Rattle.bplist_objects.specs.declared.kind.Kind.TheVariants as kinds
+use Rattle.bplist_objects.specs.declared.head.Kind.{Kind}
+use Rattle.bplist_objects.specs.declared.head.Kind.TheVariants as kinds
 use Rattle.bplist_objects.specs.Value.{null, boolean, int, real, date, bytes, text, uid, Value, leaf, array, set, dict, Values, no_values, value, Pairs, no_pairs, pair}
 use Rattle.bplist_objects.specs.Heads.{Content, Spells, content_of, content_at}
 use Rattle.bplist_objects.specs.Holds.{Holds}
 use Rattle.bplist_objects.specs.Units.{units_at}
 use Rattle.bplist_cert.specs.CheckedFile.{CheckedFile}
 use Rattle.bplist_cert.specs.Valid.{IsVouchedBy}
-use Rattle.bplist_cursor.specs.declared.found.Node.{Node}
+use Rattle.bplist_cursor.specs.declared.node.Node.{Node}
 use Rattle.bplist_cursor.specs.Members.{HoldsMember, member_of, member_reference, named, members}
 use Rattle.bplist_cursor.specs.Texts.{text_of_units, text_of_bytes}
 use Rattle.bplist_cursor.specs.OldStyle.{comma, IsFormed, AreFormed, ArePairsFormed, plain, plain_members, plain_pairs}
 use Rattle.bplist_cursor.proofs.Membership.{in_turn, held_members}
-use Rattle.bplist_ascii.specs.Sending.{Sending, Takes}
+use Rattle.bplist_octets.specs.Sending.{Sending, Takes}
 use Rattle.bplist_ascii.specs.BoundedWrites.{Adds}
 use Rattle.bplist_ascii.proofs.WriteSteps.{adds_more}
 use Rattle.bplist_ascii.specs.declared.walk.Opened.{Opened}

@@ -10,18 +10,18 @@ use Rattle.std.proofs.lemmas.List.{drop_more}
 use lib.Seq.{take-add}
 use Rattle.bplist_octets.specs.Octets.{part}
 use Rattle.bplist_cert.specs.CheckedFile.{CheckedFile}
-use Rattle.bplist_ascii.specs.Sending.{Sending, SendsSome, TakesPart}
+use Rattle.bplist_octets.specs.Sending.{Sending, SendsSome, TakesPart}
 use Rattle.std.specs.Char.{is_ascii_alphanumeric}
 use Rattle.hex.specs.Hex.{encode_lower, encode_with}
 use Rattle.bplist_cursor.specs.Texts.{text_of_units, quoted}
-use Rattle.bplist_ascii.specs.declared.style.Style.TheVariants.{Unquoted, Quoted}
+use Rattle.bplist_ascii.specs.declared.printer.Style.TheVariants.{Unquoted, Quoted}
 use Rattle.bplist_cursor.specs.declared.faults.Unread.{Unread}
 use Rattle.bplist_cursor.specs.declared.faults.Unread.TheVariants as unread
 use Rattle.bplist_ascii.specs.BoundedWrites.{styled, fits, hex_digits, is_unquoted_text, Adds, AddsText, AddFails, StaysWithin}
-use Rattle.bplist_ascii.specs.declared.print_fault.PrintFault.{PrintFault}
-use Rattle.bplist_ascii.specs.declared.print_fault.PrintFault.TheVariants.{NoAsciiForm, TooLong, Write, Read, Changed, Memory}
+use Rattle.bplist_ascii.specs.declared.printer.PrintFault.{PrintFault}
+use Rattle.bplist_ascii.specs.declared.printer.PrintFault.TheVariants.{NoAsciiForm, TooLong, Write, Read, Changed, Memory}
 use Rattle.bplist_cursor.proofs.StepObjects.{not_true}
-use Rattle.bplist_ascii.proofs.SinkSteps.{takes_nothing, takes_more, takes_then_part, takes_then_some, some_of_takes, part_of_more}
+use Rattle.bplist_octets.proofs.SinkSteps.{takes_nothing, takes_more, takes_then_part, takes_then_some, some_of_takes, part_of_more}
 
 pub adds_nothing : (now : Option (List ℕ)) (s : Sending) (room : ℕ) → Adds now now s s room room []
 adds_nothing now s room = record { taken = takes_nothing now s; counted = omega arith }

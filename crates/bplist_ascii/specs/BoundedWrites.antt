@@ -4,11 +4,11 @@ use Rattle.std.specs.List.{list_all}
 use Rattle.hex.specs.Hex.{lower_digits}
 use Rattle.std.specs.Char.{is_ascii_alphanumeric}
 use Rattle.bplist_cursor.specs.Texts.{quoted_unit}
-use Rattle.bplist_ascii.specs.Sending.{Sending, SendsSome, Takes, TakesPart, AtMost}
-use Rattle.bplist_ascii.specs.declared.print_fault.PrintFault.{PrintFault}
-use Rattle.bplist_ascii.specs.declared.print_fault.PrintFault.TheVariants.{Write, Read, Memory}
-use Rattle.bplist_ascii.specs.declared.style.Style.{Style}
-use Rattle.bplist_ascii.specs.declared.style.Style.TheVariants.{Unquoted, Quoted}
+use Rattle.bplist_octets.specs.Sending.{Sending, SendsSome, Takes, TakesPart, AtMost}
+use Rattle.bplist_ascii.specs.declared.printer.PrintFault.{PrintFault}
+use Rattle.bplist_ascii.specs.declared.printer.PrintFault.TheVariants.{Write, Read, Memory}
+use Rattle.bplist_ascii.specs.declared.printer.Style.{Style}
+use Rattle.bplist_ascii.specs.declared.printer.Style.TheVariants.{Unquoted, Quoted}
 
 -- true if the result is a failed read
 abbrev pub print_read : {X : Type 0} → Result X PrintFault → Bool

@@ -1,4 +1,3 @@
-pub mod Sending
 pub mod BoundedWrites
 pub mod Walks
 pub mod FormlessSearch

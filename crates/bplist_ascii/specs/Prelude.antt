@@ -5,7 +5,7 @@ pub use Rattle.bplist_objects.specs.Holds.{Holds}
 pub use Rattle.bplist_objects.specs.Safe.{IsSafeBody, IsSafeHead}
 pub use Rattle.bplist_objects.specs.Units.{IsTextKind, units_of}
 pub use Rattle.bplist_objects.specs.Value.{Value}
-pub use Rattle.bplist_objects.specs.declared.kind.Kind.TheVariants.{Bytes}
+pub use Rattle.bplist_objects.specs.declared.head.Kind.TheVariants.{Bytes}
 pub use Rattle.bplist_cert.specs.CheckedFile.{HonestlyChecked}
 pub use Rattle.bplist_cert.specs.Valid.{IsVouchedBy}
 pub use Rattle.bplist_cursor.specs.Causes.{GivesRead, read_failed}
@@ -16,11 +16,11 @@ pub use Rattle.bplist_cursor.specs.OldStyle.{value_text}
 pub use Rattle.bplist_cursor.specs.Sizes.{AreMeasures, form_in}
 pub use Rattle.bplist_cursor.specs.Texts.{quoted, text_of_bytes, text_of_units}
 pub use Rattle.bplist_cursor.specs.declared.faults.Unread.TheVariants.{Read}
-pub use Rattle.bplist_cursor.specs.declared.form.Form.TheVariants.{NoForm}
+pub use Rattle.bplist_cursor.specs.declared.sizes.Form.TheVariants.{NoForm}
 pub use Rattle.bplist_ascii.specs.BoundedWrites.{AddFails, Adds, AddsSome, AddsText, FailsWithin, StaysWithin, TakesWithin, fits, hex_digits, is_unquoted_text, print_read, styled}
 pub use Rattle.bplist_ascii.specs.FormlessSearch.{HasSameFormless, first_value_of}
 pub use Rattle.bplist_ascii.specs.Printed.{IsPrinted, IsPut}
-pub use Rattle.bplist_ascii.specs.Sending.{AtMost, Takes}
+pub use Rattle.bplist_octets.specs.Sending.{AtMost, Takes}
 pub use Rattle.bplist_ascii.specs.Walks.{AreSafe, GoesOn, HonestlyLeft, HonestlyPlain, IsContainer, StackLeft, closing_of, opening_of, separator_of}
-pub use Rattle.bplist_ascii.specs.declared.print_fault.PrintFault.{PrintFault}
-pub use Rattle.bplist_ascii.specs.declared.style.Style.TheVariants.{Unquoted}
+pub use Rattle.bplist_ascii.specs.declared.printer.PrintFault.{PrintFault}
+pub use Rattle.bplist_ascii.specs.declared.printer.Style.TheVariants.{Unquoted}

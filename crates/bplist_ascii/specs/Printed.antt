@@ -5,9 +5,9 @@ use Rattle.bplist_objects.specs.declared.frame.Frame.{Frame}
 use Rattle.bplist_objects.specs.Value.{Value}
 use Rattle.bplist_cursor.specs.Formless.{IsFormless}
 use Rattle.bplist_cursor.specs.OldStyle.{value_text}
-use Rattle.bplist_ascii.specs.Sending.{Sending, SendsPart, SendsSome, Takes}
-use Rattle.bplist_ascii.specs.declared.print_fault.PrintFault.{PrintFault}
-use Rattle.bplist_ascii.specs.declared.print_fault.PrintFault.TheVariants.{NoAsciiForm, TooLong, Write, Read, Changed, Memory}
+use Rattle.bplist_octets.specs.Sending.{Sending, SendsPart, SendsSome, Takes}
+use Rattle.bplist_ascii.specs.declared.printer.PrintFault.{PrintFault}
+use Rattle.bplist_ascii.specs.declared.printer.PrintFault.TheVariants.{NoAsciiForm, TooLong, Write, Read, Changed, Memory}
 
 -- the value has a text of at most `limit` and fewer than 18446744073709551615 bytes, and P holds of the text
 abbrev pub HasText : Value → ℕ → (List ℕ → Type 0) → Type 0

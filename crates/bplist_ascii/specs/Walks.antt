@@ -2,15 +2,15 @@
 use Rattle.std.specs.Prelude.{◌≡◌, ℕ, suc, zero, List, [], ◌∷◌, ◌++◌, Option, IsTrue, ⊤}
 use Rattle.bplist_objects.specs.declared.frame.Frame.{Frame}
 use Rattle.bplist_objects.specs.declared.head.Head.{Head}
-use Rattle.bplist_objects.specs.declared.kind.Kind.{Kind}
-use Rattle.bplist_objects.specs.declared.kind.Kind.TheVariants as kinds
+use Rattle.bplist_objects.specs.declared.head.Kind.{Kind}
+use Rattle.bplist_objects.specs.declared.head.Kind.TheVariants as kinds
 use Rattle.bplist_objects.specs.Value.{Value, array, dict, Values, no_values, value, Pairs, no_pairs, pair}
 use Rattle.bplist_objects.specs.Heads.{Content, Spells, content_at}
 use Rattle.bplist_objects.specs.Safe.{IsSafeHead}
 use Rattle.bplist_cert.specs.CheckedFile.{CheckedFile}
 use Rattle.bplist_cursor.specs.Found.{IsHeld}
 use Rattle.bplist_cursor.specs.OldStyle.{comma, IsFormed, plain, plain_members, plain_pairs}
-use Rattle.bplist_ascii.specs.Sending.{Sending}
+use Rattle.bplist_octets.specs.Sending.{Sending}
 use Rattle.bplist_ascii.specs.BoundedWrites.{Adds}
 use Rattle.bplist_ascii.specs.declared.walk.Opened.{Opened}
 

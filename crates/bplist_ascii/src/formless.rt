@@ -1,7 +1,10 @@
 //! Finds the first object that keeps a value from having a text.
 
 ghost use Rattle.std.specs.Prelude.{◌≡◌, ◌↔◌, ◌<◌, ℕ, Some, None, slice_index, IfOk, IfSome, IsTrue, MatchOption};
-ghost use Rattle.bplist_ascii.specs.Prelude.{HonestlyChecked, Value, Content, Spells, content_at, Holds, IsSafeHead, IsVouchedBy, GivesRead, read_failed, OnlyReadsFile, AreMeasures, form_in, NoForm, value_text, IsFormless, IsHeld, IsContainer, HasSameFormless, first_value_of};
+ghost use Rattle.bplist_ascii.specs.Prelude.{HonestlyChecked, Value, Content, Spells, content_at, Holds, IsSafeHead};
+ghost use Rattle.bplist_ascii.specs.Prelude.{IsVouchedBy, GivesRead, read_failed, OnlyReadsFile, AreMeasures, form_in};
+ghost use Rattle.bplist_ascii.specs.Prelude.{NoForm, value_text, IsFormless, IsHeld, IsContainer, HasSameFormless};
+ghost use Rattle.bplist_ascii.specs.Prelude.{first_value_of};
 
 use bplist_cert::Checked;
 use bplist_cursor::{Form, Measures, Node, Unread, member_by_head, node_head};

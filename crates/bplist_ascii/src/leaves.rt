@@ -2,16 +2,17 @@
 
 ghost use Rattle.std.specs.Prelude.{◌≡◌, ◌+◌, ◌<◌, ◌≤◌, true, length, flat_map, IfOk, OnOk, IfErr, OnErr, IsTrue};
 ghost use Rattle.std.specs.List.{list_all};
-ghost use Rattle.bplist_ascii.specs.Prelude.{part, HonestlyChecked, IsSafeBody, IsTextKind, units_of, Bytes, GivesRead, read_failed, OnlyReadsFile, hex_digits, text_of_units, text_of_bytes, quoted, print_read, AddsText, AddFails, FailsWithin, StaysWithin, styled, fits, is_unquoted_text, Unquoted};
+ghost use Rattle.bplist_ascii.specs.Prelude.{part, HonestlyChecked, IsSafeBody, IsTextKind, units_of, Bytes, GivesRead};
+ghost use Rattle.bplist_ascii.specs.Prelude.{read_failed, OnlyReadsFile, hex_digits, text_of_units, text_of_bytes};
+ghost use Rattle.bplist_ascii.specs.Prelude.{quoted, print_read, AddsText, AddFails, FailsWithin, StaysWithin, styled};
+ghost use Rattle.bplist_ascii.specs.Prelude.{fits, is_unquoted_text, Unquoted};
 
 use crate::output::{write, write_digits, write_units};
-use crate::print_fault::PrintFault;
-use crate::sink::Sink;
-use crate::style::{Style, Styled};
+use crate::printer::{PrintFault, Style, Styled};
 use bplist_cert::Checked;
 use bplist_cursor::{Unread, are_plain, body_bytes, body_units};
 use bplist_objects::Head;
-use bplist_octets::Source;
+use bplist_octets::{Sink, Source};
 use std::io::Write;
 
 /// The largest number of units or bytes that one read takes.

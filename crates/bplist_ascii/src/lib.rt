@@ -36,14 +36,9 @@
 mod formless;
 mod leaves;
 mod output;
-mod print_fault;
 mod printer;
-mod sink;
-mod style;
 mod texts;
 mod walk;
 
-pub use print_fault::PrintFault;
-pub use printer::{print, print_into};
-pub use sink::{Sink, WriteFault};
+pub use printer::{PrintFault, print, print_into};
 pub use texts::{add_text_of_bytes, add_text_of_units, text_of_bytes, text_of_units};

@@ -2,13 +2,13 @@
 
 ghost use Rattle.std.specs.Prelude.{◌≡◌, ◌<◌, ◌≤◌, false, true, length, flat_map, OnOk, IfErr, OnErr};
 ghost use Rattle.std.specs.List.{list_all};
-ghost use Rattle.bplist_ascii.specs.Prelude.{hex_digits, print_read, Adds, AddFails, FailsWithin, StaysWithin, styled, fits};
+ghost use Rattle.bplist_ascii.specs.Prelude.{hex_digits, print_read, Adds, AddFails, FailsWithin, StaysWithin, styled};
+ghost use Rattle.bplist_ascii.specs.Prelude.{fits};
 
-use crate::print_fault::PrintFault;
-use crate::sink::Sink;
-use crate::style::Style;
+use crate::printer::{PrintFault, Style};
 use crate::texts::{QuotedUnit, digits_of};
 use bplist_cursor::is_plain;
+use bplist_octets::Sink;
 use std::io::Write;
 
 /// Puts bytes into the sink. Returns `Changed` if they do not fit the room: the text was measured, so the source must

@@ -1,18 +1,89 @@
 //! Writes the old-style text of a value to a writer.
 
 ghost use Rattle.std.specs.Prelude.{◌≡◌, ℕ, ◌+◌, ◌≤◌, List, length, Err, OnOk, OnErr};
-ghost use Rattle.bplist_ascii.specs.Prelude.{HonestlyChecked, Value, Holds, IsVouchedBy, OnlyReadsFile, AreMeasures, AtMost, Takes, print_read, IsPut, IsPrinted};
-ghost use Rattle.bplist_ascii.specs.declared.print_fault.PrintFault.TheVariants.{Changed};
+ghost use Rattle.bplist_cursor.specs.declared.faults.Unread.TheVariants.{Changed as unread_changed};
+ghost use Rattle.bplist_ascii.specs.Prelude.{Read as unread_read, PrintFault as print_fault, HonestlyChecked, Value};
+ghost use Rattle.bplist_ascii.specs.Prelude.{Holds, IsVouchedBy, OnlyReadsFile, AreMeasures, AtMost, Takes, print_read};
+ghost use Rattle.bplist_ascii.specs.Prelude.{IsPut, IsPrinted};
+ghost use Rattle.bplist_ascii.specs.declared.printer.PrintFault.TheVariants as print_faults;
+ghost use Rattle.bplist_ascii.specs.declared.printer.PrintFault.TheVariants.{Changed};
 
 use crate::formless::first_formless;
-use crate::print_fault::PrintFault;
-use crate::sink::Sink;
-use crate::walk::{Walk, write_value};
+use crate::walk::{PrintWalk, write_value};
 use bplist_cert::Checked;
-use bplist_cursor::{Form, Measures, Node};
-use bplist_octets::Source;
-use std::alloc::Global;
+use bplist_cursor::{Form, Measures, Node, Unread};
+use bplist_objects::{Head, ObjectNo};
+use bplist_octets::{ReadFault, Sink, Source, WriteFault};
+use std::alloc::{AllocFailed, Global};
 use std::io::Write;
+
+//@@ style: The two ways to write the units of a text.
+
+/// How the units of a text are written.
+#[derive(Clone, Copy, Debug, PartialEq, Eq, Drop)]
+pub(crate) enum Style {
+    /// As they are.
+    Unquoted,
+    /// In quotes.
+    Quoted,
+}
+
+/// The head of a text, and how its units are written.
+#[derive(Clone, Copy, Debug, Drop)]
+pub(crate) struct Styled {
+    pub(crate) head: Head,
+    pub(crate) style: Style,
+}
+
+//@@ print_fault: The errors of printing.
+
+/// Why a value was not printed as a whole.
+#[derive(Clone, Copy, Debug, PartialEq, Eq, Drop)]
+pub enum PrintFault {
+    /// The value has no text. This is the first object, in the order of writing, whose kind has none.
+    NoAsciiForm(ObjectNo),
+    /// The text is longer than the limit, or has 18446744073709551615 bytes or more.
+    TooLong,
+    /// A write failed. A first part of the text was written, but not all of it.
+    Write {
+        /// The number of bytes that were written. For `print_into`, this counts all bytes of the sink.
+        sent: u64,
+    },
+    /// A read of the source failed.
+    Read(ReadFault),
+    /// The node is not a vouched object of this file, or the source now gives other bytes than those that were checked.
+    Changed,
+    /// Memory was refused.
+    Memory,
+}
+
+impl From<WriteFault> for PrintFault {
+    ghost from_gives = { λ fault e. e ≡ print_faults.Write fault.sent };
+
+    fn from(fault: WriteFault) -> PrintFault {
+        PrintFault::Write { sent: fault.sent }
+    }
+}
+
+impl From<Unread> for PrintFault {
+    ghost from_gives = { λ cause e. e ≡ elim cause as (λ _. print_fault)
+        [ unread_read fault ↦ print_faults.Read fault | unread_changed ↦ print_faults.Changed ] };
+
+    fn from(unread: Unread) -> PrintFault {
+        match unread {
+            Unread::Read(fault) => PrintFault::Read(fault),
+            Unread::Changed => PrintFault::Changed,
+        }
+    }
+}
+
+impl<T: Drop> From<AllocFailed<T>> for PrintFault {
+    ghost from_gives = { λ _ e. e ≡ print_faults.Memory };
+
+    fn from(_failed: AllocFailed<T>) -> PrintFault {
+        PrintFault::Memory
+    }
+}
 
 /// Puts the old-style text of a node's value into a sink.
 ///
@@ -54,7 +125,7 @@ pub fn print_into<S: Source, W: Write>(
             if length > limit || length == u64::MAX {
                 return Err(PrintFault::TooLong);
             }
-            write_value(checked, node, Walk::new(alloc, limit), sink, out)?;
+            write_value(checked, node, PrintWalk::new(alloc, limit), sink, out)?;
             Ok(())
         }
     }

@@ -1,16 +1,17 @@
 //! The walk that writes the text of a value. A stack holds the containers that are not written to their end.
 
 ghost use Rattle.std.specs.Prelude.{◌≡◌, ◌<◌, ◌++◌, [], ◌∷◌, List, ℕ, OnOk, IfErr, OnErr};
-ghost use Rattle.bplist_ascii.specs.Prelude.{IsSafeHead, OnlyReadsFile, print_read, AddsSome, TakesWithin, FailsWithin, StaysWithin, Takes, opening_of, separator_of, closing_of, AreSafe, HonestlyLeft, HonestlyPlain, StackLeft, GoesOn};
+ghost use Rattle.bplist_ascii.specs.Prelude.{IsSafeHead, OnlyReadsFile, print_read, AddsSome, TakesWithin, FailsWithin};
+ghost use Rattle.bplist_ascii.specs.Prelude.{StaysWithin, Takes, opening_of, separator_of, closing_of, AreSafe};
+ghost use Rattle.bplist_ascii.specs.Prelude.{HonestlyLeft, HonestlyPlain, StackLeft, GoesOn};
 
 use crate::leaves::{write_data, write_text};
 use crate::output::write;
-use crate::print_fault::PrintFault;
-use crate::sink::Sink;
+use crate::printer::PrintFault;
 use bplist_cert::Checked;
 use bplist_cursor::{Node, member_by_head, node_head};
 use bplist_objects::{Head, Kind};
-use bplist_octets::Source;
+use bplist_octets::{Sink, Source};
 use std::alloc::Global;
 use std::io::Write;
 
@@ -24,18 +25,18 @@ struct Opened {
 /// The state of the walk: the containers that are not written to their end, the outermost first, and how many more
 /// bytes may be written.
 #[derive(Drop)]
-pub(crate) struct Walk {
+pub(crate) struct PrintWalk {
     stack: Vec<Opened>,
     room: u64,
 }
 
-impl Walk {
+impl PrintWalk {
     /// A walk that has not begun, with this room in bytes.
-    pub(crate) fn new(alloc: Global, room: u64) -> Walk
+    pub(crate) fn new(alloc: Global, room: u64) -> PrintWalk
         ensures begins { result.stack.items ≡ [] }
         ensures room { result.room ≡ room }
     {
-        Walk {
+        PrintWalk {
             stack: Vec::new(alloc),
             room,
         }
@@ -79,7 +80,7 @@ fn closing(kind: Kind, members: u64) -> &'static [u8]
 fn begin<S: Source, W: Write>(
     checked: &mut Checked<S>,
     node: Node,
-    walk: &mut Walk,
+    walk: &mut PrintWalk,
     sink: &mut Sink,
     out: &mut W,
 ) -> Result<(), PrintFault>
@@ -112,7 +113,7 @@ fn begin<S: Source, W: Write>(
 fn step<S: Source, W: Write>(
     checked: &mut Checked<S>,
     opened: Opened,
-    walk: &mut Walk,
+    walk: &mut PrintWalk,
     sink: &mut Sink,
     out: &mut W,
 ) -> Result<(), PrintFault>
@@ -146,7 +147,7 @@ fn step<S: Source, W: Write>(
 pub(crate) fn write_value<S: Source, W: Write>(
     checked: &mut Checked<S>,
     node: Node,
-    walk: Walk,
+    walk: PrintWalk,
     sink: &mut Sink,
     out: &mut W,
 ) -> Result<(), PrintFault>

@@ -7,8 +7,8 @@ use Rattle.std.proofs.lemmas.List.{get_or-append_right, get_or-take, get_or_appe
 use Rattle.std.proofs.lemmas.Option.{same_Some, slice_get-get_or, slice_get_past}
 use Rattle.bplist_objects.specs.declared.frame.Frame.{Frame}
 use Rattle.bplist_objects.specs.declared.head.Head.{Head}
-use Rattle.bplist_objects.specs.declared.kind.Kind.{Kind}
-use Rattle.bplist_objects.specs.declared.kind.Kind.TheVariants as kinds
+use Rattle.bplist_objects.specs.declared.head.Kind.{Kind}
+use Rattle.bplist_objects.specs.declared.head.Kind.TheVariants as kinds
 use Rattle.bplist_objects.specs.Frame.{IsFrame}
 use Rattle.bplist_objects.specs.Heads.{Content, Spells, content_at, refs}
 use Rattle.bplist_objects.specs.Safe.{ref_count}
@@ -16,7 +16,7 @@ use Rattle.bplist_objects.specs.Scan.{nth_number, ref}
 use Rattle.bplist_objects.proofs.FrameTies.{numbered}
 use Rattle.bplist_objects.proofs.ProperLeaves.{refs_below}
 use Rattle.bplist_objects.proofs.References.{each_ref, nth-refs}
-use Rattle.bplist_cursor.specs.declared.found.Node.{Node}
+use Rattle.bplist_cursor.specs.declared.node.Node.{Node}
 use Rattle.bplist_cursor.specs.Members.{IsNumberOf, member_reference, named, node_of}
 use Rattle.bplist_cursor.proofs.Membership.{no_node, node_of_number}
 use Rattle.bplist_c.specs.Members.{AreSpelled, MembersSay}

@@ -11,8 +11,8 @@ use Rattle.bplist_cert.specs.Encoding.{octets_of}
 use Rattle.bplist_cert.specs.Lists.{IsCertificate, Lists}
 use Rattle.bplist_cert.specs.Sorted.{IsAccepted}
 use Rattle.bplist_lint.specs.declared.answer.Lint.{Lint}
-use Rattle.bplist_lint.specs.declared.refusal.LintRefusal.{LintRefusal}
-use Rattle.bplist_lint.specs.declared.refusal.LintRefusal.TheVariants as refusals
+use Rattle.bplist_lint.specs.declared.answer.LintRefusal.{LintRefusal}
+use Rattle.bplist_lint.specs.declared.answer.LintRefusal.TheVariants as refusals
 use Rattle.bplist_lint.specs.Refusals.{Lints}
 use Rattle.bplist_c.specs.declared.handle.BplistHandle.{BplistHandle}
 use Rattle.bplist_c.specs.declared.verdict.BplistVerdict.{BplistVerdict}

@@ -3,14 +3,14 @@ use Rattle.std.proofs.Common.{◌≡◌, ◌≢◌, ◌∙◌, ℕ, List, [], le
 use Rattle.std.specs.Global.{Global}
 use Rattle.bplist_objects.specs.Value.{Value}
 use Rattle.bplist_objects.specs.declared.frame.Frame.{Frame}
-use Rattle.bplist_cursor.specs.declared.form.Form.TheVariants.{Length}
+use Rattle.bplist_cursor.specs.declared.sizes.Form.TheVariants.{Length}
 use Rattle.bplist_cursor.specs.Forms.{form_of, form_of_text}
 use Rattle.bplist_cursor.specs.Nodes.{cap}
 use Rattle.bplist_cursor.specs.OldStyle.{value_text}
 use Rattle.bplist_cursor.specs.Sizes.{Table, form_in}
 use Rattle.bplist_ascii.specs.Printed.{IsPrinted}
-use Rattle.bplist_ascii.specs.declared.print_fault.PrintFault.{PrintFault}
-use Rattle.bplist_ascii.specs.declared.print_fault.PrintFault.TheVariants as faults
+use Rattle.bplist_ascii.specs.declared.printer.PrintFault.{PrintFault}
+use Rattle.bplist_ascii.specs.declared.printer.PrintFault.TheVariants as faults
 use Rattle.bplist_c.specs.Texts.{IsTextOf, length_in, printed_as, text_length}
 
 -- the length of a text that C is given

@@ -4,10 +4,10 @@ use Rattle.std.specs.Str.{IsUtf8}
 use Rattle.bplist_objects.specs.Holds.{Holds}
 use Rattle.bplist_objects.specs.Value.{Value}
 use Rattle.bplist_cert.specs.CheckedFile.{CheckedFile}
-use Rattle.bplist_cursor.specs.declared.found.Found.{Found}
-use Rattle.bplist_cursor.specs.declared.found.Found.TheVariants.{At, Missing}
-use Rattle.bplist_cursor.specs.declared.found.Why.{Why}
-use Rattle.bplist_cursor.specs.declared.found.Why.TheVariants.{NoIndex, NoKey, NotSteppable}
+use Rattle.bplist_cursor.specs.declared.node.Found.{Found}
+use Rattle.bplist_cursor.specs.declared.node.Found.TheVariants.{At, Missing}
+use Rattle.bplist_cursor.specs.declared.node.Why.{Why}
+use Rattle.bplist_cursor.specs.declared.node.Why.TheVariants.{NoIndex, NoKey, NotSteppable}
 use Rattle.bplist_cursor.specs.Found.{IsFound}
 use Rattle.bplist_cursor.specs.Path.{IsPathOf, IsNoPath}
 use Rattle.bplist_c.specs.declared.lookup.BplistFound.{BplistFound}

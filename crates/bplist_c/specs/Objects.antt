@@ -7,7 +7,7 @@ use Rattle.bplist_objects.specs.contracts.kind.Kind.{the_type}
 use Rattle.bplist_objects.specs.Value.{int, text, uid}
 use Rattle.bplist_objects.specs.declared.frame.Frame.{Frame}
 use Rattle.bplist_objects.specs.declared.head.Head.{Head}
-use Rattle.bplist_objects.specs.declared.kind.Kind.{Kind}
+use Rattle.bplist_objects.specs.declared.head.Kind.{Kind}
 use Rattle.bplist_objects.specs.Heads.{Content, IsHeadOf, leaf}
 use Rattle.bplist_cert.specs.CheckedFile.{CheckedFile}
 use Rattle.bplist_cert.specs.Valid.{IsVouchedBy}

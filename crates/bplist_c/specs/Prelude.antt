@@ -10,7 +10,7 @@ pub use Rattle.bplist_objects.specs.Units.{IsTextKind, units_of}
 pub use Rattle.bplist_objects.specs.Value.{int}
 pub use Rattle.bplist_objects.specs.declared.frame.Frame.{Frame}
 pub use Rattle.bplist_objects.specs.declared.head.Head.{Head}
-pub use Rattle.bplist_objects.specs.declared.kind.Kind.TheVariants.{Dict}
+pub use Rattle.bplist_objects.specs.declared.head.Kind.TheVariants.{Dict}
 pub use Rattle.bplist_objects.specs.declared.rule.Rule.{Rule}
 pub use Rattle.bplist_objects.specs.RuleTexts.{text_of}
 pub use Rattle.bplist_objects.specs.Words.{number_of as number_of_rule, word_of}
@@ -23,12 +23,12 @@ pub use Rattle.bplist_lint.specs.Linted.{IsLinted}
 pub use Rattle.bplist_lint.specs.Refusals.{Lints, no_circle}
 pub use Rattle.bplist_lint.specs.Trail.{number}
 pub use Rattle.bplist_lint.specs.declared.answer.Lint.{Lint}
-pub use Rattle.bplist_lint.specs.declared.refusal.LintRefusal.{LintRefusal}
+pub use Rattle.bplist_lint.specs.declared.answer.LintRefusal.{LintRefusal}
 pub use Rattle.bplist_cursor.specs.Forms.{form_of}
 pub use Rattle.bplist_cursor.specs.Found.{AreMeasuresOf, IsFound}
 pub use Rattle.bplist_cursor.specs.Members.{member_reference}
 pub use Rattle.bplist_cursor.specs.Nodes.{cap, nodes}
-pub use Rattle.bplist_cursor.specs.declared.found.Found.{Found}
+pub use Rattle.bplist_cursor.specs.declared.node.Found.{Found}
 pub use Rattle.bplist_c.specs.Lifecycle.{CertificateSays, IsAcceptedFor, IsCheckedFor, IsOpened, IsPair, certified}
 pub use Rattle.bplist_c.specs.Lookup.{FindSays, step_answer, told_found, why_status}
 pub use Rattle.bplist_c.specs.Members.{AreSpelled, MembersSay}
@@ -40,7 +40,7 @@ pub use Rattle.bplist_c.specs.Texts.{IsTextOf, TellsText, printed_as, text_lengt
 pub use Rattle.bplist_c.specs.Verdicts.{ShowsLint, circle_answer, refused_told}
 pub use Rattle.bplist_c.specs.declared.object.BplistBody.{BplistBody}
 pub use Rattle.bplist_c.specs.declared.object.BplistInteger.{BplistInteger}
-pub use Rattle.bplist_c.specs.declared.session.Session.{Session}
+pub use Rattle.bplist_c.specs.declared.handle.Session.{Session}
 pub use Rattle.bplist_c.specs.declared.sizes.BplistSizes.{BplistSizes}
 pub use Rattle.bplist_c.specs.declared.status.Status.{Status}
 pub use Rattle.bplist_c.specs.declared.status.Status.TheVariants.{Closed, Memory, NoMember, NoRule, NoStatus, Opened}

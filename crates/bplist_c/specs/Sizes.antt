@@ -1,7 +1,7 @@
 -- What C is given of the size of a value. Source: profile.
 use Rattle.std.specs.Prelude.{ℕ}
-use Rattle.bplist_cursor.specs.declared.form.Form.{Form}
-use Rattle.bplist_cursor.specs.declared.form.Form.TheVariants.{NoForm, Length}
+use Rattle.bplist_cursor.specs.declared.sizes.Form.{Form}
+use Rattle.bplist_cursor.specs.declared.sizes.Form.TheVariants.{NoForm, Length}
 use Rattle.bplist_c.specs.declared.sizes.BplistSizes.{BplistSizes}
 
 -- this number of nodes and this form, as C is given them

@@ -3,15 +3,15 @@ use Rattle.std.specs.Prelude.{◌≡◌, ℕ, List, Option, Some, None, Result, 
 use Rattle.std.specs.Global.{Global}
 use Rattle.bplist_objects.specs.Value.{Value}
 use Rattle.bplist_objects.specs.declared.frame.Frame.{Frame}
-use Rattle.bplist_cursor.specs.declared.form.Form.{Form}
-use Rattle.bplist_cursor.specs.declared.form.Form.TheVariants.{NoForm, Length}
+use Rattle.bplist_cursor.specs.declared.sizes.Form.{Form}
+use Rattle.bplist_cursor.specs.declared.sizes.Form.TheVariants.{NoForm, Length}
 use Rattle.bplist_cursor.specs.Formless.{IsFormless}
 use Rattle.bplist_cursor.specs.Forms.{form_of}
 use Rattle.bplist_cursor.specs.OldStyle.{value_text}
 use Rattle.bplist_cursor.specs.Sizes.{Table, form_in}
 use Rattle.bplist_ascii.specs.Printed.{HasText}
-use Rattle.bplist_ascii.specs.declared.print_fault.PrintFault.{PrintFault}
-use Rattle.bplist_ascii.specs.declared.print_fault.PrintFault.TheVariants as faults
+use Rattle.bplist_ascii.specs.declared.printer.PrintFault.{PrintFault}
+use Rattle.bplist_ascii.specs.declared.printer.PrintFault.TheVariants as faults
 use Rattle.bplist_c.specs.declared.status.Status.{Status}
 use Rattle.bplist_c.specs.declared.status.Status.TheVariants.{Memory, NoText, Short}
 use Rattle.bplist_c.specs.declared.text.BplistWritten.{BplistWritten}

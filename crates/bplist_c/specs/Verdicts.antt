@@ -6,8 +6,8 @@ use Rattle.bplist_objects.specs.declared.head.Head.{Head}
 use Rattle.bplist_objects.specs.Frame.{IsFrame}
 use Rattle.bplist_objects.specs.Heads.{IsHeadOf}
 use Rattle.bplist_lint.specs.declared.answer.Lint.{Lint}
-use Rattle.bplist_lint.specs.declared.refusal.LintRefusal.{LintRefusal}
-use Rattle.bplist_lint.specs.declared.refusal.LintRefusal.TheVariants as refusals
+use Rattle.bplist_lint.specs.declared.answer.LintRefusal.{LintRefusal}
+use Rattle.bplist_lint.specs.declared.answer.LintRefusal.TheVariants as refusals
 use Rattle.bplist_c.specs.declared.status.Status.{Status}
 use Rattle.bplist_c.specs.declared.status.Status.TheVariants as statuses
 use Rattle.bplist_c.specs.declared.verdict.BplistVerdict.{BplistVerdict}

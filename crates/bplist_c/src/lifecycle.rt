@@ -1,13 +1,17 @@
 //! Opens and closes handles.
 
 ghost use Rattle.std.specs.Prelude.{◌≡◌, ◌≢◌, ◌⊎◌, ⊤, ℕ, List, None, Ok, Result, IfSome, IsSome, MatchResult, false};
-ghost use Rattle.bplist_c.specs.Prelude.{Head as head, IsHeadOf, source_over, IsVouchingFault, IsChecked, octets_of as certificate_octets, IsCertificate, Lint as lint_answer, LintRefusal as lint_refusal, IsFileFault, IsFileCircle, IsLinted, Lints, no_circle, Status as status, Closed, Opened, CertificateSays, IsAcceptedFor, IsCheckedFor, IsOpened, IsPair, certified, kind_number, IsSame, Puts, items_of, number_of as number, NO_VERDICT, ShowsLint};
+ghost use Rattle.bplist_c.specs.Prelude.{Head as head, IsHeadOf, source_over, IsVouchingFault, IsChecked};
+ghost use Rattle.bplist_c.specs.Prelude.{octets_of as certificate_octets, IsCertificate, Lint as lint_answer};
+ghost use Rattle.bplist_c.specs.Prelude.{LintRefusal as lint_refusal, IsFileFault, IsFileCircle, IsLinted, Lints};
+ghost use Rattle.bplist_c.specs.Prelude.{no_circle, Status as status, Closed, Opened, CertificateSays, IsAcceptedFor};
+ghost use Rattle.bplist_c.specs.Prelude.{IsCheckedFor, IsOpened, IsPair, certified, kind_number, IsSame, Puts};
+ghost use Rattle.bplist_c.specs.Prelude.{items_of, number_of as number, NO_VERDICT, ShowsLint};
 ghost use Rattle.bplist_cert.specs.declared.certificate.CertRefusal.TheVariants as refusals;
 
-use crate::handle::BplistHandle;
+use crate::handle::{BplistHandle, Session};
 use crate::linter::{lint_file, show};
 use crate::object::{head_of_object, number_of};
-use crate::session::Session;
 use crate::status::{Status, put_answer};
 use crate::verdict::{BplistVerdict, NO_VERDICT, Top};
 use bplist_cert::{CertRefusal, Certificate, Checked, Refusal, check};

@@ -1,7 +1,10 @@
 //! The linter for C.
 
 ghost use Rattle.std.specs.Prelude.{◌≡◌, ◌⊎◌, Err, MatchResult, Result, map};
-ghost use Rattle.bplist_c.specs.Prelude.{Frame as frame, Head as head, IsFrame, IsHeadOf, Lint as lint_answer, LintRefusal as lint_refusal, IsFileFault, IsFileCircle, IsLinted, Lints, number, Memory, Puts, items_of, kind_number as number_of_kind, circle_answer, ShowsLint};
+ghost use Rattle.bplist_c.specs.Prelude.{Frame as frame, Head as head, IsFrame, IsHeadOf, Lint as lint_answer};
+ghost use Rattle.bplist_c.specs.Prelude.{LintRefusal as lint_refusal, IsFileFault, IsFileCircle, IsLinted, Lints};
+ghost use Rattle.bplist_c.specs.Prelude.{number, Memory, Puts, items_of, kind_number as number_of_kind, circle_answer};
+ghost use Rattle.bplist_c.specs.Prelude.{ShowsLint};
 
 use crate::object::number_of as kind_number;
 use crate::status::{Status, put_answer};

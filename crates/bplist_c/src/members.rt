@@ -1,10 +1,12 @@
 //! Gives the members of containers, by their objects.
 
-ghost use Rattle.std.specs.Prelude.{◌≡◌, ◌≢◌, ◌+◌, ◌*◌, ◌%◌, ◌^◌, ◌≤◌, ◌<◌, ℕ, List, Result, length, ok_or, slice_index};
-ghost use Rattle.bplist_c.specs.Prelude.{Spells, IsSafeHead, member_reference, nth_number, ref_count, Dict, AreSpelled, MembersSay, Status as status, NoMember, OnObject, IsFileOf, IsSame, OnHandle, Puts, Tells};
+ghost use Rattle.std.specs.Prelude.{◌≡◌, ◌≢◌, ◌+◌, ◌*◌, ◌%◌, ◌^◌, ◌≤◌, ◌<◌, ℕ, List, Result, length, ok_or};
+ghost use Rattle.std.specs.Prelude.{slice_index};
+ghost use Rattle.bplist_c.specs.Prelude.{Spells, IsSafeHead, member_reference, nth_number, ref_count, Dict, AreSpelled};
+ghost use Rattle.bplist_c.specs.Prelude.{MembersSay, Status as status, NoMember, OnObject, IsFileOf, IsSame, OnHandle};
+ghost use Rattle.bplist_c.specs.Prelude.{Puts, Tells};
 
-use crate::handle::BplistHandle;
-use crate::loan::{give_back, lend};
+use crate::handle::{BplistHandle, give_back, lend};
 use crate::object::head_of_object;
 use crate::status::{Status, tell};
 use bplist_cert::Checked;

@@ -2,7 +2,7 @@
 
 ghost use Rattle.std.specs.Prelude.{◌≡◌};
 ghost use Rattle.bplist_c.specs.Prelude.{NO_VERDICT, refused_told};
-ghost use Rattle.bplist_lint.specs.declared.refusal.LintRefusal.TheVariants as refusals;
+ghost use Rattle.bplist_lint.specs.declared.answer.LintRefusal.TheVariants as refusals;
 
 use crate::status::Status;
 use bplist_lint::{LintRefusal, ObjectNos};

@@ -1,8 +1,7 @@
 //! Answers the calls about one file.
 
-use crate::checks::accepted;
-use crate::lines::{bytes_of_hex, words_of};
-use crate::requests::{Request, request_of};
+use crate::counts::accepted;
+use crate::requests::{Request, bytes_of_hex, request_of, words_of};
 use anyhow::{Result, anyhow, bail, ensure};
 use bplist_cert::{Certificate, Checked};
 use bplist_cursor::{Form, List, Measures, Node, Query, Reply, answer, bytes_of, measure, member};

@@ -1,9 +1,9 @@
 //! Counts what the calls that look at a whole file read of it.
 
-use crate::checks::{accepted, upgraded};
-use anyhow::Result;
-use bplist_cert::{Certificate, Checked};
-use bplist_lint::lint;
+use anyhow::{Result, anyhow, bail};
+use bplist_cert::{Certificate, Checked, check};
+use bplist_lint::{lint, upgrade};
+use bplist_octets::Source;
 use bplist_samples::{CountingSource, Counts};
 use std::alloc::Global;
 use std::cell::Cell;
@@ -55,4 +55,23 @@ fn write_line<W: Write>(name: &str, counts: &Cell<Counts>, out: &mut W) -> Resul
     counts.set(Counts::default());
     writeln!(out, "{name} {reads} {bytes}")?;
     Ok(())
+}
+
+//@@ checks: Certificates that must be accepted.
+
+/// Checks the source with this certificate.
+pub(crate) fn accepted<S: Source + Drop>(
+    alloc: Global,
+    source: S,
+    certificate: Certificate,
+) -> Result<Checked<S>> {
+    match check(alloc, source, certificate) {
+        Ok(checked) => Ok(checked),
+        Err((refusal, _, _)) => bail!("check: {refusal:?}"),
+    }
+}
+
+/// Makes the certificate of version 2.
+pub(crate) fn upgraded<S: Source>(alloc: Global, checked: &mut Checked<S>) -> Result<Certificate> {
+    upgrade(alloc, checked).map_err(|fault| anyhow!("upgrade: {fault:?}"))
 }

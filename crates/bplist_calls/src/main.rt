@@ -27,9 +27,7 @@
 #![tactic(auto)]
 
 mod answers;
-mod checks;
 mod counts;
-mod lines;
 mod repeated_calls;
 mod requests;
 

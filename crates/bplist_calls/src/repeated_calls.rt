@@ -1,6 +1,6 @@
 //! Makes each call of the library twice. If memory is refused in the first call, the second shows what is left.
 
-use crate::checks::{accepted, upgraded};
+use crate::counts::{accepted, upgraded};
 use anyhow::{Result, anyhow, bail};
 use bplist_cert::{CertRefusal, Certificate, Checked, Refusal, check};
 use bplist_lint::lint;

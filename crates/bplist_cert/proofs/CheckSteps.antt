@@ -10,7 +10,7 @@ use Rattle.bplist_objects.specs.declared.fault.ObjectFault.TheVariants as errors
 use Rattle.bplist_objects.specs.declared.frame.Frame.{Frame}
 use Rattle.bplist_objects.specs.declared.frame.ObjectNo.{ObjectNo}
 use Rattle.bplist_objects.specs.declared.head.Head.{Head}
-use Rattle.bplist_objects.specs.declared.kind.Kind.TheVariants as kinds
+use Rattle.bplist_objects.specs.declared.head.Kind.TheVariants as kinds
 use Rattle.bplist_objects.specs.Frame.{off, IsFrame}
 use Rattle.bplist_objects.specs.Safe.{ref_count}
 use Rattle.bplist_objects.specs.Answers.{GivesFault, Never}
@@ -33,8 +33,8 @@ use Rattle.bplist_cert.specs.Heights.{AreMet, IsUnmetFault}
 use Rattle.bplist_objects.specs.Claims.{FailsAt}
 use Rattle.bplist_cert.specs.DictKeys.{KeysAreTexts, KeysDiffer, IsKeylessFault}
 use Rattle.bplist_cert.specs.CheckRules.{Asks, KeepsRule, BreaksRule, KeepsCheck, IsCheckFault, check_rules, rules_before_keys, key_rules, KeepsLast}
-use Rattle.bplist_cert.specs.declared.checker.Look.{Look}
-use Rattle.bplist_cert.specs.declared.checker.Look.TheVariants.{Quick, Exact}
+use Rattle.bplist_cert.specs.declared.checker.Pass.{Pass}
+use Rattle.bplist_cert.specs.declared.checker.Pass.TheVariants.{Quick, Exact}
 use Rattle.bplist_cert.specs.Looks.{KeepsBeforeKeys, KeepBeforeKeysBelow, IsShown, IsShownFault}
 use Rattle.bplist_cert.specs.KeyRepeats.{HasGoodKeys, BreaksKeys, IsFirstKeysFault}
 use Rattle.bplist_cert.specs.PairFault.{IsCheckedObject, AreCheckedBelow, IsWalkFault, IsSeenFault, IsVouchedFault, IsPairFault}
@@ -178,7 +178,7 @@ module _ (f : List ℕ) (F : Frame) (heights : List ℕ) (keys : Option Keyed) (
         pub held : (head.kind ≡ kinds.Dict → KeysAreTexts f F head head.count × KeepsLast f F keys n head) → IsCheckedObject f F (lists heights keys) Exact n now
         held last = record { sums = more; room = room; kept = good_keeps seen.kept (good_at f F keys n head has last) }
 
-  module _ (look : Look) where
+  module _ (look : Pass) where
     below_by : ((m : ℕ) → m < n → IsVouchedBy heights m → IsShown f F (lists heights keys) look m) → (IsVouchedBy heights n → IsShown f F (lists heights keys) look n)
         → (m : ℕ) → m < suc n → IsVouchedBy heights m → IsShown f F (lists heights keys) look m
     below_by below here m lt v = go (cases_lt m n)
@@ -200,7 +200,7 @@ module _ (f : List ℕ) (F : Frame) (heights : List ℕ) (keys : Option Keyed) (
     held_more t run u h = record { sums = h.sums; room = h.room; kept = below_by run.kept (λ _. h.kept) }
 
   -- the fault of a vouched object is that of the walk
-  pub fault_met : IsVouchedBy heights n → (look : Look) (t : ℕ) → AreCheckedBelow f F (lists heights keys) Quick n t → (fault : Fault)
+  pub fault_met : IsVouchedBy heights n → (look : Pass) (t : ℕ) → AreCheckedBelow f F (lists heights keys) Quick n t → (fault : Fault)
       → IsShownFault f F (lists heights keys) look n fault → IsWalkFault f F (lists heights keys) look fault
   fault_met v Quick t run fault h = tt
   fault_met v Exact t run fault h = record { object = n; vouched = v; first = h; seen = run.kept }
@@ -213,7 +213,7 @@ vouched_inside heights count n e v = elim (cases_lt n (length heights)) [
 ]
 
 -- before the first object
-pub start : (f : List ℕ) (F : Frame) (certificate : Lists) (look : Look) → IsFrame f F → AreCheckedBelow f F certificate look 0 0
+pub start : (f : List ℕ) (F : Frame) (certificate : Lists) (look : Pass) → IsFrame f F → AreCheckedBelow f F certificate look 0 0
 start f F certificate look frame = record {
   sums = sums_none f F (IsVouchedBy certificate.heights);
   room = omega (arith, (numbered frame).table_early);

@@ -4,7 +4,7 @@ use Rattle.std.proofs.lemmas.Bool.{cases_eq, cases_lt, false≢true}
 use Rattle.std.proofs.lemmas.List.{get_or-set_same, get_or-set_other, get_or-replicate, get_or_past, length-replicate}
 use Rattle.bplist_objects.specs.declared.frame.Frame.{Frame}
 use Rattle.bplist_objects.specs.declared.head.Head.{Head}
-use Rattle.bplist_objects.specs.declared.kind.Kind.TheVariants as kinds
+use Rattle.bplist_objects.specs.declared.head.Kind.TheVariants as kinds
 use Rattle.bplist_objects.specs.Numbers.{num_at}
 use Rattle.bplist_objects.specs.Scan.{AreBelow, IsFirstNotBelow}
 use Rattle.bplist_objects.specs.Safe.{ref_count}
@@ -17,7 +17,7 @@ use Rattle.bplist_objects.proofs.RuleLaws.{kept_all_after}
 use Rattle.bplist_objects.proofs.ProperLeaves.{spells_bodies}
 use Rattle.bplist_objects.proofs.HeadTies.{shape_announced}
 use Rattle.bplist_cert.specs.DictKeys.{IsText}
-use Rattle.bplist_cert.specs.declared.low_bytes.Stretch.{Stretch}
+use Rattle.bplist_cert.specs.declared.caches.Stretch.{Stretch}
 use Rattle.bplist_cert.specs.LowBytes.{IsLow, stretch_at, AreLow}
 
 -- no stretch

@@ -3,8 +3,8 @@ use Rattle.std.proofs.Common.{◌≡◌, ℕ, zero, suc, ◌<◌, ◌≤◌, ◌
 use Rattle.std.specs.List.{AllByRecursion, AllZip}
 use Rattle.bplist_objects.specs.Numbers.{nums_at}
 use Rattle.bplist_objects.specs.declared.frame.Frame.{Frame}
-use Rattle.bplist_objects.specs.declared.kind.Kind.{Kind}
-use Rattle.bplist_objects.specs.declared.kind.Kind.TheVariants as kinds
+use Rattle.bplist_objects.specs.declared.head.Kind.{Kind}
+use Rattle.bplist_objects.specs.declared.head.Kind.TheVariants as kinds
 use Rattle.bplist_objects.specs.Value.{text, Value, leaf, array, set, dict, Values, no_values, value, Pairs, no_pairs, pair, keys}
 use Rattle.bplist_objects.specs.Heads.{Content, Spells, content_of, refs}
 use Rattle.bplist_objects.specs.Holds.{Holds, HoldEach, HoldPairs, AreDistinct}

@@ -9,7 +9,7 @@ use Rattle.bplist_objects.specs.Heads.{HasShape}
 use Rattle.bplist_objects.specs.Units.{IsTextKind, compare_units}
 use Rattle.bplist_keys.specs.Runs.{AreRuns}
 use Rattle.bplist_cert.specs.declared.key_order.ReadKey.{ReadKey}
-use Rattle.bplist_cert.specs.declared.key_pairs.OrderedPairs.{OrderedPairs}
+use Rattle.bplist_cert.specs.declared.caches.OrderedPairsCache.{OrderedPairsCache}
 use Rattle.bplist_keys.specs.Texts.{HasTextShape, text_units}
 use Rattle.bplist_objects.specs.Safe.{IsSafeBody}
 use Rattle.bplist_objects.specs.Scan.{ref}
@@ -37,7 +37,7 @@ module _ (f : List ℕ) (F : Frame) where
       (i a b : ℕ) → b < 4294967296 → 0 < slice_index slots i → slice_index slots i ≡ a * 4294967296 + b → Ascends a b
 
   -- the stored pairs are in order, and the runs are those of the file
-  abbrev pub AreKnown : OrderedPairs → Type 0
+  abbrev pub AreKnown : OrderedPairsCache → Type 0
   AreKnown pairs = ArePairs pairs.slots × AreRuns f pairs.runs.slots
 
   -- key m is a text by marker and count, and comes after the one before it, if there is one

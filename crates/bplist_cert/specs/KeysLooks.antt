@@ -2,10 +2,10 @@
 use Rattle.std.specs.Prelude.{◌≡◌, ℕ, ◌<◌, IsTrue, List, IfSome, MatchOption}
 use Rattle.bplist_objects.specs.declared.frame.Frame.{Frame}
 use Rattle.bplist_objects.specs.declared.head.Head.{Head}
-use Rattle.bplist_objects.specs.declared.kind.Kind.TheVariants.{Dict}
+use Rattle.bplist_objects.specs.declared.head.Kind.TheVariants.{Dict}
 use Rattle.bplist_objects.specs.Announced.{HasHead}
-use Rattle.bplist_cert.specs.declared.key_lists.ListLook.{ListLook}
-use Rattle.bplist_cert.specs.declared.keys_look.KeysLook.{KeysLook}
+use Rattle.bplist_cert.specs.declared.key_lists.KeyListFindings.{KeyListFindings}
+use Rattle.bplist_cert.specs.declared.key_lists.KeyFindings.{KeyFindings}
 use Rattle.bplist_cert.specs.Lists.{Keyed, Lists}
 use Rattle.bplist_cert.specs.Valid.{IsVouchedBy}
 use Rattle.bplist_cert.specs.CheckRules.{HasOrder}
@@ -18,17 +18,17 @@ abbrev pub IsListed : List ℕ → Frame → Keyed → ℕ → Type 0
 IsListed f F keyed n = (head : Head) → HasHead f F n head → head.kind ≡ Dict → HaveTextShapes f F head × HasOrder f F keyed n head
 
 -- the caches that keys are looked up in are true of the file
-abbrev pub AreLearnt : List ℕ → Frame → ListLook → Type 0
+abbrev pub AreLearnt : List ℕ → Frame → KeyListFindings → Type 0
 AreLearnt f F look = AreKnown f F look.pairs × AreLow f look.low.slots
 
 -- the caches are true of the file, and if the walk found all key lists good, then those below a bound are
-pub record HaveGoodLists (f : List ℕ) (F : Frame) (heights : List ℕ) (keyed : Keyed) (bound : ℕ) (look : ListLook) : Type 0 where
+pub record HaveGoodLists (f : List ℕ) (F : Frame) (heights : List ℕ) (keyed : Keyed) (bound : ℕ) (look : KeyListFindings) : Type 0 where
   pub learnt : AreLearnt f F look
   pub good : IsTrue look.good → (n : ℕ) → n < bound → IsVouchedBy heights n → IsListed f F keyed n
 
 -- version 1: the keys of the vouched dictionaries below a bound are named, if they are to be; version 2: their key
 -- lists are good, if the walk found so
-abbrev pub AreSeen : List ℕ → Frame → Lists → ℕ → KeysLook → Type 0
+abbrev pub AreSeen : List ℕ → Frame → Lists → ℕ → KeyFindings → Type 0
 AreSeen f F certificate bound look =
     MatchOption certificate.keys (IfSome look.named (λ named. HaveNamedKeys f F certificate.heights bound named.marks.items))
     (λ keyed. HaveGoodLists f F certificate.heights keyed bound look.lists)

@@ -3,8 +3,8 @@ use Rattle.std.specs.Prelude.{ℕ, List, None}
 use Rattle.bplist_objects.specs.declared.fault.Fault.{Fault}
 use Rattle.bplist_objects.specs.declared.frame.Frame.{Frame}
 use Rattle.bplist_objects.specs.Rules.{KeepsAll}
-use Rattle.bplist_cert.specs.declared.checker.Look.{Look}
-use Rattle.bplist_cert.specs.declared.checker.Look.TheVariants.{Quick, Exact}
+use Rattle.bplist_cert.specs.declared.checker.Pass.{Pass}
+use Rattle.bplist_cert.specs.declared.checker.Pass.TheVariants.{Quick, Exact}
 use Rattle.bplist_cert.specs.Lists.{Lists, lists}
 use Rattle.bplist_cert.specs.Valid.{IsVouchedBy}
 use Rattle.bplist_cert.specs.CheckRules.{KeepsRule, KeepBelow, KeepsCheck, IsCheckFault, rules_before_keys}
@@ -19,11 +19,11 @@ KeepBeforeKeysBelow f F heights n = KeepBelow f F (IsVouchedBy heights) (lists h
 
 module _ (f : List ℕ) (F : Frame) (certificate : Lists) where
   -- what a check of vouched object n without a fault shows
-  abbrev pub IsShown : Look → ℕ → Type 0
+  abbrev pub IsShown : Pass → ℕ → Type 0
   IsShown Quick n = KeepsBeforeKeys f F certificate.heights n
   IsShown Exact n = KeepsCheck f F certificate n
 
   -- a check of vouched object n finds this fault: an exact check the first, a quick one any
-  abbrev pub IsShownFault : Look → ℕ → Fault → Type 0
+  abbrev pub IsShownFault : Pass → ℕ → Fault → Type 0
   IsShownFault Quick n fault = Unit {0}
   IsShownFault Exact n fault = IsCheckFault f F certificate n fault

@@ -1,7 +1,7 @@
 -- Stretches of a file that have only bytes below 128. Source: profile.
 use Rattle.std.specs.Prelude.{ℕ, ◌<◌, ◌≤◌, List, slice_index_or}
 use Rattle.bplist_objects.specs.Numbers.{num_at}
-use Rattle.bplist_cert.specs.declared.low_bytes.Stretch.{Stretch}
+use Rattle.bplist_cert.specs.declared.caches.Stretch.{Stretch}
 
 -- the bytes from one place up to, and without, another are below 128
 abbrev pub IsLow : List ℕ → ℕ → ℕ → Type 0

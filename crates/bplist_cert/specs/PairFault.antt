@@ -9,8 +9,8 @@ use Rattle.bplist_objects.specs.Extents.{Sums}
 use Rattle.bplist_cert.specs.Lists.{Lists}
 use Rattle.bplist_cert.specs.Valid.{IsVouchedBy}
 use Rattle.bplist_cert.specs.CheckRules.{IsLeastFault, IsCheckFault, check_rules}
-use Rattle.bplist_cert.specs.declared.checker.Look.{Look}
-use Rattle.bplist_cert.specs.declared.checker.Look.TheVariants.{Quick, Exact}
+use Rattle.bplist_cert.specs.declared.checker.Pass.{Pass}
+use Rattle.bplist_cert.specs.declared.checker.Pass.TheVariants.{Quick, Exact}
 use Rattle.bplist_cert.specs.Looks.{IsShown, KeepBeforeKeysBelow}
 
 -- the first fault of the least vouched object that has one
@@ -19,13 +19,13 @@ IsVouchedFault f F certificate fault =
     IsLeastFault f F (IsVouchedBy certificate.heights) certificate (check_rules certificate.keys) fault
 
 -- a check of vouched object n finds no fault; with it the vouched objects take t bytes, and there is room for them
-pub record IsCheckedObject (f : List ℕ) (F : Frame) (certificate : Lists) (look : Look) (n t : ℕ) : Type 0 where
+pub record IsCheckedObject (f : List ℕ) (F : Frame) (certificate : Lists) (look : Pass) (n t : ℕ) : Type 0 where
   pub sums : Sums f F (IsVouchedBy certificate.heights) (suc n) t
   pub room : t + 8 ≤ F.table
   pub kept : IsShown f F certificate look n
 
 -- the vouched objects before n are without a fault; they take t bytes, and there is room for them
-pub record AreCheckedBelow (f : List ℕ) (F : Frame) (certificate : Lists) (look : Look) (n t : ℕ) : Type 0 where
+pub record AreCheckedBelow (f : List ℕ) (F : Frame) (certificate : Lists) (look : Pass) (n t : ℕ) : Type 0 where
   pub sums : Sums f F (IsVouchedBy certificate.heights) n t
   pub room : t + 8 ≤ F.table
   pub kept : (m : ℕ) → m < n → IsVouchedBy certificate.heights m → IsShown f F certificate look m
@@ -39,7 +39,7 @@ pub record IsSeenFault (f : List ℕ) (F : Frame) (certificate : Lists) (fault :
 
 -- the fault that ends a walk over the vouched objects, without the rules of keys: the first for an exact walk, any for
 -- a quick one
-abbrev pub IsWalkFault : List ℕ → Frame → Lists → Look → Fault → Type 0
+abbrev pub IsWalkFault : List ℕ → Frame → Lists → Pass → Fault → Type 0
 IsWalkFault f F certificate Quick fault = Unit {0}
 IsWalkFault f F certificate Exact fault = IsSeenFault f F certificate fault
 

@@ -23,10 +23,10 @@ pub use Rattle.bplist_objects.specs.declared.fault.Fault.{Fault}
 pub use Rattle.bplist_objects.specs.declared.frame.Frame.{Frame}
 pub use Rattle.bplist_objects.specs.declared.frame.ObjectNo.{ObjectNo}
 pub use Rattle.bplist_objects.specs.declared.head.Head.{Head}
-pub use Rattle.bplist_objects.specs.declared.kind.Kind.TheVariants.{Dict}
+pub use Rattle.bplist_objects.specs.declared.head.Kind.TheVariants.{Dict}
 pub use Rattle.bplist_objects.specs.declared.rule.Rule.TheVariants.{KeyKind, Overfull}
 pub use Rattle.bplist_keys.specs.Classes.{AreClassed, HasNamedKeys, IsNew, IsStamped}
-pub use Rattle.bplist_keys.specs.Failures.{failed_to_read}
+pub use Rattle.bplist_objects.specs.Failures.{failed_to_read}
 pub use Rattle.bplist_keys.specs.Marks.{IsMarked}
 pub use Rattle.bplist_keys.specs.Ranks.{AreClasses}
 pub use Rattle.bplist_keys.specs.Runs.{AreRuns}
@@ -48,6 +48,6 @@ pub use Rattle.bplist_cert.specs.Refusals.{GivesRefusal, Judges, MayRefuse, is_r
 pub use Rattle.bplist_cert.specs.Sorted.{IsAccepted, IsSorted}
 pub use Rattle.bplist_cert.specs.Valid.{HoldsOneValue, IsValid, IsVouchedBy, SpellsText}
 pub use Rattle.bplist_cert.specs.Versions.{header_octets, is_keyed}
-pub use Rattle.bplist_cert.specs.declared.checker.Look.TheVariants.{Exact, Quick}
+pub use Rattle.bplist_cert.specs.declared.checker.Pass.TheVariants.{Exact, Quick}
 pub use Rattle.bplist_cert.specs.declared.certificate.CertRefusal.TheVariants.{Memory as CertMemory}
 pub use Rattle.bplist_cert.specs.declared.refusal.Refusal.TheVariants.{Memory, Read}

@@ -3,8 +3,8 @@ use Rattle.std.specs.Prelude.{◌≡◌, Bool, true, false, Result, Err, MatchRe
 use Rattle.bplist_objects.specs.declared.fault.Fault.{Fault}
 use Rattle.bplist_objects.specs.declared.fault.ObjectFault.{ObjectFault}
 use Rattle.bplist_objects.specs.declared.fault.ObjectFault.TheVariants as errors
-use Rattle.bplist_keys.specs.declared.failure.Failure.{Failure}
-use Rattle.bplist_keys.specs.declared.failure.Failure.TheVariants as keys_errors
+use Rattle.bplist_objects.specs.declared.fault.Failure.{Failure}
+use Rattle.bplist_objects.specs.declared.fault.Failure.TheVariants as keys_errors
 use Rattle.bplist_cert.specs.declared.refusal.Refusal.{Refusal}
 use Rattle.bplist_cert.specs.declared.refusal.Refusal.TheVariants as refusals
 use Rattle.bplist_cert.specs.Lists.{Keyed}

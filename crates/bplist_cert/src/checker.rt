@@ -1,17 +1,22 @@
 //! The check of a certificate against a file, and its walk over the vouched objects.
 
 ghost use Rattle.std.specs.Prelude.{◌≡◌, ◌+◌, ◌≤◌, ◌<◌, ℕ, length, IfOk, IfErr, MatchResult, Some};
-ghost use Rattle.bplist_cert.specs.Prelude.{AllByRecursion, OnlyReads, Honestly, frame_in, HonestlyIn, off, Sums, IsSafeFrame, ObjectNo as object_no, IsVouchedBy, HoldsOneValue, IsShownFault, ArePlaces, AreSeen, Quick as quick, Exact as exact, IsCheckedObject, AreCheckedBelow, IsWalkFault, IsSeenFault, IsVouchedFault, KeepsPairRules, IsPairFault, Gives, read_failed, Judges, GivesRefusal, is_read, refused_read, MayRefuse, IsAccepted, Never, Reach, Chain, Content, Spells, refs, Frame as frame};
+ghost use Rattle.bplist_cert.specs.Prelude.{AllByRecursion, OnlyReads, Honestly, frame_in, HonestlyIn, off, Sums};
+ghost use Rattle.bplist_cert.specs.Prelude.{IsSafeFrame, ObjectNo as object_no, IsVouchedBy, HoldsOneValue};
+ghost use Rattle.bplist_cert.specs.Prelude.{IsShownFault, ArePlaces, AreSeen, Quick as quick, Exact as exact};
+ghost use Rattle.bplist_cert.specs.Prelude.{IsCheckedObject, AreCheckedBelow, IsWalkFault, IsSeenFault, IsVouchedFault};
+ghost use Rattle.bplist_cert.specs.Prelude.{KeepsPairRules, IsPairFault, Gives, read_failed, Judges, GivesRefusal};
+ghost use Rattle.bplist_cert.specs.Prelude.{is_read, refused_read, MayRefuse, IsAccepted, Never, Reach, Chain, Content};
+ghost use Rattle.bplist_cert.specs.Prelude.{Spells, refs, Frame as frame};
 
 use crate::certificate::Certificate;
 use crate::checked::Checked;
 use crate::heights::{Wanted, check_refs};
-use crate::keys_look::{KeysLook, VouchedPrefix, keys_look};
+use crate::key_lists::{KeyFindings, VouchedPrefix, key_findings};
 use crate::refusal::Refusal;
-use bplist_keys::{OffsetReader, Offsets};
 use bplist_objects::{
-    Extents, Fault, Frame, Framed, ObjectFault, ObjectNo, Rule, Visit, check_body, frame_of,
-    head_in, read_offsets_in, refs_of, visit_in,
+    Extents, Fault, Frame, Framed, ObjectFault, ObjectNo, OffsetReader, Offsets, Rule, Visit,
+    check_body, frame_of, head_in, read_offsets_in, refs_of, visit_in,
 };
 use bplist_octets::Source;
 use std::alloc::Global;
@@ -21,7 +26,7 @@ const BLOCK: usize = 512;
 
 /// How a walk checks each vouched object.
 #[derive(Clone, Copy, Debug)]
-enum Look {
+enum Pass {
     /// By the rules before those of keys, in whatever order is fastest. A fault need not be the first.
     Quick,
     /// By the same rules in their order. A fault is the first.
@@ -30,9 +35,9 @@ enum Look {
 
 /// What a walk over the vouched objects needs besides the source. Passed by value, so that its parts stay in registers.
 #[derive(Clone, Copy, Drop)]
-struct Walk<'a> {
+struct ObjectCheck<'a> {
     certificate: &'a Certificate,
-    look: Look,
+    look: Pass,
 }
 
 /// Checks vouched object `n` at `place` by the rules before those of keys. The vouched objects before it take `used`
@@ -40,7 +45,7 @@ struct Walk<'a> {
 /// together, because only an object has a height.
 fn check_object<P: Framed>(
     src: &mut P,
-    walk: Walk,
+    walk: ObjectCheck,
     n: ObjectNo,
     place: u64,
     used: Extents,
@@ -56,7 +61,7 @@ fn check_object<P: Framed>(
     let frame = src.frame();
     let cert = walk.certificate;
     match walk.look {
-        Look::Quick => match visit_in(src, n, place)? {
+        Pass::Quick => match visit_in(src, n, place)? {
             Visit::Done(end) => Ok(used.with(&frame, n, place, end)?),
             Visit::Body(head) => {
                 let now = used.with(&frame, n, place, head.end)?;
@@ -70,7 +75,7 @@ fn check_object<P: Framed>(
                 Ok(now)
             }
         },
-        Look::Exact => {
+        Pass::Exact => {
             let head = head_in(src, n, place)?;
             let now = used.with(&frame, n, place, head.end)?;
             let heights: &[u32] = &cert.heights;
@@ -85,7 +90,7 @@ fn check_object<P: Framed>(
 /// Checks the vouched objects among those from number `from` on. `places` has their places.
 fn check_block<P: Framed>(
     src: &mut P,
-    walk: Walk,
+    walk: ObjectCheck,
     from: u32,
     places: &[u64],
     used: Extents,
@@ -115,8 +120,8 @@ fn check_block<P: Framed>(
 /// are looked at right after it, while its places and objects are at hand.
 fn check_all<P: Offsets>(
     src: &mut P,
-    walk: Walk,
-    found: &mut KeysLook,
+    walk: ObjectCheck,
+    found: &mut KeyFindings,
 ) -> Result<Extents, ObjectFault>
     requires { length walk.certificate.now.heights ≡ (frame_in (P.means src.old)).objects }
     ensures reads { OnlyReads (read_failed result) (P.means src.old) (P.means src.new) }
@@ -153,7 +158,7 @@ fn check_all<P: Offsets>(
 fn check_in_passes<P: Offsets>(
     src: &mut P,
     cert: &Certificate,
-    found: &mut KeysLook,
+    found: &mut KeyFindings,
 ) -> Result<Extents, ObjectFault>
     requires { length cert.now.heights ≡ (frame_in (P.means src.old)).objects }
     ensures reads { OnlyReads (read_failed result) (P.means src.old) (P.means src.new) }
@@ -161,15 +166,15 @@ fn check_in_passes<P: Offsets>(
         (λ used. AreCheckedBelow f F cert.now quick F.objects used.octets × AreSeen f F cert.now F.objects found.new)
         (λ fault. IsSeenFault f F cert.now fault × AreSeen f F cert.now 0 found.new) result) }
 {
-    let mut walk = Walk {
+    let mut walk = ObjectCheck {
         certificate: cert,
-        look: Look::Quick,
+        look: Pass::Quick,
     };
     match check_all(src, walk, found) {
         Err(ObjectFault::Fault(_)) => {}
         answer => return answer,
     }
-    walk.look = Look::Exact;
+    walk.look = Pass::Exact;
     found.forget();
     check_all(src, walk, found)
 }
@@ -198,7 +203,7 @@ fn check_objects<P: Offsets>(
 {
     let objects = src.frame().objects;
     let heights: &[u32] = &cert.heights;
-    let mut found = keys_look(alloc, src, &cert.keys)?;
+    let mut found = key_findings(alloc, src, &cert.keys)?;
     match check_in_passes(src, cert, &mut found) {
         Ok(used) => {
             let seen = VouchedPrefix {

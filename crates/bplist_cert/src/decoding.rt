@@ -1,13 +1,15 @@
 //! Reads a certificate from bytes, block by block.
 
-ghost use Rattle.std.specs.Prelude.{◌≡◌, ◌≢◌, ◌+◌, ◌*◌, ◌≤◌, Bool, length, take, IfOk, MatchOption, MatchResult, ◌↔◌, IsTrue, ⊤};
-ghost use Rattle.bplist_cert.specs.Prelude.{part, OnlyReads, Honestly, Gives, Never, read_failed, failed_to_read, Lists, IsCertificate, AreWords, octets_of, magic, bytes_high_first, words, Fits, IsOctetsFault, IsCertRefusal, CertMemory as Memory, Judges, refused_read, is_keyed, header_octets};
+ghost use Rattle.std.specs.Prelude.{◌≡◌, ◌≢◌, ◌+◌, ◌*◌, ◌≤◌, Bool, length, take, IfOk, MatchOption, MatchResult, ◌↔◌};
+ghost use Rattle.std.specs.Prelude.{IsTrue, ⊤};
+ghost use Rattle.bplist_cert.specs.Prelude.{part, OnlyReads, Honestly, Gives, Never, read_failed, failed_to_read};
+ghost use Rattle.bplist_cert.specs.Prelude.{Lists, IsCertificate, AreWords, octets_of, magic, bytes_high_first, words};
+ghost use Rattle.bplist_cert.specs.Prelude.{Fits, IsOctetsFault, IsCertRefusal, CertMemory as Memory, Judges};
+ghost use Rattle.bplist_cert.specs.Prelude.{refused_read, is_keyed, header_octets};
 
-use crate::certificate::{CertRefusal, Certificate, KeyLists};
-use crate::encoding::{KEYED_MAGIC, PLAIN_MAGIC};
+use crate::certificate::{CertRefusal, Certificate, KEYED_MAGIC, KeyLists, PLAIN_MAGIC};
 use crate::refusal::Refusal;
-use bplist_keys::Failure;
-use bplist_objects::{Fault, ObjectFault, Rule};
+use bplist_objects::{Failure, Fault, ObjectFault, Rule};
 use bplist_octets::{SliceSource, Source, sized};
 use std::alloc::Global;
 

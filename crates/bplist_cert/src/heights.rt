@@ -1,7 +1,8 @@
 //! Checks the heights of references: rules 28 and 29.
 
 ghost use Rattle.std.specs.Prelude.{◌≡◌, ◌↔◌, ℕ, ◌+◌, ◌≤◌, ◌<◌, length, slice_index, IsTrue, MatchOption};
-ghost use Rattle.bplist_cert.specs.Prelude.{OnlyReads, frame_in, HonestlyIn, IsSafeHead, ref_count, Gives, read_failed, Meets, AreMet, AreMetBy, IsFirstUnmetBy, IsUnmetFault, rule_of};
+ghost use Rattle.bplist_cert.specs.Prelude.{OnlyReads, frame_in, HonestlyIn, IsSafeHead, ref_count, Gives, read_failed};
+ghost use Rattle.bplist_cert.specs.Prelude.{Meets, AreMet, AreMetBy, IsFirstUnmetBy, IsUnmetFault, rule_of};
 
 use bplist_objects::{
     Fault, Framed, Head, ObjectFault, ObjectNo, Rule, read_refs_in, ref_place, refs_of,

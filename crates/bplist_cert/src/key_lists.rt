@@ -1,35 +1,135 @@
 //! Checks that the key lists of vouched dictionaries have their keys in order: rules 21 and 32.
 
-ghost use Rattle.std.specs.Prelude.{◌≡◌, ◌+◌, ◌≤◌, ◌<◌, ℕ, List, Some, IsTrue, false, length};
-ghost use Rattle.bplist_cert.specs.Prelude.{OnlyReads, Gives, Never, read_failed, off, ArePlaces, Frame as frame, frame_in, HonestlyIn, KeepsAll, KeepsByObject, object_rules, Head as head, Dict, lists, HasGoodKeys, HaveGoodKeys, BreaksKeys, IsFirstKeysFault, AreKnown, KeepBeforeKeysBelow, IsListed, HaveGoodLists, AreLearnt, IsVouchedBy};
+ghost use Rattle.std.specs.Prelude.{◌≡◌, ◌+◌, ◌≤◌, ℕ, List, None, IfOk, IfErr, length, ◌<◌, Some, IsTrue, false};
+ghost use Rattle.bplist_cert.specs.Prelude.{OnlyReads, Gives, Never, read_failed, frame_in, HonestlyIn, Frame as frame};
+ghost use Rattle.bplist_cert.specs.Prelude.{Lists, lists, ArePlaces, KeepBeforeKeysBelow, HaveGoodKeys};
+ghost use Rattle.bplist_cert.specs.Prelude.{IsFirstKeysFault, Judges, MayRefuse, refused_read, AreSeen, off, KeepsAll};
+ghost use Rattle.bplist_cert.specs.Prelude.{KeepsByObject, object_rules, Head as head, Dict, HasGoodKeys, BreaksKeys};
+ghost use Rattle.bplist_cert.specs.Prelude.{AreKnown, IsListed, HaveGoodLists, AreLearnt, IsVouchedBy};
 
+use crate::caches::{LowBytesCache, OrderedPairsCache};
 use crate::certificate::KeyLists;
 use crate::heights::{block_of, height_at};
-use crate::key_kinds::{Dictionary, check_texts};
+use crate::key_names::name_key_block;
 use crate::key_order::order_fault;
-use crate::key_pairs::OrderedPairs;
-use crate::keys_look::VouchedPrefix;
-use crate::low_bytes::LowBytes;
-use bplist_keys::{Offsets, object_shape};
-use bplist_objects::{Framed, Kind, ObjectFault, ObjectNo, shape_in};
+use crate::key_rules::{Dictionary, check_key_repeats, check_texts};
+use crate::refusal::Refusal;
+use bplist_keys::NamedKeys;
+use bplist_objects::{Framed, Kind, ObjectFault, ObjectNo, Offsets, object_shape, shape_in};
+use std::alloc::{AllocError, Global};
+
+//@@ keys_look: What the walk over the vouched objects finds out about the keys of dictionaries.
+
+/// The vouched objects with numbers below `bound`, all of which keep the rules before those of keys, and the key lists.
+#[derive(Drop)]
+pub(crate) struct VouchedPrefix<'a> {
+    pub heights: &'a [u32],
+    pub keys: &'a Option<KeyLists>,
+    pub bound: u32,
+    pub ghost within: { bound ≤ length heights.now },
+}
+
+/// What the walk over the vouched objects has found out about the keys of dictionaries so far.
+#[derive(Drop)]
+pub(crate) struct KeyFindings {
+    /// For version 1: the objects that are named as keys, if they are to be collected.
+    pub named: Option<NamedKeys>,
+    /// For version 2: whether the key lists are good.
+    pub lists: KeyListFindings,
+}
+
+/// Returns what a walk begins with.
+pub(crate) fn key_findings<P: Framed>(
+    alloc: Global,
+    src: &P,
+    keys: &Option<KeyLists>,
+) -> Result<KeyFindings, AllocError>
+    ensures none { HonestlyIn (P.means src.now) (λ f F. IfOk result (λ look. (heights : List ℕ) → AreSeen f F (lists heights keys.now) 0 look)) }
+    ensures memory { IfErr result (λ _. keys.now ≡ None) }
+{
+    let objects = src.frame().objects;
+    let named = match keys {
+        None => Some(NamedKeys::new(alloc, objects)?),
+        Some(_) => None,
+    };
+    Ok(KeyFindings {
+        named,
+        lists: KeyListFindings::new(src.len()),
+    })
+}
+
+impl KeyFindings {
+    /// Drops what was found. After this a walk looks at no keys.
+    pub(crate) fn forget(&mut self)
+        ensures { (f : List ℕ) (F : frame) (certificate : Lists) (bound : ℕ) → AreSeen f F certificate 0 self.old
+            → AreSeen f F certificate bound self.new }
+    {
+        self.named = None;
+        self.lists.good = false;
+    }
+
+    /// Looks at the keys of the vouched dictionaries among the next objects, which are at these places.
+    pub(crate) fn look<P: Offsets>(
+        &mut self,
+        src: &mut P,
+        seen: &VouchedPrefix,
+        places: &[u64],
+    ) -> Result<(), ObjectFault>
+        requires { seen.now.bound + length places.now ≤ (frame_in (P.means src.old)).objects }
+        ensures reads { OnlyReads (read_failed result) (P.means src.old) (P.means src.new) }
+        ensures exact { HonestlyIn (P.means src.old) (λ f F. ArePlaces f F seen.now.bound places.now
+            → KeepBeforeKeysBelow f F seen.now.heights.now (seen.now.bound + length places.now)
+            → AreSeen f F (lists seen.now.heights.now seen.now.keys.now) seen.now.bound self.old
+            → Gives (λ _. AreSeen f F (lists seen.now.heights.now seen.now.keys.now) (seen.now.bound + length places.now) self.new) Never result) }
+    {
+        match seen.keys {
+            None => match &mut self.named {
+                Some(named) => name_key_block(src, seen.heights, seen.bound, places, named),
+                None => Ok(()),
+            },
+            Some(keys) => look_at_lists(src, seen, keys, places, &mut self.lists),
+        }
+    }
+
+    /// Checks the keys of the vouched dictionaries seen so far, unless the walk has already shown that they are good.
+    pub(crate) fn check<P: Offsets>(
+        &mut self,
+        alloc: Global,
+        src: &mut P,
+        seen: &VouchedPrefix,
+    ) -> Result<(), Refusal>
+        requires { length seen.now.heights.now ≡ (frame_in (P.means src.old)).objects }
+        ensures reads { OnlyReads (refused_read result) (P.means src.old) (P.means src.new) }
+        ensures memory { IfErr result (MayRefuse seen.now.keys.now) }
+        ensures exact { HonestlyIn (P.means src.old) (λ f F. KeepBeforeKeysBelow f F seen.now.heights.now seen.now.bound
+            → AreSeen f F (lists seen.now.heights.now seen.now.keys.now) seen.now.bound self.old
+            → Judges (λ _. HaveGoodKeys f F seen.now.heights.now seen.now.keys.now seen.now.bound)
+            (IsFirstKeysFault f F (lists seen.now.heights.now seen.now.keys.now) seen.now.bound) result) }
+    {
+        match seen.keys {
+            None => check_key_repeats(alloc, src, seen, self.named.take()),
+            Some(keys) => Ok(check_key_orders(src, seen, keys, &mut self.lists)?),
+        }
+    }
+}
 
 /// The caches that keys are looked up in, and what a walk over the vouched objects found about the key lists.
 #[derive(Drop)]
-pub(crate) struct ListLook {
-    pub pairs: OrderedPairs,
-    pub low: LowBytes,
+pub(crate) struct KeyListFindings {
+    pub pairs: OrderedPairsCache,
+    pub low: LowBytesCache,
     /// Whether all key lists that the walk has seen so far are good.
     pub good: bool,
 }
 
-impl ListLook {
+impl KeyListFindings {
     /// Before the walk, for a file of `len` bytes.
-    pub(crate) fn new(len: u64) -> ListLook
+    pub(crate) fn new(len: u64) -> KeyListFindings
         ensures { (f : List ℕ) (F : frame) → AreLearnt f F result }
     {
-        ListLook {
-            pairs: OrderedPairs::new(),
-            low: LowBytes::new(len),
+        KeyListFindings {
+            pairs: OrderedPairsCache::new(),
+            low: LowBytesCache::new(len),
             good: true,
         }
     }
@@ -42,7 +142,7 @@ fn check_dict_order<P: Offsets>(
     seen: &VouchedPrefix,
     keys: &KeyLists,
     n: u32,
-    look: &mut ListLook,
+    look: &mut KeyListFindings,
 ) -> Result<(), ObjectFault>
     requires { n < (frame_in (P.means src.old)).objects }
     ensures reads { OnlyReads (read_failed result) (P.means src.old) (P.means src.new) }
@@ -90,7 +190,7 @@ fn is_listed<P: Offsets>(
     keys: &KeyLists,
     n: u32,
     place: u64,
-    pairs: &mut OrderedPairs,
+    pairs: &mut OrderedPairsCache,
 ) -> Result<bool, ObjectFault>
     requires { n < (frame_in (P.means src.old)).objects }
     ensures reads { OnlyReads (read_failed result) (P.means src.old) (P.means src.new) }
@@ -116,7 +216,7 @@ pub(crate) fn look_at_lists<P: Offsets>(
     seen: &VouchedPrefix,
     keys: &KeyLists,
     places: &[u64],
-    look: &mut ListLook,
+    look: &mut KeyListFindings,
 ) -> Result<(), ObjectFault>
     requires { seen.now.bound + length places.now ≤ (frame_in (P.means src.old)).objects }
     ensures reads { OnlyReads (read_failed result) (P.means src.old) (P.means src.new) }
@@ -152,7 +252,7 @@ pub(crate) fn check_key_orders<P: Offsets>(
     src: &mut P,
     seen: &VouchedPrefix,
     keys: &KeyLists,
-    look: &mut ListLook,
+    look: &mut KeyListFindings,
 ) -> Result<(), ObjectFault>
     requires { length seen.now.heights.now ≡ (frame_in (P.means src.old)).objects }
     ensures reads { OnlyReads (read_failed result) (P.means src.old) (P.means src.new) }

@@ -1,7 +1,10 @@
 //! Collects the objects that vouched dictionaries name as keys.
 
 ghost use Rattle.std.specs.Prelude.{◌≡◌, ◌⊎◌, ◌+◌, ◌<◌, ◌≤◌, ℕ, None, IfOk, IfSome, OnOk, length};
-ghost use Rattle.bplist_cert.specs.Prelude.{OnlyReads, Gives, Never, read_failed, off, frame_in, HonestlyIn, KeepsAll, KeepsByObject, object_rules, HasNamedKeys, HaveNamedKeys, IsKeyOf, IsVouchedKey, ArePlaces, IsMarked, IsVouchedBy, KeepBeforeKeysBelow, Judges, refused_read};
+ghost use Rattle.bplist_cert.specs.Prelude.{OnlyReads, Gives, Never, read_failed, off, frame_in, HonestlyIn, KeepsAll};
+ghost use Rattle.bplist_cert.specs.Prelude.{KeepsByObject, object_rules, HasNamedKeys, HaveNamedKeys, IsKeyOf};
+ghost use Rattle.bplist_cert.specs.Prelude.{IsVouchedKey, ArePlaces, IsMarked, IsVouchedBy, KeepBeforeKeysBelow};
+ghost use Rattle.bplist_cert.specs.Prelude.{Judges, refused_read};
 
 use crate::heights::block_of;
 use crate::refusal::Refusal;
@@ -39,7 +42,7 @@ fn name_object<P: Framed>(
 
 /// Names the keys of the vouched dictionaries among the objects from number `from` on, which are at these places. Skips
 /// objects of height 1, which have no references.
-pub(crate) fn name_block<P: Framed>(
+pub(crate) fn name_key_block<P: Framed>(
     src: &mut P,
     heights: &[u32],
     from: u32,
@@ -95,7 +98,7 @@ pub(crate) fn seen_keys<P: Framed>(
         let now = (bound - done).min(BLOCK as u32);
         let places = &mut buffer[..now as usize];
         read_offsets_in(src, done, places)?;
-        name_block(src, heights, done, places, &mut named)?;
+        name_key_block(src, heights, done, places, &mut named)?;
         done += now;
     }
     Ok(named)

@@ -1,7 +1,10 @@
 //! Laws about the definitions in specs/. Each law is the contract of a function that does nothing.
 
 ghost use Rattle.std.specs.Prelude.{◌≡◌, ◌⊎◌, ℕ, ◌<◌, List, length, slice_index, Bool};
-ghost use Rattle.bplist_cert.specs.Prelude.{OnlyReads, Fault as fault, Frame as frame, Head as head, Value, Content, Spells, Holds, Chain, Reach, Refs, Lists, IsCertificate, octets_of, IsVouchedBy, IsValid, HoldsOneValue, SpellsText, IsSorted, IsAccepted, KeysAreTexts, KeysDiffer, AreInOrder, IsPairFault, CheckedFile, meaning_of};
+ghost use Rattle.bplist_cert.specs.Prelude.{OnlyReads, Fault as fault, Frame as frame, Head as head, Value, Content};
+ghost use Rattle.bplist_cert.specs.Prelude.{Spells, Holds, Chain, Reach, Refs, Lists, IsCertificate, octets_of};
+ghost use Rattle.bplist_cert.specs.Prelude.{IsVouchedBy, IsValid, HoldsOneValue, SpellsText, IsSorted, IsAccepted};
+ghost use Rattle.bplist_cert.specs.Prelude.{KeysAreTexts, KeysDiffer, AreInOrder, IsPairFault, CheckedFile, meaning_of};
 
 /// Certificates with the same bytes are the same.
 pub fn one_certificate()

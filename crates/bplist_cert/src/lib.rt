@@ -39,22 +39,17 @@
 //! | laws | laws about the definitions in specs/ | [`one_certificate`], [`yes_or_fault`] and others |
 #![tactic(auto)]
 
+mod caches;
 mod certificate;
 mod checked;
 mod checker;
 mod decoding;
-mod encoding;
 mod heights;
-mod key_kinds;
 mod key_lists;
 mod key_names;
-mod key_offsets;
 mod key_order;
-mod key_pairs;
-mod key_repeats;
-mod keys_look;
+mod key_rules;
 mod laws;
-mod low_bytes;
 mod refusal;
 
 pub use certificate::{CertRefusal, Certificate, KeyLists};

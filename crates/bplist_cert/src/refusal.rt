@@ -4,8 +4,7 @@ ghost use Rattle.std.specs.Prelude.{◌≡◌};
 ghost use Rattle.bplist_cert.specs.Prelude.{Memory, Read, refusal_of, refusal_of_keys};
 ghost use Rattle.bplist_cert.specs.declared.refusal.Refusal.TheVariants.{Fault as is_fault};
 
-use bplist_keys::Failure;
-use bplist_objects::{Fault, ObjectFault};
+use bplist_objects::{Failure, Fault, ObjectFault};
 use bplist_octets::ReadFault;
 use std::alloc::{AllocError, AllocFailed};
 

@@ -12,7 +12,7 @@ use Rattle.bplist_objects.specs.Scan.{nth_number}
 use Rattle.bplist_objects.proofs.References.{length-refs, nth-refs}
 use Rattle.bplist_objects.proofs.Parts.{get_or-part}
 use Rattle.bplist_objects.proofs.Units.{length-part}
-use Rattle.bplist_cursor.specs.declared.measures.Size.{Size}
+use Rattle.bplist_cursor.specs.declared.sizes.Size.{Size}
 use Rattle.bplist_cursor.specs.Sizes.{Table, both, size_in, added}
 use Rattle.bplist_cursor.proofs.SizeSteps.{added-append}
 

@@ -9,8 +9,8 @@ use Rattle.bplist_objects.specs.Heads.{Content, Spells, refs}
 use Rattle.bplist_objects.specs.Holds.{Holds, HoldEach, HoldPairs}
 use Rattle.bplist_objects.proofs.ObjectValues.{OneHead}
 use Rattle.bplist_objects.proofs.Lists.{all_front, all_behind}
-use Rattle.bplist_cursor.specs.declared.form.Form.{Form}
-use Rattle.bplist_cursor.specs.declared.form.Form.TheVariants.{Length}
+use Rattle.bplist_cursor.specs.declared.sizes.Form.{Form}
+use Rattle.bplist_cursor.specs.declared.sizes.Form.TheVariants.{Length}
 use Rattle.bplist_cursor.specs.Nodes.{cap}
 use Rattle.bplist_cursor.specs.Texts.{text_of_units}
 use Rattle.bplist_cursor.specs.OldStyle.{comma, value_text, members_text, pairs_text}

@@ -15,7 +15,7 @@ use Rattle.bplist_cursor.specs.Look.{stepped, look}
 use Rattle.bplist_cursor.specs.Leads.{LeadTo}
 use Rattle.bplist_cursor.specs.Found.{IsHeld}
 use Rattle.bplist_cursor.specs.KeySearch.{halvings, RisesAtMost}
-use Rattle.bplist_cursor.specs.declared.found.Why.{Why}
+use Rattle.bplist_cursor.specs.declared.node.Why.{Why}
 use Rattle.std.specs.Bool.{⊤}
 use Rattle.bplist_cursor.specs.Causes.{GivesCursor, read_failed}
 use Rattle.bplist_cursor.proofs.Causes.{IsUnread, IsExcused}

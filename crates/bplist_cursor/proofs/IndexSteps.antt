@@ -12,11 +12,11 @@ use Rattle.bplist_objects.proofs.References.{length-nums_at, as_many, dict_parts
 use Rattle.bplist_objects.specs.declared.head.Head.{Head}
 use Rattle.bplist_cursor.specs.KeySearch.{halvings_of}
 use Rattle.bplist_cursor.proofs.BinaryDigits.{digits_2}
-use Rattle.bplist_objects.specs.declared.kind.Kind.{Kind}
-use Rattle.bplist_objects.specs.declared.kind.Kind.TheVariants as kinds
+use Rattle.bplist_objects.specs.declared.head.Kind.{Kind}
+use Rattle.bplist_objects.specs.declared.head.Kind.TheVariants as kinds
 use Rattle.bplist_cursor.specs.Steps.{SpellTexts, IsKeyIndex, IsRefIndex}
-use Rattle.bplist_cursor.specs.declared.found.Why.TheVariants as why
-use Rattle.bplist_cursor.specs.declared.path_step.RefIndex.TheVariants as ref_index
+use Rattle.bplist_cursor.specs.declared.node.Why.TheVariants as why
+use Rattle.bplist_cursor.specs.declared.steps.RefIndex.TheVariants as ref_index
 use Rattle.bplist_cursor.proofs.Counts.{pair_counts}
 use Rattle.bplist_cursor.proofs.Keys.{value_ref}
 

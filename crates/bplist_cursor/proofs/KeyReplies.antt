@@ -3,16 +3,16 @@ use Rattle.std.proofs.Common.{Ok, ◌≡◌, ℕ, List, [], ◌∷◌, refl, ap,
 use Rattle.std.specs.List.{AllZip}
 use Rattle.bplist_objects.specs.declared.frame.Frame.{Frame}
 use Rattle.bplist_objects.specs.declared.head.Head.{Head}
-use Rattle.bplist_objects.specs.declared.kind.Kind.{Kind}
-use Rattle.bplist_objects.specs.declared.kind.Kind.TheVariants as kinds
+use Rattle.bplist_objects.specs.declared.head.Kind.{Kind}
+use Rattle.bplist_objects.specs.declared.head.Kind.TheVariants as kinds
 use Rattle.bplist_objects.specs.Value.{Value, leaf, array, set, dict, Pairs, no_pairs, pair, keys}
 use Rattle.bplist_objects.specs.Heads.{Content, Spells, content_of, content_at}
 use Rattle.bplist_objects.specs.Holds.{Holds, HoldPairs}
 use Rattle.bplist_objects.proofs.References.{dict_parts}
 use Rattle.bplist_cert.specs.Valid.{SpellsText}
-use Rattle.bplist_cursor.specs.declared.reply.Reply.TheVariants as replies
-use Rattle.bplist_cursor.specs.declared.reply.Query.{Query}
-use Rattle.bplist_cursor.specs.declared.reply.Query.TheVariants as queries
+use Rattle.bplist_cursor.specs.declared.answers.Reply.TheVariants as replies
+use Rattle.bplist_cursor.specs.declared.answers.Query.{Query}
+use Rattle.bplist_cursor.specs.declared.answers.Query.TheVariants as queries
 use Rattle.bplist_cursor.specs.Look.{look}
 use Rattle.bplist_cursor.specs.Replies.{reply, told_of, keys_reply}
 use Rattle.bplist_cursor.specs.Queries.{steps_in, reply_at}

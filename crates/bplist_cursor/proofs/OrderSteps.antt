@@ -13,7 +13,7 @@ use Rattle.bplist_objects.specs.Holds.{Holds}
 use Rattle.bplist_objects.proofs.Lists.{all_from}
 use Rattle.bplist_cert.specs.Valid.{IsVouchedBy, IsValid}
 use Rattle.bplist_cert.proofs.VouchedObjects.{object_holds, references_lower}
-use Rattle.bplist_cursor.specs.declared.measures.Size.{Size}
+use Rattle.bplist_cursor.specs.declared.sizes.Size.{Size}
 use Rattle.bplist_cursor.specs.Sizes.{Table, size_of, size_in, IsSized, AreMeasures}
 use Rattle.bplist_cursor.specs.declared.faults.CursorFault.{CursorFault}
 use Rattle.bplist_cursor.proofs.Causes.{IsExcused}

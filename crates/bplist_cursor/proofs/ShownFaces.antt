@@ -5,8 +5,8 @@ use lib.Seq.{take-append-le}
 use Rattle.bplist_octets.specs.Octets.{part}
 use Rattle.bplist_objects.specs.declared.frame.Frame.{Frame}
 use Rattle.bplist_objects.specs.declared.head.Head.{Head}
-use Rattle.bplist_objects.specs.declared.kind.Kind.{Kind}
-use Rattle.bplist_objects.specs.declared.kind.Kind.TheVariants as kinds
+use Rattle.bplist_objects.specs.declared.head.Kind.{Kind}
+use Rattle.bplist_objects.specs.declared.head.Kind.TheVariants as kinds
 use Rattle.bplist_objects.specs.Value.{Value, leaf, array, set, dict, Values, no_values, value}
 use Rattle.bplist_objects.specs.Announced.{item_size}
 use Rattle.bplist_objects.specs.Heads.{Content, Spells, content_at, content_of}
@@ -14,7 +14,7 @@ use Rattle.bplist_objects.specs.Holds.{Holds, HoldEach}
 use Rattle.bplist_objects.specs.Units.{IsTextKind, units_of}
 use Rattle.bplist_objects.proofs.Units.{length-units_at}
 use Rattle.bplist_objects.proofs.References.{length-nums_at}
-use Rattle.bplist_cursor.specs.declared.faces.Face.TheVariants as faces
+use Rattle.bplist_cursor.specs.declared.face.Face.TheVariants as faces
 use Rattle.bplist_cursor.specs.Replies.{face}
 use Rattle.bplist_cursor.specs.Members.{members}
 use Rattle.bplist_cursor.specs.Shown.{content_face}

@@ -7,9 +7,9 @@ use Rattle.bplist_objects.specs.declared.frame.Frame.{Frame}
 use Rattle.bplist_objects.specs.Value.{text, leaf, array, set, dict, Values, no_values, value, Pairs, no_pairs, pair, keys}
 use Rattle.bplist_objects.specs.Holds.{HoldEach, HoldPairs}
 use Rattle.bplist_objects.proofs.Lists.{all_front, all_behind}
-use Rattle.bplist_cursor.specs.declared.form.Form.{Form}
-use Rattle.bplist_cursor.specs.declared.form.Form.TheVariants.{NoForm, Length}
-use Rattle.bplist_cursor.specs.declared.measures.Size.{Size}
+use Rattle.bplist_cursor.specs.declared.sizes.Form.{Form}
+use Rattle.bplist_cursor.specs.declared.sizes.Form.TheVariants.{NoForm, Length}
+use Rattle.bplist_cursor.specs.declared.sizes.Size.{Size}
 use Rattle.bplist_cursor.specs.Nodes.{cap, nodes_of, nodes_of_pairs}
 use Rattle.bplist_cursor.specs.Texts.{text_of_units}
 use Rattle.bplist_cursor.specs.OldStyle.{comma, value_text, members_text, pairs_text}

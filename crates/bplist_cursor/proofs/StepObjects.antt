@@ -13,8 +13,8 @@ use Rattle.bplist_objects.specs.Holds.{Holds, HoldEach, HoldPairs, AreDistinct}
 use Rattle.bplist_objects.proofs.Lists.{distinct_rest}
 use Rattle.bplist_cursor.specs.Look.{stepped}
 use Rattle.bplist_cursor.specs.Members.{members, entries}
-use Rattle.bplist_cursor.specs.declared.found.Why.{Why}
-use Rattle.bplist_cursor.specs.declared.found.Why.TheVariants as why
+use Rattle.bplist_cursor.specs.declared.node.Why.{Why}
+use Rattle.bplist_cursor.specs.declared.node.Why.TheVariants as why
 use Rattle.bplist_cursor.specs.Leads.{IsTaken, LeadTo}
 use Rattle.bplist_objects.proofs.ObjectValues.{OneHead}
 

@@ -3,8 +3,8 @@ use Rattle.std.specs.Prelude.{◌≡◌, ℕ, ◌+◌, List, [], ◌∷◌, leng
 use Rattle.bplist_objects.specs.declared.frame.Frame.{Frame}
 use Rattle.bplist_objects.specs.Value.{Value}
 use Rattle.bplist_objects.specs.Heads.{Content, leaf, array, set, dict, Spells}
-use Rattle.bplist_cursor.specs.declared.form.Form.{Form}
-use Rattle.bplist_cursor.specs.declared.form.Form.TheVariants.{NoForm, Length}
+use Rattle.bplist_cursor.specs.declared.sizes.Form.{Form}
+use Rattle.bplist_cursor.specs.declared.sizes.Form.TheVariants.{NoForm, Length}
 use Rattle.bplist_cursor.specs.Nodes.{cap}
 use Rattle.bplist_cursor.specs.OldStyle.{leaf_text, value_text}
 

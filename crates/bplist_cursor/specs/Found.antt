@@ -8,8 +8,8 @@ use Rattle.bplist_cert.specs.Valid.{IsVouchedBy}
 use Rattle.bplist_cursor.specs.Look.{look}
 use Rattle.bplist_cursor.specs.Sizes.{Table, AreMeasures}
 use Rattle.bplist_cursor.specs.Leads.{LeadTo}
-use Rattle.bplist_cursor.specs.declared.found.Found.{Found}
-use Rattle.bplist_cursor.specs.declared.found.Found.TheVariants.{At, Missing}
+use Rattle.bplist_cursor.specs.declared.node.Found.{Found}
+use Rattle.bplist_cursor.specs.declared.node.Found.TheVariants.{At, Missing}
 
 -- the units of steps
 abbrev pub units_of : List (Vec ℕ Global) → List (List ℕ)

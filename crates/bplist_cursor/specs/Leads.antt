@@ -3,8 +3,8 @@ use Rattle.std.specs.Prelude.{◌≡◌, ℕ, ◌<◌, List, [], ◌∷◌, leng
 use Rattle.std.specs.Fmt.{decimal}
 use Rattle.bplist_objects.specs.declared.frame.Frame.{Frame}
 use Rattle.bplist_objects.specs.Value.{text}
-use Rattle.bplist_cursor.specs.declared.found.Why.{Why}
-use Rattle.bplist_cursor.specs.declared.found.Why.TheVariants.{NoKey, NoIndex, NotSteppable}
+use Rattle.bplist_cursor.specs.declared.node.Why.{Why}
+use Rattle.bplist_cursor.specs.declared.node.Why.TheVariants.{NoKey, NoIndex, NotSteppable}
 use Rattle.bplist_objects.specs.Heads.{Content, leaf, array, set, dict, Spells}
 
 module _ (f : List ℕ) (F : Frame) where

@@ -5,7 +5,7 @@ use Rattle.bplist_octets.specs.Octets.{part}
 use Rattle.bplist_octets.specs.Slices.{StandsAt}
 use Rattle.bplist_objects.specs.declared.frame.Frame.{Frame}
 use Rattle.bplist_objects.specs.declared.head.Head.{Head}
-use Rattle.bplist_objects.specs.declared.kind.Kind.TheVariants.{Bytes, Ascii}
+use Rattle.bplist_objects.specs.declared.head.Kind.TheVariants.{Bytes, Ascii}
 use Rattle.bplist_objects.specs.Heads.{IsHeadOf, HasShape}
 use Rattle.bplist_cert.specs.CheckedFile.{CheckedFile}
 

@@ -1,12 +1,12 @@
 -- The members of a value in their order: in a dictionary, each key before its value. Source: profile.
 use Rattle.std.specs.Prelude.{◌≡◌, ℕ, ◌+◌, ◌*◌, List, [], ◌∷◌, zip, flat_map, slice_get, option_map, Option, None, MatchOption, IsSomeAnd}
 use Rattle.bplist_objects.specs.declared.frame.Frame.{Frame}
-use Rattle.bplist_objects.specs.declared.kind.Kind.{Kind}
-use Rattle.bplist_objects.specs.declared.kind.Kind.TheVariants.{Dict}
+use Rattle.bplist_objects.specs.declared.head.Kind.{Kind}
+use Rattle.bplist_objects.specs.declared.head.Kind.TheVariants.{Dict}
 use Rattle.bplist_objects.specs.Value.{Value, leaf, array, set, dict, Values, no_values, value, Pairs, no_pairs, pair, text}
 use Rattle.bplist_objects.specs.Heads.{Content, refs}
 use Rattle.bplist_objects.specs.Holds.{Holds}
-use Rattle.bplist_cursor.specs.declared.found.Node.{Node}
+use Rattle.bplist_cursor.specs.declared.node.Node.{Node}
 
 -- values as a list
 abbrev pub members : Values → List Value

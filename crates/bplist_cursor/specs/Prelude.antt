@@ -13,7 +13,7 @@ pub use Rattle.bplist_objects.specs.Units.{IsTextKind, compare_units}
 pub use Rattle.bplist_objects.specs.Value.{Leaf, Value, text}
 pub use Rattle.bplist_objects.specs.declared.fault.ObjectFault.TheVariants.{Fault}
 pub use Rattle.bplist_objects.specs.declared.frame.Frame.{Frame}
-pub use Rattle.bplist_objects.specs.declared.kind.Kind.TheVariants.{Dict}
+pub use Rattle.bplist_objects.specs.declared.head.Kind.TheVariants.{Dict}
 pub use Rattle.bplist_cert.specs.CheckedFile.{HonestlyChecked}
 pub use Rattle.bplist_cert.specs.Lists.{Keyed}
 pub use Rattle.bplist_cert.specs.PairFault.{IsPairFault}
@@ -44,5 +44,5 @@ pub use Rattle.bplist_cursor.specs.Steps.{HonestlyKeyed, IsInside, IsKeyIndex, I
 pub use Rattle.bplist_cursor.specs.declared.faults.CursorFault.{CursorFault}
 pub use Rattle.bplist_cursor.specs.declared.faults.CursorFault.TheVariants.{Memory}
 pub use Rattle.bplist_cursor.specs.declared.faults.Unread.{Unread}
-pub use Rattle.bplist_cursor.specs.declared.form.Form.{Form}
-pub use Rattle.bplist_cursor.specs.declared.measures.Size.{Size}
+pub use Rattle.bplist_cursor.specs.declared.sizes.Form.{Form}
+pub use Rattle.bplist_cursor.specs.declared.sizes.Size.{Size}

@@ -6,9 +6,9 @@ use Rattle.bplist_objects.specs.Holds.{Holds}
 use Rattle.bplist_cert.specs.Valid.{IsVouchedBy}
 use Rattle.bplist_cursor.specs.Nodes.{cap, nodes}
 use Rattle.bplist_cursor.specs.Forms.{form_of, joined}
-use Rattle.bplist_cursor.specs.declared.form.Form.{Form}
-use Rattle.bplist_cursor.specs.declared.form.Form.TheVariants.{Length}
-use Rattle.bplist_cursor.specs.declared.measures.Size.{Size}
+use Rattle.bplist_cursor.specs.declared.sizes.Form.{Form}
+use Rattle.bplist_cursor.specs.declared.sizes.Form.TheVariants.{Length}
+use Rattle.bplist_cursor.specs.declared.sizes.Size.{Size}
 
 -- the size of a value: its nodes and its form
 abbrev pub size_of : Value → Size

@@ -7,10 +7,10 @@ use Rattle.bplist_objects.specs.Heads.{Content, Spells, leaf, dict, refs, conten
 use Rattle.bplist_cert.specs.CheckedFile.{CheckedFile, HonestlyChecked}
 use Rattle.bplist_cursor.specs.Look.{stepped}
 use Rattle.bplist_cursor.specs.Leads.{IsTaken, LeadTo, why_of}
-use Rattle.bplist_cursor.specs.declared.path_step.RefIndex.{RefIndex}
-use Rattle.bplist_cursor.specs.declared.path_step.RefIndex.TheVariants as ref_index
-use Rattle.bplist_cursor.specs.declared.path_step.Step.{Step}
-use Rattle.bplist_cursor.specs.declared.path_step.Step.TheVariants as step
+use Rattle.bplist_cursor.specs.declared.steps.RefIndex.{RefIndex}
+use Rattle.bplist_cursor.specs.declared.steps.RefIndex.TheVariants as ref_index
+use Rattle.bplist_cursor.specs.declared.steps.Step.{Step}
+use Rattle.bplist_cursor.specs.declared.steps.Step.TheVariants as step
 
 -- if the step goes on, it goes to one of this many objects
 abbrev pub IsInside : ℕ → Step → Type 0

@@ -1,22 +1,54 @@
 //! Answers queries about the value of a checked file.
 
 ghost use Rattle.std.specs.Prelude.{⊤, ◌≡◌, ◌<◌, map, IsTrue, IfSome};
-ghost use Rattle.bplist_cursor.specs.Prelude.{HonestlyChecked, Value, Holds, GivesCursor, cursor_read, OnlyReadsFile, IsHeld, AreMeasuresOf, cap, nodes, reply, keys_reply, steps_in, reply_at};
+ghost use Rattle.bplist_cursor.specs.Prelude.{HonestlyChecked, Value, Holds, GivesCursor, cursor_read, OnlyReadsFile};
+ghost use Rattle.bplist_cursor.specs.Prelude.{IsHeld, AreMeasuresOf, cap, nodes, reply, keys_reply, steps_in, reply_at};
 
+use crate::bodies::node_head;
+use crate::face::{Face, List, face};
 use crate::faults::CursorFault;
-use crate::found::{Found, Node};
-use crate::key_texts::key_texts;
+use crate::key_search::key_texts;
 use crate::lookup::locate;
-use crate::measures::Measures;
-use crate::node_face::face;
-use crate::node_object::node_head;
-use crate::object_sizes::measure;
+use crate::node::{Found, Node, Why};
 use crate::path::Path;
-use crate::reply::{Query, Reply};
+use crate::sizes::{Measures, measure};
 use bplist_cert::Checked;
 use bplist_objects::Kind;
 use bplist_octets::Source;
 use std::alloc::Global;
+
+//@@ reply: Queries and their replies.
+
+/// What to ask about the value that a path leads to.
+#[derive(Debug, Drop)]
+pub enum Query {
+    /// Its face.
+    Get(Path),
+    /// The units of its keys, in written order.
+    Keys(Path),
+    /// The number of nodes of its tree.
+    Size(Path),
+}
+
+/// The reply to a query.
+#[derive(Debug, Drop)]
+pub enum Reply {
+    /// To `Get`: the face of the value.
+    Face(Face),
+    /// To `Keys`: the units of each key of the dictionary, in written order.
+    Keys(List<List<u16>>),
+    /// To `Keys`: the value is not a dictionary, so it has no keys.
+    NoKeys,
+    /// To `Size`: the number of nodes of the value's tree, or 18446744073709551615 if it is greater.
+    Size(u64),
+    /// To any query: the path leads to no value.
+    Missing {
+        /// The number of the first step that can't be taken, counted from 0.
+        step: u64,
+        /// Why it can't.
+        why: Why,
+    },
+}
 
 /// Returns the keys of a dictionary, or `NoKeys` if the node holds another value.
 fn keys_at<S: Source>(

@@ -1,14 +1,15 @@
 //! Checks a file with its certificate and answers queries about it: the theorem of the library.
 
 ghost use Rattle.std.specs.Prelude.{◌≡◌, IfOk, IfErr};
-ghost use Rattle.bplist_cursor.specs.Prelude.{Honestly, OnlyReads, Frame as frame, IsAccepted, IsPairFault, Never, IsAnswered, RefusesBy, answer_read};
+ghost use Rattle.bplist_cursor.specs.Prelude.{Honestly, OnlyReads, Frame as frame, IsAccepted, IsPairFault, Never};
+ghost use Rattle.bplist_cursor.specs.Prelude.{IsAnswered, RefusesBy, answer_read};
 ghost use Rattle.bplist_cert.specs.declared.refusal.Refusal.TheVariants as check;
 ghost use Rattle.bplist_cursor.specs.declared.faults.CursorFault.TheVariants as cursor;
-ghost use Rattle.bplist_cursor.specs.declared.certified_answers.AnswerFault.TheVariants.{Fault as is_fault, Read, Changed, Memory};
+ghost use Rattle.bplist_cursor.specs.declared.certified_answers.AnswerFault.TheVariants.{Fault as is_fault, Read};
+ghost use Rattle.bplist_cursor.specs.declared.certified_answers.AnswerFault.TheVariants.{Changed, Memory};
 
-use crate::answers::answer_all;
+use crate::answers::{Query, Reply, answer_all};
 use crate::faults::CursorFault;
-use crate::reply::{Query, Reply};
 use bplist_cert::{Certificate, Refusal, check};
 use bplist_objects::Fault;
 use bplist_octets::{ReadFault, Source};

@@ -2,8 +2,10 @@
 
 ghost use Rattle.std.specs.Prelude.{◌≡◌};
 ghost use Rattle.bplist_objects.specs.declared.fault.ObjectFault.TheVariants.{Read as object_read};
-ghost use Rattle.bplist_cursor.specs.Prelude.{Fault as object_fault, Unread as unread, CursorFault as cursor_fault, Memory};
-ghost use Rattle.bplist_cursor.specs.declared.faults.Unread.TheVariants.{Read as unread_read, Changed as unread_changed};
+ghost use Rattle.bplist_cursor.specs.Prelude.{Fault as object_fault, Unread as unread, CursorFault as cursor_fault};
+ghost use Rattle.bplist_cursor.specs.Prelude.{Memory};
+ghost use Rattle.bplist_cursor.specs.declared.faults.Unread.TheVariants.{Read as unread_read};
+ghost use Rattle.bplist_cursor.specs.declared.faults.Unread.TheVariants.{Changed as unread_changed};
 ghost use Rattle.bplist_cursor.specs.declared.faults.CursorFault.TheVariants.{Read, Changed};
 
 use bplist_objects::ObjectFault;

@@ -1,16 +1,65 @@
 //! Finds a key of a dictionary: by binary search if the certificate has key lists, else by comparing one key after the
 //! other.
 
-ghost use Rattle.std.specs.Prelude.{◌≡◌, ℕ, ◌+◌, ◌^◌, ◌<◌, ◌≤◌, List, length, slice_index, IfOk, IfSome, MatchResult, Option, Some, None};
+ghost use Rattle.std.specs.Prelude.{◌≡◌, ◌<◌, ℕ, List as list, ◌+◌, ◌^◌, ◌≤◌, List, length, slice_index, IfOk, IfSome};
+ghost use Rattle.std.specs.Prelude.{MatchResult, Option, Some, None};
+ghost use Rattle.bplist_cursor.specs.Prelude.{HonestlyChecked, text, Spells, leaf, dict, content_at, IsSafeHead, Dict};
+ghost use Rattle.bplist_cursor.specs.Prelude.{SpellsText, GivesCursor, cursor_read, OnlyReadsFile, part, compare_units};
+ghost use Rattle.bplist_cursor.specs.Prelude.{Keyed, IsVouchedBy, GivesRead, read_failed, SpellTexts, HonestlyKeyed};
+ghost use Rattle.bplist_cursor.specs.Prelude.{IsKeyIndex, IsCompared, IsKeyList, RisesAtMost, ListStarts, IsUnlisted};
+ghost use Rattle.std.specs.List.{AllZip};
 ghost use Rattle.std.specs.Int.Digits.{digits_of};
-ghost use Rattle.bplist_cursor.specs.Prelude.{part, HonestlyChecked, text, Spells, leaf, dict, content_at, compare_units, IsSafeHead, Dict, Keyed, IsVouchedBy, GivesRead, read_failed, OnlyReadsFile, SpellTexts, HonestlyKeyed, IsKeyIndex, IsCompared, IsKeyList, RisesAtMost, ListStarts, IsUnlisted};
 
-use crate::checked_objects::{head_in, reference_in};
-use crate::faults::Unread;
+use crate::face::{List, text_units};
+use crate::faults::{CursorFault, Unread};
+use crate::node::{checked_head, checked_ref};
 use bplist_cert::Checked;
 use bplist_objects::{Head, Kind, ObjectNo, key_cmp};
 use bplist_octets::Source;
+use std::alloc::Global;
 use std::cmp::Ordering;
+
+//@@ key_texts: Reads the keys of a dictionary.
+
+/// Returns the units of text `k`, or `Changed` if object `k` is not a text.
+fn key_text<S: Source>(
+    alloc: Global,
+    checked: &mut Checked<S>,
+    k: ObjectNo,
+) -> Result<List<u16>, CursorFault>
+    requires within { k.0 < checked.old.frame.objects }
+    ensures reads { OnlyReadsFile (cursor_read result) checked.old checked.new }
+    ensures exact { HonestlyChecked checked.old (λ f F. (us : list ℕ) → Spells f F k.0 (leaf (text us))
+        → GivesCursor (λ units. units ≡ us) result) }
+{
+    let head = checked_head(checked, k)?;
+    match head.kind {
+        Kind::Ascii | Kind::Wide => text_units(alloc, checked, &head),
+        _ => Err(CursorFault::Changed),
+    }
+}
+
+/// Returns the units of a dictionary's keys, in written order.
+pub(crate) fn key_texts<S: Source>(
+    alloc: Global,
+    checked: &mut Checked<S>,
+    head: &Head,
+) -> Result<List<List<u16>>, CursorFault>
+    requires head { IsSafeHead checked.old.frame head.now }
+    requires is_dict { head.now.kind ≡ Dict }
+    ensures reads { OnlyReadsFile (cursor_read result) checked.old checked.new }
+    ensures exact { HonestlyChecked checked.old (λ f F. (n : ℕ) (ks ms : list ℕ) → Spells f F n (dict ks ms)
+        → dict ks ms ≡ content_at f F head.now → (us : list (list ℕ)) → AllZip (SpellsText f F) ks us
+        → GivesCursor (λ keys. keys ≡ us) result) }
+{
+    let mut keys = Vec::with_capacity(alloc, head.count as usize)?;
+    for i in 0..head.count {
+        let k = checked_ref(checked, head, i)?;
+        let key = key_text(alloc, checked, k)?;
+        keys.push(key)?;
+    }
+    Ok(List::new(keys))
+}
 
 /// Compares the text of object `k` with these units. Returns `Changed` if the object is not a text.
 fn compare_key<S: Source>(
@@ -25,7 +74,7 @@ fn compare_key<S: Source>(
         → GivesRead (λ o. o ≡ compare_units us units.now) result) }
     ensures comparisons { comparisons.new ≤ comparisons.old + 1 }
 {
-    let head = head_in(checked, k)?;
+    let head = checked_head(checked, k)?;
     match head.kind {
         Kind::Ascii | Kind::Wide => Ok(key_cmp(checked, &head, units, comparisons)?),
         _ => Err(Unread::Changed),
@@ -46,7 +95,7 @@ fn walk_keys<S: Source>(
     ensures inside { IfOk result (λ o. IfSome o (λ i. i < head.now.count)) }
 {
     for i in 0..head.count {
-        let k = reference_in(checked, head, i)?;
+        let k = checked_ref(checked, head, i)?;
         if compare_key(checked, k, units, comparisons)? == Ordering::Equal {
             return Ok(Some(i));
         }
@@ -87,7 +136,7 @@ fn compare_listed<S: Source>(
     if i >= head.count {
         return Err(Unread::Changed);
     }
-    let k = reference_in(checked, head, i)?;
+    let k = checked_ref(checked, head, i)?;
     Ok((i, compare_key(checked, k, units, comparisons)?))
 }
 

@@ -2,7 +2,10 @@
 //! crate rest on those that are private to it: about tables by object, and about the text of a value in two parts.
 
 ghost use Rattle.std.specs.Prelude.{◌≡◌, ◌≤◌, ◌↔◌, ℕ, ◌<◌, List, [], ◌∷◌, Ok, Err, Some, None, Contains, slice_index};
-ghost use Rattle.bplist_cursor.specs.Prelude.{Frame as frame, IsFrame, Value, Content, Spells, refs, Holds, Refs, IsNoPath, IsPathOf, stepped, IsTaken, LeadTo, HasTextKeys, why_of, cap, nodes, Measured, value_text, IsFormed, plain, IsFormless, Formed, form_at, form_of, Form};
+ghost use Rattle.bplist_cursor.specs.Prelude.{Frame as frame, IsFrame, Value, Content, Spells, refs, Holds, Refs};
+ghost use Rattle.bplist_cursor.specs.Prelude.{IsNoPath, IsPathOf, stepped, IsTaken, LeadTo, HasTextKeys, why_of, cap};
+ghost use Rattle.bplist_cursor.specs.Prelude.{nodes, Measured, value_text, IsFormed, plain, IsFormless, Formed};
+ghost use Rattle.bplist_cursor.specs.Prelude.{form_at, form_of, Form};
 
 /// A path text spells exactly one list of steps.
 pub fn one_path()

@@ -1,13 +1,14 @@
 //! Follows a path from the top of a checked file.
 
 ghost use Rattle.std.specs.Prelude.{⊤, ◌≡◌, ◌≢◌, ◌<◌, IsTrue, IsOk, IfOk, OnOk, Err, Vec};
-ghost use Rattle.bplist_cursor.specs.Prelude.{HonestlyChecked, Value, Holds, GivesRead, GivesCursor, read_failed, cursor_read, OnlyReadsFile, halvings, RisesAtMost, IsFound, Memory};
+ghost use Rattle.bplist_cursor.specs.Prelude.{HonestlyChecked, Value, Holds, GivesRead, GivesCursor, read_failed};
+ghost use Rattle.bplist_cursor.specs.Prelude.{cursor_read, OnlyReadsFile, halvings, RisesAtMost, IsFound, Memory};
 ghost use Rattle.bplist_cursor.specs.Found.{units_of};
 
 use crate::faults::{CursorFault, Unread};
-use crate::found::{Found, Node};
+use crate::node::{Found, Node};
 use crate::path::Path;
-use crate::path_step::{Step, step_at};
+use crate::steps::{Step, step_at};
 use bplist_cert::Checked;
 use bplist_octets::{SliceSource, Source};
 

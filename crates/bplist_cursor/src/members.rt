@@ -1,13 +1,16 @@
 //! Finds the members of a node.
 
-ghost use Rattle.std.specs.Prelude.{◌≡◌, ◌≢◌, ℕ, ◌+◌, ◌*◌, ◌^◌, ◌<◌, ◌≤◌, List, length, slice_index, false, IsTrue, IfOk, IfErr, IfSome, MatchOption, option_map, Some, None, Err};
-ghost use Rattle.bplist_cursor.specs.Prelude.{HonestlyChecked, Value, Content, Spells, array, content_at, set, dict, refs, Holds, IsSafeHead, ref_count, IsVouchedBy, GivesCursor, GivesRead, cursor_read, read_failed, OnlyReadsFile, IsNumberOf, HoldsMember, member_of, member_reference, named, node_of, Memory};
+ghost use Rattle.std.specs.Prelude.{◌≡◌, ◌≢◌, ℕ, ◌+◌, ◌*◌, ◌^◌, ◌<◌, ◌≤◌, List, length, slice_index, false, IsTrue};
+ghost use Rattle.std.specs.Prelude.{IfOk, IfErr, IfSome, MatchOption, option_map, Some, None, Err};
+ghost use Rattle.bplist_cursor.specs.Prelude.{HonestlyChecked, Value, Content, Spells, array, content_at, set, dict};
+ghost use Rattle.bplist_cursor.specs.Prelude.{refs, Holds, IsSafeHead, ref_count, IsVouchedBy, GivesCursor, GivesRead};
+ghost use Rattle.bplist_cursor.specs.Prelude.{cursor_read, read_failed, OnlyReadsFile, IsNumberOf, HoldsMember};
+ghost use Rattle.bplist_cursor.specs.Prelude.{member_of, member_reference, named, node_of, Memory};
 ghost use Rattle.bplist_cursor.specs.declared.faults.CursorFault.TheVariants.{Changed};
 
-use crate::checked_objects::reference_in;
+use crate::bodies::node_head;
 use crate::faults::{CursorFault, Unread};
-use crate::found::Node;
-use crate::node_object::node_head;
+use crate::node::{Node, checked_ref};
 use bplist_cert::Checked;
 use bplist_objects::{Head, Kind};
 use bplist_octets::Source;
@@ -49,7 +52,7 @@ pub fn member_by_head<S: Source>(
     let Some(k) = number_of(head, i) else {
         return Ok(None);
     };
-    let object = reference_in(checked, head, k)?;
+    let object = checked_ref(checked, head, k)?;
     if checked.height(object) == 0 {
         return Err(Unread::Changed);
     }

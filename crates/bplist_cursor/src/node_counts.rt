@@ -1,14 +1,15 @@
 //! Counts the nodes of a value by its containers alone. No leaf is read.
 
-ghost use Rattle.std.specs.Prelude.{◌≡◌, ℕ, ◌+◌, ◌<◌, List, length, slice_index, sum_by, Err};
+ghost use Rattle.std.specs.Prelude.{◌≡◌, ℕ, ◌+◌, ◌<◌, List, length, slice_index, sum_by, Err, IfOk, IfErr};
 ghost use Rattle.std.specs.List.{AllByRecursion};
-ghost use Rattle.bplist_cursor.specs.Prelude.{HonestlyChecked, Value, Content, Spells, refs, content_at, Holds, IsSafeHead, IsValid, IsVouchedBy, GivesRead, read_failed, GivesCursor, cursor_read, OnlyReadsFile, cap, nodes, AreInside, IsOrder, IsCounted, AreCounted};
+ghost use Rattle.bplist_cursor.specs.Prelude.{HonestlyChecked, Value, Content, Spells, refs, content_at, Holds};
+ghost use Rattle.bplist_cursor.specs.Prelude.{IsSafeHead, IsValid, IsVouchedBy, GivesRead, read_failed, GivesCursor};
+ghost use Rattle.bplist_cursor.specs.Prelude.{cursor_read, OnlyReadsFile, cap, nodes, AreInside, IsOrder, IsCounted};
+ghost use Rattle.bplist_cursor.specs.Prelude.{AreCounted, AreHigher, Memory};
 ghost use Rattle.bplist_cursor.specs.declared.faults.CursorFault.TheVariants.{Changed};
 
-use crate::checked_objects::head_in;
 use crate::faults::{CursorFault, Unread};
-use crate::found::Node;
-use crate::height_order::in_order;
+use crate::node::{Node, checked_head};
 use bplist_cert::Checked;
 use bplist_objects::{Head, ObjectNo, read_refs_in, refs_of};
 use bplist_octets::Source;
@@ -77,7 +78,7 @@ fn count_object<S: Source>(
         → ((c : Content) → Spells f F n.0 c → AllByRecursion (IsCounted f F counts.now) (refs c))
         → GivesRead (λ count. count ≡ cap (nodes v)) result) }
 {
-    let head = head_in(checked, n)?;
+    let head = checked_head(checked, n)?;
     count_refs(checked, &head, counts)
 }
 
@@ -137,4 +138,43 @@ pub fn count_nodes<S: Source>(
     }
     let counts = count_all(alloc, checked)?;
     Ok(count_at(&counts, node.object.0 as u64))
+}
+
+//@@ height_order: The objects of a checked file in the order of their heights, in which each comes after those to which it refers.
+
+/// Returns the objects that are higher than this, by number.
+fn higher_than<S: Source>(
+    alloc: Global,
+    checked: &Checked<S>,
+    height: u32,
+) -> Result<Vec<u32>, CursorFault>
+    ensures higher { IfOk result (λ order. AreHigher checked.now.certificate.heights height checked.now.frame.objects order.items) }
+    ensures memory { IfErr result (λ e. e ≡ Memory) }
+{
+    let heights = &checked.certificate().heights;
+    let count = heights.iter().filter(|other| **other > height).count();
+    let mut order = Vec::with_capacity(alloc, count)?;
+    for n in 0..checked.frame().objects {
+        if checked.height(ObjectNo(n)) > height {
+            order.push(n)?;
+        }
+    }
+    Ok(order)
+}
+
+/// Returns the objects that are higher than this, in the order of their heights. An object of height 0 is not vouched
+/// for, and one of height 1 has no references.
+pub(crate) fn in_order<S: Source>(
+    alloc: Global,
+    checked: &Checked<S>,
+    height: u32,
+) -> Result<Vec<u32>, CursorFault>
+    ensures order { IfOk result (λ order. IsOrder checked.now.certificate.heights height order.items) }
+    ensures inside { IfOk result (λ order. AreInside order.items checked.now.frame.objects) }
+    ensures memory { IfErr result (λ e. e ≡ Memory) }
+{
+    let _frame = checked.frame();
+    let mut order = higher_than(alloc, checked, height)?;
+    order.sort_unstable_by_key(|n| checked.height(ObjectNo(*n)));
+    Ok(order)
 }

@@ -1,6 +1,7 @@
 //! Paths, and the texts that spell them (RFC 6901).
 
-ghost use Rattle.std.specs.Prelude.{◌≡◌, ◌≢◌, ◌⊎◌, ◌++◌, [], ◌∷◌, List, ℕ, map, flat_map, IfOk, IfErr, MatchOption, IsTrue};
+ghost use Rattle.std.specs.Prelude.{◌≡◌, ◌≢◌, ◌⊎◌, ◌++◌, [], ◌∷◌, List, ℕ, map, flat_map, IfOk, IfErr, MatchOption};
+ghost use Rattle.std.specs.Prelude.{IsTrue};
 ghost use Rattle.bplist_cursor.specs.Path.{IsPathOf, IsNoPath, IsLoose, escaped, units};
 ghost use Rattle.bplist_cursor.specs.Tokens.{IsReadable, Reads, MeetsLoose, left, slash};
 ghost use Rattle.bplist_cursor.specs.PathFaults.{OnText};

@@ -9,5 +9,4 @@ pub mod ListedObjects
 pub mod SortedRanks
 pub mod RankLaws
 pub mod LookUps
-pub mod OffsetSteps
 pub mod RunSteps

@@ -3,7 +3,7 @@ use Rattle.std.proofs.Common.{◌≡◌, ◌≢◌, ℕ, ◌+◌, ◌<◌, ◌�
 use Rattle.std.proofs.lemmas.Bool.{cases_eq, cases_lt}
 use Rattle.std.proofs.lemmas.List.{get_or-set_same, get_or-set_other, get_or_past, get_or_append_left, get_or_push, length_push}
 use Rattle.bplist_objects.specs.declared.frame.Frame.{Frame}
-use Rattle.bplist_keys.specs.declared.weight.Weight.{Weight}
+use Rattle.bplist_keys.specs.declared.weights.Weight.{Weight}
 use Rattle.bplist_keys.specs.Weights.{Weighs, AreWeighed}
 
 -- the objects below n are weighed and listed

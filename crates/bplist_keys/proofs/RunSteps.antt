@@ -9,7 +9,7 @@ use Rattle.bplist_objects.specs.Safe.{IsSafeBody}
 use Rattle.bplist_objects.specs.Units.{IsTextKind, units_of}
 use Rattle.bplist_objects.proofs.ScanLaws.{nth_number-behind}
 use Rattle.bplist_objects.proofs.Units.{length-units_at, nth-units_at}
-use Rattle.bplist_keys.specs.declared.runs.Run.{Run}
+use Rattle.bplist_keys.specs.declared.comparison_cache.Run.{Run}
 use Rattle.bplist_keys.specs.Notes.{Agree}
 use Rattle.bplist_keys.specs.Runs.{AreRuns}
 

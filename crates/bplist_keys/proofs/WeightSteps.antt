@@ -6,7 +6,7 @@ use Rattle.bplist_objects.specs.declared.head.Head.{Head}
 use Rattle.bplist_objects.specs.Heads.{HasShape}
 use Rattle.bplist_objects.specs.Units.{IsTextKind, units_of}
 use Rattle.bplist_objects.proofs.HeadLaws.{head_is_found}
-use Rattle.bplist_keys.specs.declared.weight.Weight.TheVariants.{Fingerprint, Prefix}
+use Rattle.bplist_keys.specs.declared.weights.Weight.TheVariants.{Fingerprint, Prefix}
 use Rattle.bplist_keys.specs.Texts.{HasUnits, text_units}
 use Rattle.bplist_keys.specs.Weights.{fingerprint, prefix, Weighs}
 

@@ -4,9 +4,7 @@ pub mod Texts
 pub mod Weights
 pub mod WeightOrder
 pub mod Ranks
-pub mod Failures
 pub mod Classes
-pub mod Offsets
 pub mod Notes
 pub mod Runs
 pub mod Prelude

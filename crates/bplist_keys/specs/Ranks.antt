@@ -4,7 +4,7 @@ use Rattle.std.specs.Int.{from_bool}
 use Rattle.std.specs.declared.cmp.Ordering.TheVariants.{Less}
 use Rattle.bplist_objects.specs.declared.frame.Frame.{Frame}
 use Rattle.bplist_objects.specs.Units.{compare_units}
-use Rattle.bplist_keys.specs.declared.weight.Weight.{Weight}
+use Rattle.bplist_keys.specs.declared.weights.Weight.{Weight}
 use Rattle.bplist_keys.specs.Marks.{IsMarked}
 use Rattle.bplist_keys.specs.Texts.{HasTextShape, HasUnits}
 use Rattle.bplist_keys.specs.Weights.{AreWeighed}

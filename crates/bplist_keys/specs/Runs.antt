@@ -1,7 +1,7 @@
 -- Runs of units that a file has twice. Source: profile.
 use Rattle.std.specs.Prelude.{◌≡◌, ℕ, ◌+◌, ◌<◌, List, All}
 use Rattle.bplist_objects.specs.Scan.{nth_number}
-use Rattle.bplist_keys.specs.declared.runs.Run.{Run}
+use Rattle.bplist_keys.specs.declared.comparison_cache.Run.{Run}
 
 -- each slot holds a run of this file: units that are the same as those `apart` bytes further on
 abbrev pub AreRuns : List ℕ → List Run → Type 0

@@ -1,8 +1,8 @@
 -- The weights of texts: numbers that are compared before the units. Source: profile.
 use Rattle.std.specs.Prelude.{◌≡◌, ℕ, ◌+◌, ◌*◌, ◌^◌, ◌%◌, ◌<◌, max, List, length, fold, slice_index}
 use Rattle.bplist_objects.specs.declared.frame.Frame.{Frame}
-use Rattle.bplist_keys.specs.declared.weight.Weight.{Weight}
-use Rattle.bplist_keys.specs.declared.weight.Weight.TheVariants.{Fingerprint, Prefix}
+use Rattle.bplist_keys.specs.declared.weights.Weight.{Weight}
+use Rattle.bplist_keys.specs.declared.weights.Weight.TheVariants.{Fingerprint, Prefix}
 use Rattle.bplist_keys.specs.Texts.{HasTextShape, text_units}
 
 -- a fingerprint with one more unit added

@@ -4,11 +4,11 @@ ghost use Rattle.std.specs.Prelude.{◌≡◌, ◌+◌, ◌-◌, ◌<◌, ◌^�
 ghost use Rattle.bplist_octets.specs.Meaning.{OnlyReads};
 ghost use Rattle.bplist_objects.specs.Framed.{frame_in, HonestlyIn};
 ghost use Rattle.bplist_objects.specs.Safe.{IsSafeHead};
-ghost use Rattle.bplist_objects.specs.declared.kind.Kind.TheVariants.{Dict};
+ghost use Rattle.bplist_objects.specs.declared.head.Kind.TheVariants.{Dict};
 ghost use Rattle.bplist_objects.specs.Scan.{ref};
 
 use crate::named_keys::BLOCK;
-use crate::ranks::Ranks;
+use crate::ranks::KeyNumbers;
 use bplist_objects::{Fault, Framed, Head, ObjectNo, Rule, read_refs_in, ref_place};
 use bplist_octets::ReadFault;
 use std::alloc::{AllocError, Global};
@@ -61,7 +61,7 @@ impl KeyDefect {
 /// The classes of keys, and for each class the last dictionary that has it: its number plus 1, or 0 for none.
 #[derive(Drop)]
 pub struct ClassTable {
-    pub classes: Ranks,
+    pub classes: KeyNumbers,
     pub seen: Vec<u32>,
     pub ghost all: { length seen.items ≡ classes.greatest },
 }
@@ -81,7 +81,7 @@ impl ClassTable {
     ghost use Rattle.bplist_keys.specs.Classes.{IsKeyLookup, IsStamped, IsNew, HaveSeenKeys, HaveClasses, AreApart, IsKeyDefect, defect_key};
 
     /// Returns a table in which no class has been seen.
-    pub fn new(alloc: Global, classes: Ranks) -> Result<ClassTable, AllocError>
+    pub fn new(alloc: Global, classes: KeyNumbers) -> Result<ClassTable, AllocError>
         ensures classes { IfOk result (λ table. table.classes.table.items ≡ classes.table.items) }
         ensures none { IfOk result (λ table. (x : ℕ) → slice_index table.seen.items x ≡ 0) }
     {

@@ -31,26 +31,15 @@
 #![tactic(auto)]
 
 mod class_table;
-mod failure;
-mod key_weights;
+mod comparison_cache;
 mod merge_sort;
 mod named_keys;
-mod notes;
-mod numbers;
-mod offset_reader;
-mod offsets;
-mod ordered;
 mod ranks;
-mod runs;
 mod text;
-mod weight;
-mod weight_order;
+mod weights;
 
 pub use class_table::{ClassTable, KeyDefect};
-pub use failure::Failure;
+pub use comparison_cache::RunCache;
 pub use named_keys::{NamedKeys, name_keys, numbers_of};
-pub use offset_reader::OffsetReader;
-pub use offsets::{OffsetTable, Offsets, object_shape, offsets_of};
-pub use ranks::{Ranks, classes_of, ranks_of};
-pub use runs::Runs;
+pub use ranks::{KeyNumbers, classes_of, ranks_of};
 pub use text::{object_text, text_head, text_order};

@@ -1,8 +1,10 @@
 //! The objects that dictionaries name as keys.
 
-ghost use Rattle.std.specs.Prelude.{◌≡◌, ◌⊎◌, Contains, ◌≤◌, ◌<◌, ◌^◌, ℕ, IfOk, OnOk, is_err, false, true, count_by, length, map, set, replicate, slice_index};
+ghost use Rattle.std.specs.Prelude.{◌≡◌, ◌⊎◌, Contains, ◌≤◌, ◌<◌, ◌^◌, ℕ, IfOk, OnOk, is_err, false, true, count_by};
+ghost use Rattle.std.specs.Prelude.{length, map, set, replicate, slice_index};
 ghost use Rattle.std.specs.Int.{from_bool};
-ghost use Rattle.bplist_keys.specs.Prelude.{OnlyReads, frame_in, HonestlyIn, IsSafeHead, Dict, ref, IsMarked, IsNamedBy};
+ghost use Rattle.bplist_keys.specs.Prelude.{OnlyReads, frame_in, HonestlyIn, IsSafeHead, Dict, ref, IsMarked};
+ghost use Rattle.bplist_keys.specs.Prelude.{IsNamedBy};
 
 use bplist_objects::{Framed, Head, read_refs_in};
 use bplist_octets::ReadFault;

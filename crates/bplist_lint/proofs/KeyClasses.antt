@@ -4,7 +4,7 @@ use Rattle.bplist_objects.specs.declared.fault.Fault.{Fault}
 use Rattle.bplist_objects.specs.declared.frame.Frame.{Frame}
 use Rattle.bplist_objects.specs.declared.frame.ObjectNo.{ObjectNo}
 use Rattle.bplist_objects.specs.declared.head.Head.{Head}
-use Rattle.bplist_objects.specs.declared.kind.Kind.TheVariants.{Dict}
+use Rattle.bplist_objects.specs.declared.head.Kind.TheVariants.{Dict}
 use Rattle.bplist_objects.specs.Announced.{HasHead}
 use Rattle.bplist_objects.specs.Frame.{IsFrame}
 use Rattle.bplist_objects.specs.Heads.{content_at, refs}

@@ -5,8 +5,8 @@ use Rattle.std.proofs.lemmas.List.{nil_from_length, length-drop, get_or-drop, dr
 use Rattle.std.specs.Option.{option_map_or}
 use Rattle.bplist_objects.specs.declared.frame.Frame.{Frame}
 use Rattle.bplist_objects.specs.declared.head.Head.{Head}
-use Rattle.bplist_objects.specs.declared.kind.Kind.{Kind}
-use Rattle.bplist_objects.specs.declared.kind.Kind.TheVariants as kinds
+use Rattle.bplist_objects.specs.declared.head.Kind.{Kind}
+use Rattle.bplist_objects.specs.declared.head.Kind.TheVariants as kinds
 use Rattle.bplist_objects.specs.Heads.{Content, HasShape, Spells, content_at, refs}
 use Rattle.bplist_objects.specs.Safe.{ref_count}
 use Rattle.bplist_objects.specs.Markers.{head_found}
@@ -20,7 +20,7 @@ use Rattle.bplist_objects.proofs.ProperLeaves.{body_kept, spells_bodies, bodies_
 use Rattle.bplist_objects.proofs.HeadLaws.{head_is_found}
 use Rattle.bplist_objects.proofs.ReachedObjects.{refs_spelled}
 use Rattle.bplist_objects.proofs.HeadTies.{spells_body}
-use Rattle.bplist_lint.specs.declared.object_graph.View.{View}
+use Rattle.bplist_lint.specs.declared.graph.View.{View}
 use Rattle.bplist_lint.specs.Graph.{IsPart}
 use Rattle.bplist_lint.specs.ReferenceGraph.{refs_announced, hidden, refs_in}
 

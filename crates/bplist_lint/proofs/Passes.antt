@@ -20,8 +20,8 @@ use Rattle.bplist_cert.specs.declared.refusal.Refusal.TheVariants as cert_refusa
 use Rattle.bplist_cert.specs.Refusals.{GivesRefusal}
 use Rattle.bplist_cert.specs.Valid.{IsVouchedBy}
 use Rattle.bplist_cert.proofs.VouchedObjects.{reached_vouched}
-use Rattle.bplist_lint.specs.declared.refusal.LintRefusal.{LintRefusal}
-use Rattle.bplist_lint.specs.declared.refusal.LintRefusal.TheVariants as refusals
+use Rattle.bplist_lint.specs.declared.answer.LintRefusal.{LintRefusal}
+use Rattle.bplist_lint.specs.declared.answer.LintRefusal.TheVariants as refusals
 use Rattle.bplist_lint.specs.declared.answer.Lint.{Lint}
 use Rattle.bplist_lint.specs.declared.walk.Reached.{Reached}
 use Rattle.bplist_lint.specs.Graph.{AreLeast, IsCircleOf}
@@ -29,7 +29,7 @@ use Rattle.bplist_lint.specs.ReachRules.{number_below, references_below, is_mark
 use Rattle.bplist_lint.specs.FileFault.{IsFileFault, IsFileCircle}
 use Rattle.bplist_lint.specs.Refusals.{no_circle}
 use Rattle.bplist_lint.specs.Trail.{number}
-use Rattle.bplist_keys.specs.Offsets.{AreOffsets32}
+use Rattle.bplist_objects.specs.Offsets.{AreOffsets32}
 use Rattle.bplist_lint.specs.OffsetRule.{AreBelowTable, IsOffsetFault}
 use Rattle.bplist_lint.specs.LeastHeights.{AreLeastHeights}
 use Rattle.bplist_lint.specs.Linted.{HaveReferences, KeepsRules, IsLintedBy, HasNoHeights}

@@ -22,7 +22,7 @@ use Rattle.bplist_keys.specs.Marks.{IsMarked}
 use Rattle.bplist_lint.specs.ReachSearch.{IsReady, HasMarks, row_length, place_index, index_count, reference_at, AreGood, AreFollowed, Looked, IsSearching}
 use Rattle.bplist_lint.specs.BitSets.{IsIn}
 use Rattle.bplist_lint.specs.declared.bit_set.BitSet.{BitSet}
-use Rattle.bplist_lint.specs.declared.reach.Search.{Search}
+use Rattle.bplist_lint.specs.declared.reach.ReachSearch.{ReachSearch}
 use Rattle.bplist_lint.proofs.ListWrites.{seen-set, unwritten, count-set}
 
 pub marked_within : (marks : List Bool) (n : ℕ) → IsMarked marks n → n < length marks
@@ -81,7 +81,7 @@ module _ (F : Frame) (some : 1 ≤ F.ref_size) (place k : ℕ) (within : place +
       omega (arith, number_is, fit)
 
 -- the object on top of the stack was taken, and places were looked at
-pub ready_popped : (F : Frame) (search : Search) (stack : Vec ℕ Global) (good : BitSet) (n : ℕ) → IsReady F search → search.stack.items ≡ stack.items ++ n ∷ [] → good.size ≡ search.good.size → IsReady F (record search { stack = stack; good = good })
+pub ready_popped : (F : Frame) (search : ReachSearch) (stack : Vec ℕ Global) (good : BitSet) (n : ℕ) → IsReady F search → search.stack.items ≡ stack.items ++ n ∷ [] → good.size ≡ search.good.size → IsReady F (record search { stack = stack; good = good })
 ready_popped F search stack good n r popped size =
     let all = r.stack_in in
     record {

@@ -3,8 +3,8 @@ use Rattle.std.proofs.Common.{◌≡◌, ℕ, ◌<◌, ◌≤◌, inl, inr, Bool
 use Rattle.std.proofs.lemmas.List.Elements.{Contains-push}
 use Rattle.bplist_objects.specs.declared.frame.Frame.{Frame}
 use Rattle.bplist_objects.specs.declared.head.Head.{Head}
-use Rattle.bplist_objects.specs.declared.kind.Kind.{Kind}
-use Rattle.bplist_objects.specs.declared.kind.Kind.TheVariants as kinds
+use Rattle.bplist_objects.specs.declared.head.Kind.{Kind}
+use Rattle.bplist_objects.specs.declared.head.Kind.TheVariants as kinds
 use Rattle.bplist_objects.specs.Announced.{HasHead}
 use Rattle.bplist_objects.specs.Frame.{off, IsFrame}
 use Rattle.bplist_objects.specs.Heads.{content_at, refs}
@@ -20,7 +20,7 @@ use Rattle.bplist_objects.proofs.References.{length-refs}
 use Rattle.bplist_objects.proofs.RuleLaws.{kept_all_after}
 use Rattle.bplist_objects.proofs.HeadTies.{head_tie, shape_tie}
 use Rattle.bplist_keys.specs.Marks.{IsMarked}
-use Rattle.bplist_lint.specs.declared.tally.Tally.{Tally}
+use Rattle.bplist_lint.specs.declared.table_rules.Tally.{Tally}
 use Rattle.bplist_lint.specs.Tallies.{IsTalliedWith}
 use Rattle.bplist_lint.specs.ReachWalk.{Noted, IsWalkState}
 use Rattle.bplist_lint.proofs.MarkSteps.{noted_none, fresh-set}

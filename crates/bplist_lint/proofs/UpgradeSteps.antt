@@ -12,8 +12,8 @@ use Rattle.bplist_lint.proofs.ListSteps.{upgraded}
 use Rattle.bplist_cert.specs.declared.refusal.Refusal.{Refusal}
 use Rattle.bplist_cert.specs.declared.refusal.Refusal.TheVariants as cert_refusals
 use Rattle.bplist_cert.specs.Refusals.{GivesRefusal}
-use Rattle.bplist_lint.specs.declared.upgrade_fault.UpgradeFault.{UpgradeFault}
-use Rattle.bplist_lint.specs.declared.upgrade_fault.UpgradeFault.TheVariants as faults
+use Rattle.bplist_lint.specs.declared.answer.UpgradeFault.{UpgradeFault}
+use Rattle.bplist_lint.specs.declared.answer.UpgradeFault.TheVariants as faults
 
 -- a broken rule means that the file changed
 abbrev upgrade_fault_of : Refusal → UpgradeFault

@@ -4,8 +4,8 @@ use Rattle.std.proofs.lemmas.Bool.{cases_lt}
 use Rattle.std.proofs.lemmas.List.{length-drop, get_or-drop, length-replicate, get_or-replicate, get_or_append_left, get_or-append_right}
 use Rattle.std.proofs.lemmas.List.Elements.{Contains-get_or}
 use Rattle.bplist_objects.specs.declared.frame.Frame.{Frame}
-use Rattle.bplist_objects.specs.declared.kind.Kind.{Kind}
-use Rattle.bplist_objects.specs.declared.kind.Kind.TheVariants as kinds
+use Rattle.bplist_objects.specs.declared.head.Kind.{Kind}
+use Rattle.bplist_objects.specs.declared.head.Kind.TheVariants as kinds
 use Rattle.bplist_objects.specs.Frame.{IsFrame}
 use Rattle.bplist_objects.specs.Reach.{Reach, next}
 use Rattle.bplist_objects.specs.Safe.{ref_count}
@@ -17,8 +17,8 @@ use Rattle.bplist_objects.proofs.ReachedObjects.{refs_iff, reach_within}
 use Rattle.bplist_objects.proofs.FrameTies.{numbered}
 use Rattle.bplist_keys.specs.Marks.{IsMarked}
 use Rattle.bplist_cert.proofs.CheckSteps.{good_by_kept}
-use Rattle.bplist_lint.specs.declared.object_graph.View.{View}
-use Rattle.bplist_lint.specs.declared.object_graph.View.TheVariants as views
+use Rattle.bplist_lint.specs.declared.graph.View.{View}
+use Rattle.bplist_lint.specs.declared.graph.View.TheVariants as views
 use Rattle.bplist_lint.specs.Graph.{IsWhole, Reaches, Ends, Least, greatest, AreLeast}
 use Rattle.bplist_lint.specs.Graph.Reaches.{onward}
 use Rattle.bplist_lint.specs.Graph.Ends.{ends}

@@ -7,8 +7,8 @@ use Rattle.bplist_lint.specs.ReachSearch.{HasMarks}
 use Rattle.bplist_lint.specs.ReachWalk.{AreApart}
 use Rattle.bplist_lint.specs.declared.heights.State.{State}
 use Rattle.bplist_lint.specs.declared.heights.State.TheVariants.{New, Open, Founded, Circular}
-use Rattle.bplist_lint.specs.declared.heights.Finding.{Finding}
-use Rattle.bplist_lint.specs.declared.heights.Finding.TheVariants as looks
+use Rattle.bplist_lint.specs.declared.heights.ScanResult.{ScanResult}
+use Rattle.bplist_lint.specs.declared.heights.ScanResult.TheVariants as looks
 
 -- the state of object n
 abbrev pub state_at : List State → ℕ → State
@@ -43,14 +43,14 @@ pub record IsHeightWalk (refs : ℕ → List ℕ) (marks : List Bool) (states : 
 
 -- what a scan finds, whatever the references are: an object about which nothing is known, or a height that is at most
 -- the greatest of founded objects
-abbrev pub Finds : ℕ → List State → List ℕ → Finding → Type 0
+abbrev pub Finds : ℕ → List State → List ℕ → ScanResult → Type 0
 Finds size states heights (looks.New i m) = (m < size) × (state_at states m ≡ New)
 Finds size states heights looks.Circular = ⊤
 Finds size states heights (looks.Founded best) =
     (bound : ℕ) → ((n : ℕ) → state_at states n ≡ Founded → slice_index heights n ≤ bound) → best ≤ bound
 
 -- what a scan shows about the references from number `from` on; if it began at 0, the height is the greatest of all
-abbrev pub Shows : List ℕ → List State → List ℕ → ℕ → Finding → Type 0
+abbrev pub Shows : List ℕ → List State → List ℕ → ℕ → ScanResult → Type 0
 Shows references states heights from (looks.New i m) = (i < length references) × (m ≡ slice_index references i)
 Shows references states heights from looks.Circular =
     (m : ℕ) × Contains references m × ((state_at states m ≡ Open) ⊎ (state_at states m ≡ Circular))

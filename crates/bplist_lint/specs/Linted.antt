@@ -3,7 +3,7 @@ use Rattle.std.specs.Prelude.{◌≡◌, ℕ, ◌+◌, ◌≤◌, nat_lt, List, 
 use Rattle.std.specs.List.{range_with_len}
 use Rattle.bplist_objects.specs.declared.frame.Frame.{Frame}
 use Rattle.bplist_objects.specs.declared.head.Head.{Head}
-use Rattle.bplist_objects.specs.declared.kind.Kind.{Kind}
+use Rattle.bplist_objects.specs.declared.head.Kind.{Kind}
 use Rattle.bplist_objects.specs.Frame.{IsFrame}
 use Rattle.bplist_objects.specs.Heads.{Content, refs, Spells, IsHeadOf}
 use Rattle.bplist_objects.specs.Value.{Value}

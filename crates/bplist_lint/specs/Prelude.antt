@@ -17,12 +17,12 @@ pub use Rattle.bplist_objects.specs.Value.{Value}
 pub use Rattle.bplist_objects.specs.declared.fault.ObjectFault.{ObjectFault}
 pub use Rattle.bplist_objects.specs.declared.frame.Frame.{Frame}
 pub use Rattle.bplist_objects.specs.declared.head.Head.{Head}
-pub use Rattle.bplist_objects.specs.declared.kind.Kind.TheVariants.{Dict}
+pub use Rattle.bplist_objects.specs.declared.head.Kind.TheVariants.{Dict}
 pub use Rattle.bplist_objects.specs.declared.rule.Rule.TheVariants.{Overfull}
 pub use Rattle.bplist_keys.specs.Classes.{AreClassed, HasNamedKeys, IsNew, IsStamped, defect_key}
-pub use Rattle.bplist_keys.specs.Failures.{failed_to_read}
+pub use Rattle.bplist_objects.specs.Failures.{failed_to_read}
 pub use Rattle.bplist_keys.specs.Marks.{IsMarked}
-pub use Rattle.bplist_keys.specs.Offsets.{AreOffsets32}
+pub use Rattle.bplist_objects.specs.Offsets.{AreOffsets32}
 pub use Rattle.bplist_keys.specs.Ranks.{AreRanks}
 pub use Rattle.bplist_cert.specs.CheckRules.{key_rules}
 pub use Rattle.bplist_cert.specs.KeyRepeats.{BreaksKeys, HasGoodKeys, KeysAreSound}

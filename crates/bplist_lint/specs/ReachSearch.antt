@@ -7,7 +7,7 @@ use Rattle.bplist_objects.specs.Reach.{Reach}
 use Rattle.bplist_objects.specs.Spelled.{refs_at}
 use Rattle.bplist_keys.specs.Marks.{IsMarked}
 use Rattle.bplist_lint.specs.BitSets.{IsIn}
-use Rattle.bplist_lint.specs.declared.reach.Search.{Search}
+use Rattle.bplist_lint.specs.declared.reach.ReachSearch.{ReachSearch}
 
 -- the references of an object are marked
 abbrev pub HasMarks : List Bool → List ℕ → Type 0
@@ -40,7 +40,7 @@ AreFollowed f F words marks = (k : ℕ) → IsIn words k → IsMarked marks (ref
 
 -- ---- the search
 -- whatever the source gives: each object has a mark, the stack has objects only, and the sets are for all places
-pub record IsReady (F : Frame) (search : Search) : Type 0 where
+pub record IsReady (F : Frame) (search : ReachSearch) : Type 0 where
   pub all_marks : vec_len search.marks ≡ F.objects
   pub stack_in : All (λ m. m < F.objects) search.stack.items
   pub good_size : search.good.size ≡ index_count F
@@ -65,5 +65,5 @@ module _ (f : List ℕ) (F : Frame) where
     pub known_followed : AreFollowed f F followed marks
 
   -- the marked objects of this search, with this stack, are reached
-  abbrev pub Searching : List ℕ → Search → Type 0
+  abbrev pub Searching : List ℕ → ReachSearch → Type 0
   Searching stack search = IsSearching stack search.marks.items search.good.words.items search.followed.words.items

@@ -1,8 +1,8 @@
 -- What a refusal of the linter says. Source: profile.
 use Rattle.std.specs.Prelude.{ℕ, Bool, true, false, List, map, Result, Err, MatchResult}
 use Rattle.bplist_objects.specs.declared.fault.Fault.{Fault}
-use Rattle.bplist_lint.specs.declared.refusal.LintRefusal.{LintRefusal}
-use Rattle.bplist_lint.specs.declared.refusal.LintRefusal.TheVariants as refusals
+use Rattle.bplist_lint.specs.declared.answer.LintRefusal.{LintRefusal}
+use Rattle.bplist_lint.specs.declared.answer.LintRefusal.TheVariants as refusals
 use Rattle.bplist_lint.specs.Trail.{number}
 
 -- the answer is a failed read

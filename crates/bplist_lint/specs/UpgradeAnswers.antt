@@ -1,7 +1,7 @@
 -- What an upgrade returns. Source: profile.
 use Rattle.std.specs.Prelude.{◌≢◌, Bool, true, false, Result, Err, MatchResult}
-use Rattle.bplist_lint.specs.declared.upgrade_fault.UpgradeFault.{UpgradeFault}
-use Rattle.bplist_lint.specs.declared.upgrade_fault.UpgradeFault.TheVariants as faults
+use Rattle.bplist_lint.specs.declared.answer.UpgradeFault.{UpgradeFault}
+use Rattle.bplist_lint.specs.declared.answer.UpgradeFault.TheVariants as faults
 
 -- the answer is a failed read
 abbrev pub upgrade_failed : {X : Type 0} → Result X UpgradeFault → Bool

@@ -1,9 +1,12 @@
 //! Finds the circle that keeps the top from being founded.
 
-ghost use Rattle.std.specs.Prelude.{◌≡◌, ◌<◌, ◌≤◌, IsTrue, drop, map, length, slice_index, Contains, IfOk, IfSome, MatchOption, is_err};
-ghost use Rattle.bplist_lint.specs.Prelude.{OnlyReads, Judges, Never, refused_read, IsWhole, AreWhole, AreObjects, AreLeast, IsFirstWithout, IsCircleOf, number, object, AllHave, IsFirstIndex};
+ghost use Rattle.std.specs.Prelude.{◌≡◌, ◌<◌, ◌≤◌, IsTrue, drop, map, length, slice_index, Contains, IfOk, IfSome};
+ghost use Rattle.std.specs.Prelude.{MatchOption, is_err};
+ghost use Rattle.bplist_lint.specs.Prelude.{OnlyReads, Judges, Never, refused_read, IsWhole, AreWhole, AreObjects};
+ghost use Rattle.bplist_lint.specs.Prelude.{AreLeast, IsFirstWithout, IsCircleOf, number, object, AllHave};
+ghost use Rattle.bplist_lint.specs.Prelude.{IsFirstIndex};
 
-use crate::references::{BLOCK, References};
+use crate::graph::{BLOCK, References};
 use bplist_cert::Refusal;
 use bplist_objects::ObjectNo;
 use bplist_octets::ReadFault;

@@ -1,11 +1,15 @@
 //! Finds which objects are founded, and their least heights.
 
-ghost use Rattle.std.specs.Prelude.{◌≡◌, ◌≢◌, ℕ, ◌+◌, ◌^◌, ◌<◌, Bool, List, [], ◌∷◌, ◌++◌, IsTrue, count_by, length, map, not, set, vec_len, IfOk, OnOk};
-ghost use Rattle.bplist_lint.specs.Prelude.{from_bool, OnlyReads, failed_to_read, IsWhole, AreObjects, IsMarked, Finds, Shows, Standing, IsHeightWalk, AreClosed, AreLeastOf, state_at, first_state};
+ghost use Rattle.std.specs.Prelude.{◌≡◌, ◌≢◌, ℕ, ◌+◌, ◌^◌, ◌<◌, Bool, List, [], ◌∷◌, ◌++◌, IsTrue, count_by, length};
+ghost use Rattle.std.specs.Prelude.{map, not, set, vec_len, IfOk, OnOk};
+ghost use Rattle.bplist_lint.specs.Prelude.{from_bool, OnlyReads, failed_to_read, IsWhole, AreObjects, IsMarked, Finds};
+ghost use Rattle.bplist_lint.specs.Prelude.{Shows, Standing, IsHeightWalk, AreClosed, AreLeastOf, state_at};
+ghost use Rattle.bplist_lint.specs.Prelude.{first_state};
 ghost use Rattle.bplist_lint.specs.declared.heights.State.TheVariants as states;
 
-use crate::references::{BLOCK, References};
-use bplist_keys::{Failure, numbers_of};
+use crate::graph::{BLOCK, References};
+use bplist_keys::numbers_of;
+use bplist_objects::Failure;
 use std::alloc::{AllocError, Global};
 
 /// How many references to read first when the scan of an object resumes.
@@ -26,7 +30,7 @@ enum State {
 
 /// What a scan of an object's references finds.
 #[derive(Clone, Copy, Debug)]
-enum Finding {
+enum ScanResult {
     /// A reference to an object about which nothing is known yet: the index of the reference, and that object.
     New(u64, u32),
     /// A reference to an object that is not founded.
@@ -109,8 +113,8 @@ impl HeightWalk {
         self.heights[n as usize] = height;
     }
 
-    /// Looks at the states of these objects. The index in `Finding::New` counts from the first of them.
-    fn look_at(&self, objects: &[u32]) -> Finding
+    /// Looks at the states of these objects. The index in `ScanResult::New` counts from the first of them.
+    fn look_at(&self, objects: &[u32]) -> ScanResult
         requires inside { AreObjects (vec_len self.now.states) (length objects.now) objects.now }
         requires all { vec_len self.now.heights ≡ vec_len self.now.states }
         ensures finds { Finds (vec_len self.now.states) self.now.states.items self.now.heights.items result }
@@ -119,17 +123,17 @@ impl HeightWalk {
         let mut best = 0;
         for (k, m) in objects.iter().enumerate() {
             match self.states[*m as usize] {
-                State::New => return Finding::New(k as u64, *m),
-                State::Open | State::Circular => return Finding::Circular,
+                State::New => return ScanResult::New(k as u64, *m),
+                State::Open | State::Circular => return ScanResult::Circular,
                 State::Founded => best = best.max(self.heights[*m as usize]),
             }
         }
-        Finding::Founded(best)
+        ScanResult::Founded(best)
     }
 
     /// Scans the references of object `n`, from number `from` on. A scan that resumes reads 4, 8, 16, ... references,
     /// so that an object to which the walk comes back again and again does not have its references read many times.
-    fn look<R: References>(&self, graph: &mut R, n: u32, from: u64) -> Result<Finding, Failure>
+    fn look<R: References>(&self, graph: &mut R, n: u32, from: u64) -> Result<ScanResult, Failure>
         requires n_in { n < (R.graph graph.old).size }
         requires all_states { vec_len self.now.states ≡ (R.graph graph.old).size }
         requires all_heights { vec_len self.now.heights ≡ (R.graph graph.old).size }
@@ -148,20 +152,20 @@ impl HeightWalk {
             let block = &mut buffer[..portion];
             let count = graph.read(n, done, block)?;
             match self.look_at(&block[..count]) {
-                Finding::New(k, m) => return Ok(Finding::New(done + k, m)),
-                Finding::Circular => return Ok(Finding::Circular),
-                Finding::Founded(height) => best = best.max(height),
+                ScanResult::New(k, m) => return Ok(ScanResult::New(done + k, m)),
+                ScanResult::Circular => return Ok(ScanResult::Circular),
+                ScanResult::Founded(height) => best = best.max(height),
             }
             done += count as u64;
             more = count == portion;
             portion = (2 * portion).min(BLOCK);
         }
-        Ok(Finding::Founded(best))
+        Ok(ScanResult::Founded(best))
     }
 
     /// Resumes the scan of open object `n`. If it finds founded objects only, it scans all references again, because
     /// the height needs the greatest of all.
-    fn look_on<R: References>(&self, graph: &mut R, n: u32) -> Result<Finding, Failure>
+    fn look_on<R: References>(&self, graph: &mut R, n: u32) -> Result<ScanResult, Failure>
         requires n_in { n < (R.graph graph.old).size }
         requires all_states { vec_len self.now.states ≡ (R.graph graph.old).size }
         requires all_heights { vec_len self.now.heights ≡ (R.graph graph.old).size }
@@ -174,7 +178,7 @@ impl HeightWalk {
         let from = self.heights[n as usize] as u64;
         if from > 0 {
             match self.look(graph, n, from)? {
-                Finding::Founded(_) => {}
+                ScanResult::Founded(_) => {}
                 found => return Ok(found),
             }
         }
@@ -206,15 +210,15 @@ impl HeightWalk {
         self.open(n)?;
         while let Some(m) = self.stack.pop() {
             match self.look_on(graph, m)? {
-                Finding::New(i, next) => {
+                ScanResult::New(i, next) => {
                     // While an object waits for a child, its height slot holds the index at which its scan resumes:
                     // this one or a lower one.
                     self.heights[m as usize] = i.min(u32::MAX as u64) as u32;
                     self.stack.push(m)?;
                     self.open(next)?;
                 }
-                Finding::Circular => self.settle(m, State::Circular, 0),
-                Finding::Founded(best) => self.settle(m, State::Founded, best + 1),
+                ScanResult::Circular => self.settle(m, State::Circular, 0),
+                ScanResult::Founded(best) => self.settle(m, State::Founded, best + 1),
             }
         }
         Ok(())

@@ -3,13 +3,145 @@
 //! Each text that is named as a key has a class, which is found once for all dictionaries. A repeated key is a repeated
 //! class, and a key without a class is not a text.
 
-ghost use Rattle.std.specs.Prelude.{◌≡◌, ◌↔◌, ℕ, ◌<◌, length};
-ghost use Rattle.bplist_lint.specs.Prelude.{OnlyReads, frame_in, HonestlyIn, Reach, KeepsAll, KeepsByObject, object_rules, HasHead, Dict, KeysAreSound, HasGoodKeys, BreaksKeys, Judges, refused_read, IsMarked, AreChildless, KeepReached, AreNamed, key_rules, AreClassed, IsStamped, IsNew, Head as head_record, IsReachedFault, reach_rules};
+ghost use Rattle.std.specs.Prelude.{◌≡◌, ◌+◌, ◌^◌, ◌<◌, ◌++◌, [], ℕ, ⊤, false, OnOk, length, slice_index, ◌↔◌};
+ghost use Rattle.bplist_lint.specs.Prelude.{OnlyReads, frame_in, HonestlyIn, IsSafeHead, Dict, ref, failed_to_read};
+ghost use Rattle.bplist_lint.specs.Prelude.{ranks_in, positions_in, AreRanked, AreAbove, HaveRanks, IsListed, Upgrades};
+ghost use Rattle.bplist_lint.specs.Prelude.{upgrade_failed, Reach, KeepsAll, KeepsByObject, object_rules, HasHead};
+ghost use Rattle.bplist_lint.specs.Prelude.{KeysAreSound, HasGoodKeys, BreaksKeys, Judges, refused_read, IsMarked};
+ghost use Rattle.bplist_lint.specs.Prelude.{AreChildless, KeepReached, AreNamed, key_rules, AreClassed, IsStamped};
+ghost use Rattle.bplist_lint.specs.Prelude.{IsNew, Head as head_record, IsReachedFault, reach_rules};
 
+use crate::answer::UpgradeFault;
 use bplist_cert::Refusal;
-use bplist_keys::{ClassTable, NamedKeys, Offsets, classes_of, object_shape};
-use bplist_objects::{Framed, Kind, ObjectNo};
-use std::alloc::Global;
+use bplist_keys::{ClassTable, KeyNumbers, NamedKeys, classes_of};
+use bplist_objects::{Failure, Framed, Head, Kind, ObjectNo, Offsets, object_shape, read_refs_in};
+use std::alloc::{AllocError, Global};
+
+//@@ key_lists: Makes key lists: the positions of a dictionary's keys, sorted by the ranks of their texts.
+
+/// The most references that are read at once. It is small because most dictionaries are, and the block is set up for
+/// each of them.
+const BLOCK: usize = 32;
+
+/// A key of a dictionary: the rank of its text, or 0 if it has none, and its number among the keys in written order.
+#[derive(Clone, Copy, Debug, PartialEq, Eq, PartialOrd, Ord)]
+pub(crate) struct RankedKey {
+    pub rank: u32,
+    pub position: u32,
+}
+
+/// Returns the rank of object `m`, or 0 if there is no such object.
+fn rank_of(ranks: &[u32], m: u64) -> u32
+    ensures { result ≡ slice_index ranks.now m }
+{
+    if m < ranks.len() as u64 {
+        ranks[m as usize]
+    } else {
+        0
+    }
+}
+
+/// Appends the keys with these references.
+fn push_keys(ranks: &[u32], numbers: &[u64], keys: &mut Vec<RankedKey>) -> Result<(), AllocError>
+    requires { length keys.old.items + length numbers.now < 2 ^ 32 }
+    ensures more { OnOk result (length keys.new.items ≡ length keys.old.items + length numbers.now) }
+    ensures ranked { (refs : ℕ → ℕ)
+        → ((k : ℕ) → k < length numbers.now → slice_index numbers.now k ≡ refs (length keys.old.items + k))
+        → AreRanked (λ k. slice_index ranks.now (refs k)) keys.old.items
+        → OnOk result (AreRanked (λ k. slice_index ranks.now (refs k)) keys.new.items) }
+{
+    for m in numbers {
+        let position = keys.len() as u32;
+        let rank = rank_of(ranks, *m);
+        keys.push(RankedKey { rank, position })?;
+    }
+    Ok(())
+}
+
+/// Replaces `keys` by the keys of a dictionary, in written order.
+fn rank_keys<P: Framed>(
+    src: &mut P,
+    head: &Head,
+    ranks: &[u32],
+    keys: &mut Vec<RankedKey>,
+) -> Result<(), Failure>
+    requires head { IsSafeHead (frame_in (P.means src.old)) head.now }
+    requires dict { head.now.kind ≡ Dict }
+    requires few { head.now.count < 2 ^ 32 }
+    ensures reads { OnlyReads (failed_to_read result) (P.means src.old) (P.means src.new) }
+    ensures all { OnOk result (length keys.new.items ≡ head.now.count) }
+    ensures ranked { HonestlyIn (P.means src.old) (λ f F.
+        OnOk result (AreRanked (λ k. slice_index ranks.now (ref f F head.now k)) keys.new.items)) }
+{
+    keys.clear();
+    while (keys.len() as u64) < head.count {
+        let from = keys.len() as u64;
+        let count = (head.count - from).min(BLOCK as u64);
+        let mut buffer = [0u64; BLOCK];
+        let numbers = &mut buffer[..count as usize];
+        read_refs_in(src, head, from, numbers)?;
+        push_keys(ranks, numbers, keys)?;
+    }
+    Ok(())
+}
+
+/// Appends the positions of sorted keys. Returns `Changed` if a key has no rank, or the same rank as another key.
+fn push_positions(keys: &[RankedKey], positions: &mut Vec<u32>) -> Result<(), UpgradeFault>
+    ensures read { upgrade_failed result ≡ false }
+    ensures pushed { OnOk result (positions.new.items ≡ positions.old.items ++ positions_in keys.now) }
+    ensures exact { AreAbove (ranks_in keys.now) → Upgrades (λ _. ⊤) result }
+{
+    let mut last = 0;
+    for key in keys {
+        if key.rank <= last {
+            return Err(UpgradeFault::Changed);
+        }
+        last = key.rank;
+        positions.push(key.position)?;
+    }
+    Ok(())
+}
+
+/// The ranks of the texts that are named as keys, and the key lists made so far, one after the other.
+#[derive(Drop)]
+pub(crate) struct KeySorting {
+    pub ranks: KeyNumbers,
+    /// The keys of the last dictionary. Kept to reuse its memory.
+    keys: Vec<RankedKey>,
+    pub positions: Vec<u32>,
+}
+
+impl KeySorting {
+    /// Starts with these ranks and no lists.
+    pub fn new(alloc: Global, ranks: KeyNumbers) -> KeySorting
+        ensures ranks { result.ranks.table.items ≡ ranks.table.items }
+        ensures none { result.positions.items ≡ [] }
+    {
+        KeySorting {
+            ranks,
+            keys: Vec::new(alloc),
+            positions: Vec::new(alloc),
+        }
+    }
+
+    /// Appends the key list of a dictionary: as many positions as it has pairs. After an error some of them may be
+    /// there.
+    pub fn list<P: Framed>(&mut self, src: &mut P, head: &Head) -> Result<(), UpgradeFault>
+        requires head { IsSafeHead (frame_in (P.means src.old)) head.now }
+        requires dict { head.now.kind ≡ Dict }
+        requires few { head.now.count < 2 ^ 32 }
+        ensures reads { OnlyReads (upgrade_failed result) (P.means src.old) (P.means src.new) }
+        ensures same { self.new.ranks.table.items ≡ self.old.ranks.table.items }
+        ensures more { OnOk result (length self.new.positions.items ≡ length self.old.positions.items + head.now.count) }
+        ensures exact { HonestlyIn (P.means src.old) (λ f F. HaveRanks f F head.now self.old.ranks.table.items
+            → Upgrades (λ _. IsListed f F head.now self.old.positions.items self.new.positions.items) result) }
+    {
+        let ranks = &self.ranks;
+        rank_keys(src, head, &ranks.table, &mut self.keys)?;
+        self.keys.sort_unstable();
+        push_positions(&self.keys, &mut self.positions)
+    }
+}
 
 /// Checks the keys of marked object `n`, if it is a dictionary.
 fn check_dict_keys<P: Offsets>(src: &mut P, n: u32, table: &mut ClassTable) -> Result<(), Refusal>

@@ -2,7 +2,10 @@
 
 ghost use Rattle.bplist_objects.specs.declared.fault.Fault.{Fault as fault};
 ghost use Rattle.std.specs.Prelude.{◌≡◌, ◌↔◌, ◌⊎◌, ℕ, ◌<◌, ◌≤◌, List, length, slice_index};
-ghost use Rattle.bplist_lint.specs.Prelude.{Frame as frame, Value, IsFrame, Content, Spells, FileHolds, Reach, Founded, refs_at, IsValid, Reaches, Ends, AreLeast, IsCircleOf, StandLeast, AreLeastHeights, IsWellFormed, KeepReached, key_rules, IsCircle, IsFileFault, IsFileCircle, reach_rules};
+ghost use Rattle.bplist_lint.specs.Prelude.{Frame as frame, Value, IsFrame, Content, Spells, FileHolds, Reach, Founded};
+ghost use Rattle.bplist_lint.specs.Prelude.{refs_at, IsValid, Reaches, Ends, AreLeast, IsCircleOf, StandLeast};
+ghost use Rattle.bplist_lint.specs.Prelude.{AreLeastHeights, IsWellFormed, KeepReached, key_rules, IsCircle};
+ghost use Rattle.bplist_lint.specs.Prelude.{IsFileFault, IsFileCircle, reach_rules};
 
 /// A file has valid heights exactly if it is well formed.
 pub fn valid_iff_well_formed()

@@ -42,31 +42,21 @@
 mod answer;
 mod bit_set;
 mod circle;
+mod graph;
 mod heights;
-mod key_lists;
 mod key_rules;
 mod laws;
 mod linter;
-mod object_graph;
-mod object_nos;
-mod offset_rule;
 mod reach;
-mod reach_rules;
-mod references;
-mod refusal;
-mod tally;
-mod upgrade_fault;
+mod table_rules;
 mod upgrader;
 mod walk;
 
-pub use answer::Lint;
+pub use answer::{Lint, LintRefusal, ObjectNos, UpgradeFault};
 pub use laws::{
     circle_iff_not_founded, fault_has_no_value, fault_is_final, holds_iff_well_formed,
     least_heights_are_valid, least_is_least, one_file_fault, valid_iff_well_formed, value_or_fault,
     well_formed_iff_kept,
 };
 pub use linter::{lint, lint_with_kind};
-pub use object_nos::ObjectNos;
-pub use refusal::LintRefusal;
-pub use upgrade_fault::UpgradeFault;
 pub use upgrader::upgrade;

@@ -1,22 +1,27 @@
 //! The linter: the passes over a file, in their order.
 
 ghost use Rattle.std.specs.Prelude.{◌≡◌, ◌↔◌, ℕ, ◌<◌, IsTrue, IfOk, IfSome, MatchOption, length, vec_len, ⊤};
-ghost use Rattle.bplist_lint.specs.Prelude.{OnlyReads, frame_in, Honestly, HonestlyIn, IsFrame, IsSafeFrame, Reach, AreOffsets32, Judges, refused_read, refs_at, Value, FileHolds, Never, HasShape, Head as head, IsMarked, AreLeast, AreChildless, IsReachedFault, KeepReached, key_rules, HasRoomFor, IsWalked, AreNamed, IsFileFault, IsFileCircle, Lints, lint_failed, no_circle, KeepsRules, IsLintedBy, IsLinted, IsLintedWithKind, HasNoHeights, reach_rules};
+ghost use Rattle.bplist_lint.specs.Prelude.{OnlyReads, frame_in, Honestly, HonestlyIn, IsFrame, IsSafeFrame, Reach};
+ghost use Rattle.bplist_lint.specs.Prelude.{AreOffsets32, Judges, refused_read, refs_at, Value, FileHolds, Never};
+ghost use Rattle.bplist_lint.specs.Prelude.{HasShape, Head as head, IsMarked, AreLeast, AreChildless, IsReachedFault};
+ghost use Rattle.bplist_lint.specs.Prelude.{KeepReached, key_rules, HasRoomFor, IsWalked, AreNamed, IsFileFault};
+ghost use Rattle.bplist_lint.specs.Prelude.{IsFileCircle, Lints, lint_failed, no_circle, KeepsRules, IsLintedBy};
+ghost use Rattle.bplist_lint.specs.Prelude.{IsLinted, IsLintedWithKind, HasNoHeights, reach_rules};
 
-use crate::answer::Lint;
+use crate::answer::{Lint, LintRefusal, ObjectNos};
 use crate::circle::circle;
+use crate::graph::{Objects, View};
 use crate::heights::least_heights;
 use crate::key_rules::check_keys;
-use crate::object_graph::{Objects, View};
-use crate::object_nos::ObjectNos;
-use crate::offset_rule::check_offsets;
-use crate::reach::{Marked, mark_reached};
-use crate::reach_rules::check_reached;
-use crate::refusal::LintRefusal;
+use crate::reach::{Marked, check_reached, mark_reached};
+use crate::table_rules::check_offsets;
 use crate::walk::{Reached, walk};
 use bplist_cert::{Certificate, Refusal};
-use bplist_keys::{NamedKeys, OffsetReader, OffsetTable, Offsets, object_shape, offsets_of};
-use bplist_objects::{Fault, Frame, Framed, Kind, Rule, trailer_of};
+use bplist_keys::NamedKeys;
+use bplist_objects::{
+    Fault, Frame, Framed, Kind, OffsetReader, OffsetTable, Offsets, Rule, object_shape, offsets_of,
+    trailer_of,
+};
 use bplist_octets::Source;
 use std::alloc::Global;
 
@@ -225,7 +230,7 @@ pub fn lint_with_kind<S: Source>(alloc: Global, src: &mut S) -> Result<(Lint, Ki
 /// failed; `Memory` if an allocation was refused. After an error the source is as before, except for its count of
 /// failures. Over a source that is not honest, any answer may come.
 ///
-/// The reads alternate between a few places. To read a file, put `Windows` around it.
+/// The reads alternate between a few places. To read a file, put `Panes` around it.
 pub fn lint<S: Source>(alloc: Global, src: &mut S) -> Result<Lint, LintRefusal>
     ensures reads { OnlyReads (lint_failed result) (S.means src.old) (S.means src.new) }
     ensures exact { IsTrue (S.means src.old).honest

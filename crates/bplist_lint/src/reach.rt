@@ -1,14 +1,20 @@
 //! Finds the objects that the top reaches, in a file whose arrays may overlap. The reference at each place is followed
 //! once, however many arrays it is part of.
 
-ghost use Rattle.std.specs.Prelude.{◌≡◌, ◌↔◌, ℕ, ◌+◌, ◌^◌, ◌≤◌, ◌<◌, true, false, not, IsTrue, IfOk, OnOk, is_err, replicate, count_by, vec_len};
-ghost use Rattle.bplist_lint.specs.Prelude.{OnlyReads, frame_in, HonestlyIn, content_at, refs, Reach, IsSafeHead, ref_count, AreBelow, failed_to_read, IsMarked, HasMarks, place_index, index_count, IsReady, AreGood, AreFollowed, Looked, Searching};
+ghost use Rattle.std.specs.Prelude.{◌≡◌, ◌↔◌, ℕ, ◌+◌, ◌^◌, ◌≤◌, ◌<◌, true, false, not, IsTrue, IfOk, OnOk, is_err};
+ghost use Rattle.std.specs.Prelude.{replicate, count_by, vec_len, Bool, List, length};
+ghost use Rattle.bplist_lint.specs.Prelude.{OnlyReads, frame_in, HonestlyIn, content_at, refs, Reach, IsSafeHead};
+ghost use Rattle.bplist_lint.specs.Prelude.{ref_count, AreBelow, failed_to_read, IsMarked, HasMarks, place_index};
+ghost use Rattle.bplist_lint.specs.Prelude.{index_count, IsReady, AreGood, AreFollowed, Looked, Searching, Gives};
+ghost use Rattle.bplist_lint.specs.Prelude.{read_failed, IsReachedFault, Tallied, IsRoomy, reach_rules};
 
 use crate::bit_set::BitSet;
-use crate::object_graph::object_in;
-use crate::offset_rule::shape_there;
-use bplist_keys::{Failure, NamedKeys, Offsets};
-use bplist_objects::{Framed, Head, ref_at, refs_of};
+use crate::graph::object_in;
+use crate::table_rules::{Tally, shape_there};
+use bplist_keys::NamedKeys;
+use bplist_objects::{
+    Failure, Framed, Head, ObjectFault, ObjectNo, Offsets, head_in, ref_at, refs_of,
+};
 use bplist_octets::ReadFault;
 use std::alloc::{AllocError, Global};
 
@@ -25,7 +31,7 @@ pub struct Marked {
 
 /// The progress of the search: the objects reached so far, and the places looked at.
 #[derive(Drop)]
-struct Search {
+struct ReachSearch {
     marks: Vec<bool>,
     /// Marked objects whose references are still to be followed.
     stack: Vec<u32>,
@@ -35,9 +41,9 @@ struct Search {
     followed: BitSet,
 }
 
-impl Search {
+impl ReachSearch {
     /// Starts the search with the top.
-    fn from_top<P: Framed>(alloc: Global, src: &P) -> Result<Search, AllocError>
+    fn from_top<P: Framed>(alloc: Global, src: &P) -> Result<ReachSearch, AllocError>
         requires { (frame_in (P.means src.now)).table < 2 ^ 32 }
         ensures ready { IfOk result (IsReady (frame_in (P.means src.now))) }
         ensures searching { HonestlyIn (P.means src.now) (λ f F. IfOk result (λ search. Searching f F search.stack.items search)) }
@@ -50,7 +56,7 @@ impl Search {
         stack.push(frame.top.0)?;
         let size = frame.ref_size as u64;
         let numbers = (frame.table / size + 1) * size;
-        Ok(Search {
+        Ok(ReachSearch {
             marks,
             stack,
             good: BitSet::new(alloc, numbers)?,
@@ -102,7 +108,7 @@ fn are_good<P: Framed>(src: &mut P, head: &Head, good: &mut BitSet) -> Result<bo
 
 /// Follows those references of an object with this head that were not followed yet: marks each object, and puts it on
 /// the stack if it was not marked. All these references must be numbers of objects.
-fn follow<P: Framed>(src: &mut P, head: &Head, search: &mut Search) -> Result<(), Failure>
+fn follow<P: Framed>(src: &mut P, head: &Head, search: &mut ReachSearch) -> Result<(), Failure>
     requires small { (frame_in (P.means src.old)).table < 2 ^ 32 }
     requires head { IsSafeHead (frame_in (P.means src.old)) head.now }
     requires ready { IsReady (frame_in (P.means src.old)) search.old }
@@ -147,7 +153,7 @@ pub fn mark_reached<P: Offsets>(alloc: Global, src: &mut P) -> Result<Marked, Fa
     ensures named { IfOk result (λ marked. marked.named.marks.items ≡ replicate (frame_in (P.means src.old)).objects true) }
 {
     let objects = src.frame().objects as usize;
-    let mut search = Search::from_top(alloc, src)?;
+    let mut search = ReachSearch::from_top(alloc, src)?;
     while let Some(n) = search.stack.pop() {
         let Some(head) = shape_there(src, n)? else {
             continue;
@@ -157,7 +163,7 @@ pub fn mark_reached<P: Offsets>(alloc: Global, src: &mut P) -> Result<Marked, Fa
             follow(src, &head, &mut search)?;
         }
     }
-    let Search { marks, .. } = search;
+    let ReachSearch { marks, .. } = search;
     Ok(Marked {
         marks,
         childless: vec![in alloc; false; objects]?,
@@ -165,4 +171,39 @@ pub fn mark_reached<P: Offsets>(alloc: Global, src: &mut P) -> Result<Marked, Fa
             marks: vec![in alloc; true; objects]?,
         },
     })
+}
+
+//@@ reach_rules: Finds the first fault of the reached objects by rules 14 to 20 and 31.
+
+/// Checks reached object `n`, and adds it to the tally.
+fn check_reached_object<P: Offsets>(src: &mut P, n: u32, tally: Tally) -> Result<Tally, ObjectFault>
+    requires within { n < (frame_in (P.means src.old)).objects }
+    requires roomy { IsRoomy (frame_in (P.means src.old)) tally }
+    ensures reads { OnlyReads (read_failed result) (P.means src.old) (P.means src.new) }
+    ensures roomy { IfOk result (IsRoomy (frame_in (P.means src.old))) }
+    ensures exact { HonestlyIn (P.means src.old) (λ f F. (marks : List Bool) → IsMarked marks n → Reach f F n
+        → Tallied f F marks n tally → Gives (Tallied f F marks (n + 1)) (IsReachedFault f F reach_rules) result) }
+{
+    let frame = src.frame();
+    let place = src.offset(n)?;
+    let head = head_in(src, ObjectNo(n), place)?;
+    Ok(tally.with(&frame, ObjectNo(n), place, head.end, refs_of(&head))?)
+}
+
+/// Checks each marked object, in the order of their numbers. Exactly the reached objects must be marked.
+pub fn check_reached<P: Offsets>(src: &mut P, marks: &[bool]) -> Result<Tally, ObjectFault>
+    requires { length marks.now ≡ (frame_in (P.means src.old)).objects }
+    ensures reads { OnlyReads (read_failed result) (P.means src.old) (P.means src.new) }
+    ensures roomy { IfOk result (IsRoomy (frame_in (P.means src.old))) }
+    ensures exact { HonestlyIn (P.means src.old) (λ f F. ((n : ℕ) → IsMarked marks.now n ↔ Reach f F n)
+        → Gives (Tallied f F marks.now F.objects) (IsReachedFault f F reach_rules) result) }
+{
+    let frame = src.frame();
+    let mut tally = Tally::new();
+    for n in 0..frame.objects {
+        if marks[n as usize] {
+            tally = check_reached_object(src, n, tally)?;
+        }
+    }
+    Ok(tally)
 }

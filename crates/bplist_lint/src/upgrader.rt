@@ -1,14 +1,15 @@
 //! Makes a certificate of version 2 from a checked file.
 
 ghost use Rattle.std.specs.Prelude.{◌≡◌, ◌+◌, ◌≤◌, ◌<◌, ℕ, Bool, List, set, length, IsTrue, IfOk, vec_len};
-ghost use Rattle.bplist_lint.specs.Prelude.{OnlyReads, frame_in, HonestlyIn, AreRanks, IsVouchedBy, IsValid, HasNamedKeys, Listed, IsUpgraded, Upgrades, upgrade_failed};
+ghost use Rattle.bplist_lint.specs.Prelude.{OnlyReads, frame_in, HonestlyIn, AreRanks, IsVouchedBy, IsValid};
+ghost use Rattle.bplist_lint.specs.Prelude.{HasNamedKeys, Listed, IsUpgraded, Upgrades, upgrade_failed};
 
-use crate::key_lists::KeySorting;
-use crate::offset_rule::shape_there;
-use crate::upgrade_fault::UpgradeFault;
+use crate::answer::UpgradeFault;
+use crate::key_rules::KeySorting;
+use crate::table_rules::shape_there;
 use bplist_cert::{Certificate, Checked, KeyLists, vouched_keys};
-use bplist_keys::{OffsetTable, Offsets, offsets_of, ranks_of};
-use bplist_objects::{Framed, Kind};
+use bplist_keys::ranks_of;
+use bplist_objects::{Framed, Kind, OffsetTable, Offsets, offsets_of};
 use bplist_octets::Source;
 use std::alloc::Global;
 

@@ -1,15 +1,19 @@
 //! Checks all reached objects in one quick walk, which succeeds if none of them breaks a rule and all have room.
 
-ghost use Rattle.std.specs.Prelude.{◌≡◌, ◌≢◌, ◌↔◌, ℕ, ◌+◌, ◌≤◌, ◌<◌, [], ◌∷◌, ◌++◌, not, IsTrue, false, IfOk, IfSome, OnOk, count_by, length, slice_index, vec_len};
-ghost use Rattle.bplist_lint.specs.Prelude.{OnlyReads, ObjectFault as object_fault, frame_in, HonestlyIn, content_at, refs, IsSafeHead, ref_count, AreBelow, ref, Dict, failed_to_read, IsMarked, IsRoomy, IsSteady, IsSteadyWalk, Noted, IsWalking, HasRoomFor, IsWalked, AreNamed, of_object, stop_failed, Read as is_read};
+ghost use Rattle.std.specs.Prelude.{◌≡◌, ◌≢◌, ◌↔◌, ℕ, ◌+◌, ◌≤◌, ◌<◌, [], ◌∷◌, ◌++◌, not, IsTrue, false, IfOk, IfSome};
+ghost use Rattle.std.specs.Prelude.{OnOk, count_by, length, slice_index, vec_len};
+ghost use Rattle.bplist_lint.specs.Prelude.{OnlyReads, ObjectFault as object_fault, frame_in, HonestlyIn, content_at};
+ghost use Rattle.bplist_lint.specs.Prelude.{refs, IsSafeHead, ref_count, AreBelow, ref, Dict, failed_to_read, IsMarked};
+ghost use Rattle.bplist_lint.specs.Prelude.{IsRoomy, IsSteady, IsSteadyWalk, Noted, IsWalking, HasRoomFor, IsWalked};
+ghost use Rattle.bplist_lint.specs.Prelude.{AreNamed, of_object, stop_failed, Read as is_read};
 ghost use Rattle.bplist_lint.specs.declared.walk.Stop.TheVariants.{Memory as is_memory};
 
 use crate::heights::unmarked;
-use crate::tally::Tally;
-use bplist_keys::{Failure, NamedKeys, Offsets};
+use crate::table_rules::Tally;
+use bplist_keys::NamedKeys;
 use bplist_objects::{
-    Frame, Framed, Head, Kind, ObjectFault, ObjectNo, Visit, check_body, read_refs_in, refs_of,
-    visit_in,
+    Failure, Frame, Framed, Head, Kind, ObjectFault, ObjectNo, Offsets, Visit, check_body,
+    read_refs_in, refs_of, visit_in,
 };
 use bplist_octets::ReadFault;
 use std::alloc::{AllocError, AllocFailed, Global};

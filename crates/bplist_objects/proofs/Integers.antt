@@ -5,8 +5,8 @@ use Rattle.std.proofs.lemmas.Bool.{cases_lt, lt-ltb, le-ltb, lt-leb}
 use Rattle.std.proofs.lemmas.Int.{ints}
 use Rattle.std.specs.Int.{cast_signed, w64, w128}
 use Rattle.bplist_octets.specs.Octets.{num}
-use Rattle.bplist_objects.specs.declared.kind.Kind.{Kind}
-use Rattle.bplist_objects.specs.declared.kind.Kind.TheVariants.{Int}
+use Rattle.bplist_objects.specs.declared.head.Kind.{Kind}
+use Rattle.bplist_objects.specs.declared.head.Kind.TheVariants.{Int}
 use Rattle.bplist_objects.specs.Announced.{MayCount}
 use Rattle.bplist_octets.proofs.Spelled.{num-lt}
 use Rattle.bplist_objects.specs.Numbers.{integer}

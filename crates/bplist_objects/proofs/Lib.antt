@@ -31,3 +31,4 @@ pub mod ReachedObjects
 pub mod HeadAnswers
 pub mod KeptOrBroken
 pub mod VisitLaws
+pub mod OffsetSteps

@@ -8,8 +8,8 @@ use Rattle.std.proofs.lemmas.List.{get_or_past, length-take}
 use Rattle.std.proofs.lemmas.List.Elements.{recursion_from_All, All-from_get_or, All-from_recursion, All-get_or}
 use Rattle.bplist_octets.specs.Octets.{part, num}
 use Rattle.bplist_objects.specs.declared.frame.Frame.{Frame}
-use Rattle.bplist_objects.specs.declared.kind.Kind.{Kind}
-use Rattle.bplist_objects.specs.declared.kind.Kind.TheVariants as kinds
+use Rattle.bplist_objects.specs.declared.head.Kind.{Kind}
+use Rattle.bplist_objects.specs.declared.head.Kind.TheVariants as kinds
 use Rattle.bplist_objects.specs.declared.head.Head.{Head}
 use Rattle.bplist_objects.specs.Numbers.{num_at}
 use Rattle.bplist_objects.specs.Announced.{HasHead}

@@ -1,6 +1,6 @@
 -- Groups of kinds. Source: the format comment of CFBinaryPList.c.
 use Rattle.std.specs.Prelude.{◌≡◌}
-use Rattle.bplist_objects.specs.declared.kind.Kind.{Kind}
+use Rattle.bplist_objects.specs.declared.head.Kind.{Kind}
 use Rattle.bplist_objects.specs.Safe.{ref_count}
 
 -- the kinds without references

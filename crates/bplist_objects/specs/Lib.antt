@@ -26,3 +26,5 @@ pub mod Framed
 pub mod Visits
 pub mod Prelude
 pub mod RuleTexts
+pub mod Offsets
+pub mod Failures

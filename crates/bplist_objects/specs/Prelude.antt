@@ -3,7 +3,7 @@ pub use Rattle.std.specs.Ordering.{ordering_reverse}
 pub use Rattle.std.specs.declared.cmp.Ordering.TheVariants.{Less, Equal}
 pub use Rattle.bplist_octets.specs.Meaning.{Honestly, OnlyReads, last_count}
 pub use Rattle.bplist_octets.specs.Octets.{num, part}
-pub use Rattle.bplist_octets.specs.Windows.{borrowed}
+pub use Rattle.bplist_octets.specs.Panes.{borrowed}
 pub use Rattle.bplist_objects.specs.Announced.{HasHead, IsFront, IsMarker, MayCount, item_size}
 pub use Rattle.bplist_objects.specs.Answers.{Gives, Never, read_failed}
 pub use Rattle.bplist_objects.specs.CountFaults.{IsLongCountFault}
@@ -32,6 +32,6 @@ pub use Rattle.bplist_objects.specs.declared.fault.ObjectFault.TheVariants.{Faul
 pub use Rattle.bplist_objects.specs.declared.frame.Frame.{Frame}
 pub use Rattle.bplist_objects.specs.declared.frame.ObjectNo.{ObjectNo}
 pub use Rattle.bplist_objects.specs.declared.head.Head.{Head}
-pub use Rattle.bplist_objects.specs.declared.kind.Kind.TheVariants.{Int, Uid}
+pub use Rattle.bplist_objects.specs.declared.head.Kind.TheVariants.{Int, Uid}
 pub use Rattle.bplist_objects.specs.declared.rule.Rule.{Rule}
 pub use Rattle.bplist_objects.specs.declared.rule.Rule.TheVariants.{Magic, OffsetHigh, Overfull}

@@ -5,8 +5,8 @@ use Rattle.std.specs.List.{list_all}
 use Rattle.std.specs.Option.{option_and_then, option_map_or}
 use Rattle.bplist_octets.specs.Octets.{part}
 use Rattle.bplist_objects.specs.declared.frame.Frame.{Frame}
-use Rattle.bplist_objects.specs.declared.kind.Kind.{Kind}
-use Rattle.bplist_objects.specs.declared.kind.Kind.TheVariants as kinds
+use Rattle.bplist_objects.specs.declared.head.Kind.{Kind}
+use Rattle.bplist_objects.specs.declared.head.Kind.TheVariants as kinds
 use Rattle.bplist_objects.specs.declared.head.Head.{Head}
 use Rattle.bplist_objects.specs.Numbers.{num_at}
 use Rattle.bplist_objects.specs.Frame.{off}

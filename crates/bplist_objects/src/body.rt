@@ -1,14 +1,15 @@
 //! The bodies of objects by rules 18 to 20, and heads by rules 14 to 20.
 
 ghost use Rattle.std.specs.Prelude.{◌≡◌, ◌<◌, IfOk, length};
-ghost use Rattle.bplist_objects.specs.Prelude.{OnlyReads, Honestly, HonestlyBy, off, IsSafe, IsSafeHead, Gives, Never, read_failed, KeepsAll, HasHead, Content, content_at, Spells, IsHeadOf, KeepsByObject, IsObjectFault, body_rules, object_rules};
+ghost use Rattle.bplist_objects.specs.Prelude.{OnlyReads, Honestly, HonestlyBy, off, IsSafe, IsSafeHead, Gives, Never};
+ghost use Rattle.bplist_objects.specs.Prelude.{read_failed, KeepsAll, HasHead, Content, content_at, Spells, IsHeadOf};
+ghost use Rattle.bplist_objects.specs.Prelude.{KeepsByObject, IsObjectFault, body_rules, object_rules};
 
 use crate::fault::{ObjectFault, broken};
 use crate::frame::{Frame, ObjectNo};
-use crate::head::{Head, shape_at};
-use crate::kind::Kind;
+use crate::head::{Head, Kind, shape_at};
 use crate::numbers::wide_in;
-use crate::offset_table::offset_of;
+use crate::offsets::offset_of;
 use crate::refs::first_high_ref;
 use crate::rule::Rule;
 use crate::scan::first_high_in;

@@ -2,10 +2,12 @@
 
 ghost use Rattle.std.specs.Prelude.{◌≡◌, Some};
 ghost use Rattle.bplist_objects.specs.Prelude.{Fault as is_fault, Read};
+ghost use Rattle.bplist_keys.specs.Prelude.{Memory};
 
 use crate::frame::ObjectNo;
 use crate::rule::Rule;
 use bplist_octets::ReadFault;
+use std::alloc::{AllocError, AllocFailed};
 
 /// A broken rule, with the object and the place at which it is broken.
 #[derive(Clone, Copy, Debug, PartialEq, Eq, Drop)]
@@ -52,5 +54,40 @@ impl From<Fault> for ObjectFault {
 
     fn from(fault: Fault) -> ObjectFault {
         ObjectFault::Fault(fault)
+    }
+}
+
+//@@ failure: Why a call failed although no rule is broken.
+
+/// Why a call over a file failed. This says nothing about the file.
+#[derive(Clone, Copy, Debug, PartialEq, Eq, Drop)]
+pub enum Failure {
+    /// A read failed.
+    Read(ReadFault),
+    /// An allocation failed.
+    Memory,
+}
+
+impl From<ReadFault> for Failure {
+    ghost from_gives = { λ error e. e ≡ Read error };
+
+    fn from(error: ReadFault) -> Failure {
+        Failure::Read(error)
+    }
+}
+
+impl<T: Drop> From<AllocFailed<T>> for Failure {
+    ghost from_gives = { λ _ e. e ≡ Memory };
+
+    fn from(_refused: AllocFailed<T>) -> Failure {
+        Failure::Memory
+    }
+}
+
+impl From<AllocError> for Failure {
+    ghost from_gives = { λ _ e. e ≡ Memory };
+
+    fn from(_refused: AllocError) -> Failure {
+        Failure::Memory
     }
 }

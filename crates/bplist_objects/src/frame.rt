@@ -1,11 +1,14 @@
 //! The frame of a file (the five numbers of its trailer), by rules 1 to 13.
 
 ghost use Rattle.std.specs.Prelude.{◌≡◌, ℕ, ◌^◌, ◌≤◌, ◌<◌, List, length, IfOk, MatchResult};
-ghost use Rattle.bplist_objects.specs.Prelude.{OnlyReads, Honestly, trailer as spelled, Keeps, IsFrame, number_rules, trailer_rules, KeepsAll, IsFirstFault, Breaks, IsFrameFault, IsSafeFrame, frame_of_trailer, Magic, Frame as frame, Gives, Never, read_failed};
+ghost use Rattle.bplist_objects.specs.Prelude.{OnlyReads, Honestly, trailer as spelled, Keeps, IsFrame, number_rules};
+ghost use Rattle.bplist_objects.specs.Prelude.{trailer_rules, KeepsAll, IsFirstFault, Breaks, IsFrameFault};
+ghost use Rattle.bplist_objects.specs.Prelude.{IsSafeFrame, frame_of_trailer, Magic, Frame as frame, Gives, Never};
+ghost use Rattle.bplist_objects.specs.Prelude.{read_failed};
 
 use crate::fault::{Fault, ObjectFault};
 use crate::numbers::Width;
-use crate::offset_table::high_entry;
+use crate::offsets::high_entry;
 use crate::rule::Rule;
 use crate::scan::first_not_below;
 use bplist_octets::{Source, sized};

@@ -1,16 +1,174 @@
 //! The heads of objects (what marker and count say), by rules 14 to 17.
 
-ghost use Rattle.std.specs.Prelude.{◌≡◌, ◌<◌, ◌≤◌, IfOk, length, slice_index};
-ghost use Rattle.bplist_objects.specs.Prelude.{OnlyReads, HonestlyBy, off, IsSafe, IsSafeHead, Gives, Never, read_failed, KeepsAll, HasHead, HasShape, Head as head, KeepsByObject, IsObjectFault, shape_rules};
+ghost use Rattle.std.specs.Prelude.{◌≡◌, ◌≤◌, MatchOption, ℕ, ◌+◌, ◌^◌, ◌<◌, List, true, IfOk, IfSome, length};
+ghost use Rattle.std.specs.Prelude.{slice_index};
+ghost use Rattle.bplist_objects.specs.Prelude.{IsMarker, Marks, item_size, OnlyReads, Honestly, Gives, read_failed};
+ghost use Rattle.bplist_objects.specs.Prelude.{markers_of, is_counted, IsLongOf, HasLongCount, Announces, MarkersCount};
+ghost use Rattle.bplist_objects.specs.Prelude.{IsLongCountFault, HonestlyBy, off, IsSafe, IsSafeHead, Never, KeepsAll};
+ghost use Rattle.bplist_objects.specs.Prelude.{HasHead, HasShape, Head as head, KeepsByObject, IsObjectFault};
+ghost use Rattle.bplist_objects.specs.Prelude.{shape_rules};
 
-use crate::count::{long_count, short_count};
 use crate::fault::{ObjectFault, broken};
 use crate::frame::{Frame, ObjectNo};
-use crate::kind::{Kind, item_size, kind_of};
-use crate::numbers::octet_in;
-use crate::offset_table::{entry_place, high_entry, offset_of};
+use crate::numbers::{octet_in, wide_in};
+use crate::offsets::{entry_place, high_entry, offset_of};
 use crate::rule::Rule;
 use bplist_octets::Source;
+
+//@@ kind: The kinds of objects and their markers.
+
+/// The kind of an object.
+#[derive(Clone, Copy, Debug, PartialEq, Eq, Drop)]
+pub enum Kind {
+    /// No value.
+    Null,
+    /// The truth value false.
+    False,
+    /// The truth value true.
+    True,
+    /// An integer of 1, 2, 4, 8 or 16 bytes.
+    Int,
+    /// A floating-point number of 4 or 8 bytes.
+    Real,
+    /// A date: a floating-point number of 8 bytes.
+    Date,
+    /// Data: bytes as they are.
+    Bytes,
+    /// A text of one byte for each unit. By rule 18 all are below 128.
+    Ascii,
+    /// A text of two bytes for each UTF-16 unit.
+    Wide,
+    /// A UID: a number of 1 to 16 bytes. By rule 19 it is at most 4294967295.
+    Uid,
+    /// An array: references to its members.
+    Array,
+    /// A set: references to its members.
+    Set,
+    /// A dictionary: references to its keys, then as many references to its values.
+    Dict,
+}
+
+/// Returns the kind of object that begins with this marker, or None if it is no marker.
+#[tactic(auto, using(crate::proofs::HeadLaws::marker_marks))]
+pub(crate) fn kind_of(marker: u8) -> Option<Kind>
+    ensures { MatchOption result (IsMarker marker → ⊥) (Marks marker) }
+{
+    // The high half first: most kinds have halves of their own, so one jump decides.
+    match marker / 16 {
+        0x0 => match marker {
+            0x00 => Some(Kind::Null),
+            0x08 => Some(Kind::False),
+            0x09 => Some(Kind::True),
+            _ => None,
+        },
+        0x1 if marker <= 0x14 => Some(Kind::Int),
+        0x2 if marker == 0x22 || marker == 0x23 => Some(Kind::Real),
+        0x3 if marker == 0x33 => Some(Kind::Date),
+        0x4 => Some(Kind::Bytes),
+        0x5 => Some(Kind::Ascii),
+        0x6 => Some(Kind::Wide),
+        0x8 => Some(Kind::Uid),
+        0xa => Some(Kind::Array),
+        0xc => Some(Kind::Set),
+        0xd => Some(Kind::Dict),
+        _ => None,
+    }
+}
+
+/// Returns the number of body bytes for each item of the count.
+#[inline(always)]
+pub(crate) fn item_size(kind: Kind, ref_size: u8) -> u8
+    requires { ref_size ≤ 8 }
+    ensures { result ≡ item_size ref_size kind }
+{
+    match kind {
+        Kind::Wide => 2,
+        Kind::Array | Kind::Set => ref_size,
+        Kind::Dict => 2 * ref_size,
+        _ => 1,
+    }
+}
+
+//@@ count: The count of an object, in its marker or as an integer object after it.
+
+fn power_of_2(w: u8) -> u8
+    requires { w ≤ 4 }
+    ensures { result ≡ 2 ^ w }
+{
+    match w {
+        0 => 1,
+        1 => 2,
+        2 => 4,
+        3 => 8,
+        _ => 16,
+    }
+}
+
+/// Returns the count that follows the marker at `place`, and the place after it, or a fault of rule 16 or 17. Each item
+/// of the count takes at least one byte, so a count that is greater than the number of bytes up to the table breaks
+/// rule 17.
+#[inline(always)]
+pub(crate) fn long_count<S: Source>(
+    src: &mut S,
+    table: u64,
+    place: u64,
+    n: ObjectNo,
+) -> Result<(u64, u64), ObjectFault>
+    requires inside { place < table }
+    requires within { table ≤ length (S.means src.old).octets }
+    ensures reads { OnlyReads (read_failed result) (S.means src.old) (S.means src.new) }
+    ensures exact { Honestly (S.means src.old) (λ f. Gives
+        (λ found. HasLongCount f place found.0 found.1) (IsLongCountFault f table place n.0) result) }
+    ensures safe { IfOk result (λ found. (place < found.1) × (found.1 ≤ table)) }
+{
+    if table - place <= 1 {
+        return Err(broken(Rule::Extent, n, place));
+    }
+    // Most such counts have one byte, which is read together with its marker.
+    if table - place >= 3 {
+        let mut octets = [0u8; 2];
+        src.read_at(place + 1, &mut octets)?;
+        if octets[0] == 0x10 {
+            return Ok((octets[1] as u64, place + 3));
+        }
+    }
+    let form = octet_in(src, place + 1)?;
+    if form < 0x10 || form > 0x14 {
+        return Err(broken(Rule::Count, n, place + 1));
+    }
+    let size = power_of_2(form - 0x10);
+    if table - place - 2 < size as u64 {
+        return Err(broken(Rule::Extent, n, place));
+    }
+    let count = wide_in(src, place + 2, size)?;
+    let body = place + 2 + size as u64;
+    if count > (table - body) as u128 {
+        return Err(broken(Rule::Extent, n, place));
+    }
+    Ok((count as u64, body))
+}
+
+/// Returns the count that a marker of this kind holds, or None if the count follows the marker.
+#[inline(always)]
+pub(crate) fn short_count(kind: Kind, marker: u8) -> Option<u8>
+    requires marks { Marks marker kind }
+    ensures found { MatchOption result
+        (IsLongOf (markers_of kind) marker × (is_counted (markers_of kind) ≡ true))
+        (λ count. (f : List ℕ) (place : ℕ) → slice_index f place ≡ marker → Announces f place kind count (place + 1)) }
+    ensures may { IfSome result (MarkersCount (markers_of kind)) }
+{
+    match kind {
+        Kind::Bytes | Kind::Ascii | Kind::Wide | Kind::Array | Kind::Set | Kind::Dict => {
+            let low = marker % 16;
+            if low == 15 { None } else { Some(low) }
+        }
+        Kind::Int => Some(power_of_2(marker - 0x10)),
+        Kind::Real => Some(power_of_2(marker - 0x20)),
+        Kind::Date => Some(8),
+        Kind::Uid => Some(marker - 0x7f),
+        _ => Some(0),
+    }
+}
 
 /// What the marker and the count of an object say.
 #[derive(Clone, Copy, Debug, PartialEq, Eq, Drop)]

@@ -1,9 +1,16 @@
 //! Laws of the definitions. Each is the contract of a function that does nothing.
 
 ghost use Rattle.bplist_objects.specs.declared.fault.Fault.{Fault as fault};
-ghost use Rattle.bplist_objects.specs.declared.kind.Kind.{Kind as kind};
-ghost use Rattle.std.specs.Prelude.{◌≡◌, ◌↔◌, ◌⊎◌, ℕ, ◌+◌, ◌*◌, ◌^◌, ◌<◌, ◌≤◌, true, List, [], ◌∷◌, length, slice_index, Option};
-ghost use Rattle.bplist_objects.specs.Prelude.{Frame as frame, ObjectNo as object_no, Head as head, Rule as rule, Keeps, frame_rules, IsFrame, Value, boolean, array, value, no_values, dict, pair, no_pairs, Content, refs, content_at, HasShape, Spells, IsHeadOf, Holds, FileHolds, KeepsAll, nth_number, Breaks, IsFrameFault, part, off, IsFront, HasHead, KeepsByObject, BreaksByObject, shape_rules, object_rules, IsObjectFault, ref_count, IsSafe, IsSafeFrame, IsSafeHead, Chain, Founded, small_file};
+ghost use Rattle.bplist_objects.specs.declared.head.Kind.{Kind as kind};
+ghost use Rattle.std.specs.Prelude.{◌≡◌, ◌↔◌, ◌⊎◌, ℕ, ◌+◌, ◌*◌, ◌^◌, ◌<◌, ◌≤◌, true, List, [], ◌∷◌, length};
+ghost use Rattle.std.specs.Prelude.{slice_index, Option};
+ghost use Rattle.bplist_objects.specs.Prelude.{Frame as frame, ObjectNo as object_no, Head as head, Rule as rule};
+ghost use Rattle.bplist_objects.specs.Prelude.{Keeps, frame_rules, IsFrame, Value, boolean, array, value, no_values};
+ghost use Rattle.bplist_objects.specs.Prelude.{dict, pair, no_pairs, Content, refs, content_at, HasShape, Spells};
+ghost use Rattle.bplist_objects.specs.Prelude.{IsHeadOf, Holds, FileHolds, KeepsAll, nth_number, Breaks, IsFrameFault};
+ghost use Rattle.bplist_objects.specs.Prelude.{part, off, IsFront, HasHead, KeepsByObject, BreaksByObject, shape_rules};
+ghost use Rattle.bplist_objects.specs.Prelude.{object_rules, IsObjectFault, ref_count, IsSafe, IsSafeFrame, IsSafeHead};
+ghost use Rattle.bplist_objects.specs.Prelude.{Chain, Founded, small_file};
 ghost use Rattle.bplist_objects.specs.Value.{leaf};
 
 /// The bytes of an object announce at most one head, and each front there announces one.

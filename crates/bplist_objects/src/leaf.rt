@@ -1,11 +1,14 @@
 //! The values of leaves with a given head.
 
-ghost use Rattle.std.specs.Prelude.{◌≡◌, ◌⊎◌, ◌+◌, ◌*◌, ◌^◌, ◌%◌, ◌≤◌, length, IfOk, OnOk, is_err};
-ghost use Rattle.bplist_objects.specs.Prelude.{part, OnlyReads, Honestly, integer, num_at, item_size, IsLeafKind, IsSafeBody, Int, Uid};
+ghost use Rattle.std.specs.Prelude.{◌≡◌, ◌⊎◌, ◌+◌, ◌*◌, ◌^◌, ◌%◌, ◌≤◌, length, IfOk, OnOk, is_err, ◌<◌, slice_index};
+ghost use Rattle.std.specs.Prelude.{min};
+ghost use Rattle.bplist_objects.specs.Prelude.{part, OnlyReads, Honestly, integer, num_at, item_size, IsLeafKind};
+ghost use Rattle.bplist_objects.specs.Prelude.{IsSafeBody, Int, Uid, last_count, IsTextKind, units_of, compare_units};
 
-use crate::head::Head;
-use crate::numbers::wide_in;
+use crate::head::{Head, item_size};
+use crate::numbers::{Width, read_many, wide_in};
 use bplist_octets::{ReadFault, Source, sized, wide};
+use std::cmp::Ordering;
 
 /// Returns the integer that 1, 2, 4, 8 or 16 bytes spell.
 fn integer_in(octets: &[u8]) -> i128
@@ -73,4 +76,90 @@ pub fn octets_at<S: Source>(
         (λ f. into.new ≡ part f (head.now.body + i) (length into.old))) }
 {
     src.read_at(head.body + i, into)
+}
+
+//@@ text: The units of a text with a given head: reading them, and comparing them.
+
+/// The largest number of units in one read.
+const BLOCK: usize = 128;
+
+/// The largest number of bytes in one read.
+const BLOCK_BYTES: usize = 256;
+
+/// The largest number of units of a key in one read.
+const KEY_BLOCK: usize = 32;
+
+/// Fills `into` with the units of a text from unit `from` on.
+///
+/// The head must be that of a text whose body is inside the source, and `into` must not reach past the end of the text.
+/// An error is a failed read, after which `into` may hold anything.
+pub fn read_units<S: Source>(
+    src: &mut S,
+    head: &Head,
+    from: u64,
+    into: &mut [u16],
+) -> Result<(), ReadFault>
+    requires kind { IsTextKind head.now.kind }
+    requires head { IsSafeBody (length (S.means src.old).octets) head.now }
+    requires within { from + length into.old ≤ head.now.count }
+    ensures reads { OnlyReads (is_err result) (S.means src.old) (S.means src.new) }
+    ensures units { OnOk result (Honestly (S.means src.old)
+        (λ f. into.new ≡ part (units_of f head.now) from (length into.old))) }
+{
+    let bytes = item_size(head.kind, 1);
+    let place = head.body + from * bytes as u64;
+    read_many::<BLOCK, BLOCK_BYTES, u16, S>(src, place, Width { bytes }, into)
+}
+
+/// Returns unit `i` of a text.
+///
+/// The head must be that of a text whose body is inside the source, and `i` must be below its count. An error is a
+/// failed read.
+pub fn unit_at<S: Source>(src: &mut S, head: &Head, i: u64) -> Result<u16, ReadFault>
+    requires kind { IsTextKind head.now.kind }
+    requires head { IsSafeBody (length (S.means src.old).octets) head.now }
+    requires within { i < head.now.count }
+    ensures reads { OnlyReads (is_err result) (S.means src.old) (S.means src.new) }
+    ensures value { IfOk result (λ u. Honestly (S.means src.old) (λ f. u ≡ slice_index (units_of f head.now) i)) }
+{
+    let mut unit = [0u16; 1];
+    read_units(src, head, i, &mut unit)?;
+    Ok(unit[0])
+}
+
+/// Compares the units of a text with `units`: unit by unit, and a proper prefix comes first.
+///
+/// The head must be that of a text whose body is inside the source. Each call adds 1 to `made`, also if it fails. At
+/// the greatest `u64` it stays. The text is read in small blocks, up to the first that differs. An error is a failed
+/// read.
+pub fn key_cmp<S: Source>(
+    src: &mut S,
+    head: &Head,
+    units: &[u16],
+    made: &mut u64,
+) -> Result<Ordering, ReadFault>
+    requires kind { IsTextKind head.now.kind }
+    requires head { IsSafeBody (length (S.means src.old).octets) head.now }
+    ensures reads { OnlyReads (is_err result) (S.means src.old) (S.means src.new) }
+    ensures made { made.new ≡ min (made.old + 1) last_count }
+    ensures value { IfOk result (λ o. Honestly (S.means src.old)
+        (λ f. o ≡ compare_units (units_of f head.now) units.now)) }
+{
+    *made = made.saturating_add(1);
+    let mut buffer = [0u16; KEY_BLOCK];
+    let both = head.count.min(units.len() as u64) as usize;
+    let mut done = 0usize;
+    while done < both {
+        let now = (both - done).min(KEY_BLOCK);
+        let block = &mut buffer[..now];
+        read_units(src, head, done as u64, block)?;
+        let here = &*block;
+        let there = &units[done..done + now];
+        let found = here.cmp(&there);
+        if found.is_ne() {
+            return Ok(found);
+        }
+        done += now;
+    }
+    Ok(head.count.cmp(&(units.len() as u64)))
 }

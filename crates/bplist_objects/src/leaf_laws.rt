@@ -1,8 +1,10 @@
 //! Laws of leaves and of the order of units. Each is the contract of a function that does nothing.
 
 ghost use Rattle.std.specs.Prelude.{◌≡◌, ◌↔◌, ℕ, ◌≤◌, List, ℤ};
-ghost use Rattle.bplist_objects.specs.Prelude.{Less, Equal, ordering_reverse, part, Frame as frame, Head as head, integer, num_at, int, real, date, bytes, text, uid, content_at, Spells, IsTextKind, units_of, compare_units};
-ghost use Rattle.bplist_objects.specs.declared.kind.Kind.TheVariants as kinds;
+ghost use Rattle.bplist_objects.specs.Prelude.{Less, Equal, ordering_reverse, part, Frame as frame, Head as head};
+ghost use Rattle.bplist_objects.specs.Prelude.{integer, num_at, int, real, date, bytes, text, uid, content_at, Spells};
+ghost use Rattle.bplist_objects.specs.Prelude.{IsTextKind, units_of, compare_units};
+ghost use Rattle.bplist_objects.specs.declared.head.Kind.TheVariants as kinds;
 ghost use Rattle.bplist_objects.specs.Heads.{leaf};
 
 /// If a body means a leaf, the calls that read leaves return that leaf. The low 32 bits of a UID that an object spells

@@ -39,45 +39,42 @@
 #![tactic(auto)]
 
 mod body;
-mod count;
 mod extents;
 mod fault;
 mod frame;
 mod framed;
 mod head;
-mod kind;
 mod laws;
 mod leaf;
 mod leaf_laws;
 mod numbers;
-mod offset_table;
-mod plist;
+mod offset_reader;
+mod offsets;
 mod refs;
 mod rule;
 mod rule_texts;
 mod scan;
-mod text;
-mod visit;
 
 pub use body::{check_body, head_at, head_of};
 pub use extents::Extents;
-pub use fault::{Fault, ObjectFault};
+pub use fault::{Failure, Fault, ObjectFault};
 pub use frame::{Frame, ObjectNo, frame_of, trailer_of};
-pub use framed::{Framed, Plist};
-pub use head::{Head, shape_at, shape_of};
-pub use kind::Kind;
+pub use framed::{
+    Framed, Plist, head_in, offset_in, read_offsets_in, read_refs_in, ref_place, shape_in,
+};
+pub use head::{Head, Kind, shape_at, shape_of};
 pub use laws::{
     fault_excludes, founded_has_no_circle, keeps_iff_frame, keeps_iff_spells, kept_iff_head,
     kept_is_not_broken, kept_or_fault, one_announced_head, one_first_fault, one_head, one_shape,
     one_value, one_value_of_file, references_by_index, references_fit, rows_hold,
 };
-pub use leaf::{int_of, octets_at, uid_of};
+pub use leaf::{int_of, key_cmp, octets_at, read_units, uid_of, unit_at};
 pub use leaf_laws::{leaves_by_parts, units_are_ordered};
-pub use offset_table::{high_entry, offset_of, read_offsets};
-pub use plist::{head_in, offset_in, read_offsets_in, read_refs_in, ref_place, shape_in};
+pub use offset_reader::OffsetReader;
+pub use offsets::{
+    OffsetTable, Offsets, high_entry, object_shape, offset_of, offsets_of, read_offsets,
+};
 pub use refs::{read_refs, ref_at, refs_of};
 pub use rule::{Rule, rule_name, rule_number, rule_of_number};
 pub use rule_texts::texts_of;
-pub use scan::first_high_in;
-pub use text::{key_cmp, read_units, unit_at};
-pub use visit::{Visit, visit_in};
+pub use scan::{Visit, first_high_in, visit_in};

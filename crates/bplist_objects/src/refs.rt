@@ -1,11 +1,12 @@
 //! The references of arrays, sets and dictionaries, each of which is the number of an object: rule 20.
 
-ghost use Rattle.std.specs.Prelude.{◌≡◌, ℕ, ◌+◌, ◌≤◌, ◌<◌, IfOk, IfSome, OnOk, MatchOption, is_err, length, slice_index};
-ghost use Rattle.bplist_objects.specs.Prelude.{OnlyReads, Honestly, IsSafe, IsSafeHead, ref_count, AreBelow, IsFirstNotBelow, nth_number, refs, content_at};
+ghost use Rattle.std.specs.Prelude.{◌≡◌, ℕ, ◌+◌, ◌≤◌, ◌<◌, IfOk, IfSome, OnOk, MatchOption, is_err, length};
+ghost use Rattle.std.specs.Prelude.{slice_index};
+ghost use Rattle.bplist_objects.specs.Prelude.{OnlyReads, Honestly, IsSafe, IsSafeHead, ref_count, AreBelow};
+ghost use Rattle.bplist_objects.specs.Prelude.{IsFirstNotBelow, nth_number, refs, content_at};
 
 use crate::frame::{Frame, ObjectNo};
-use crate::head::Head;
-use crate::kind::Kind;
+use crate::head::{Head, Kind};
 use crate::numbers::{Width, number_in, numbers_in};
 use crate::scan::first_not_below;
 use bplist_octets::{ReadFault, Source};

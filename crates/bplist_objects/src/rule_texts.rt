@@ -1,4 +1,5 @@
 //! The rules in plain words, as `bplint explain` prints them.
+
 ghost use Rattle.std.specs.Prelude.{◌≡◌, ◌<◌, ℕ, List, [], get_or, length, map};
 ghost use Rattle.bplist_objects.specs.RuleTexts.{text_of};
 

@@ -3,3 +3,4 @@ pub mod Groups
 pub mod Parts
 pub mod Sources
 pub mod WindowSteps
+pub mod SinkSteps

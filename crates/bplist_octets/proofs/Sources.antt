@@ -1,7 +1,7 @@
 -- Laws of what sources mean.
 use Rattle.std.proofs.Common.{◌≡◌, Bool, true, false, refl, sym, ◌∙◌}
 use Rattle.bplist_octets.specs.Meaning.{Meaning, OnlyReads, last_count}
-use Rattle.bplist_octets.specs.declared.slice.SliceSource.{SliceSource}
+use Rattle.bplist_octets.specs.declared.source.SliceSource.{SliceSource}
 use Rattle.bplist_octets.specs.contracts.slice.SliceSourceSource.TheImpl.{ghosts}
 
 -- if the count of failures is 0 before and after, no read has failed

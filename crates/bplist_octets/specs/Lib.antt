@@ -2,4 +2,5 @@ pub mod Octets
 pub mod Meaning
 pub mod Slices
 pub mod Fills
-pub mod Windows
+pub mod Panes
+pub mod Sending

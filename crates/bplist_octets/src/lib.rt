@@ -24,27 +24,23 @@
 //! | numbers | big-endian numbers: [`sized`] of up to 8 bytes, [`wide`] of up to 16 |
 //! | lanes | [`first_high`], the first byte of 128 or more |
 //! | window | [`Window`], a buffer of 4,096 bytes over a source |
-//! | windows | [`Windows`], several buffers ([`Pane`]) over a source, for readers that alternate between places |
+//! | windows | [`Panes`], several buffers ([`Pane`]) over a source, for readers that alternate between places |
 //! | faulty_source | for tests: [`FaultySource`], one read of which fails |
 //! | shifting_source | for tests: [`ShiftingSource`], whose bytes change |
 #![tactic(auto)]
 
-mod faulty_source;
+mod faulty_sources;
 mod file;
-mod lanes;
 mod numbers;
-mod shifting_source;
-mod slice;
+mod panes;
+mod sink;
 mod source;
 mod window;
-mod windows;
 
-pub use faulty_source::FaultySource;
+pub use faulty_sources::{FaultySource, ShiftingSource};
 pub use file::{FileSource, OpenFault, fill_from};
-pub use lanes::first_high;
-pub use numbers::{sized, wide};
-pub use shifting_source::ShiftingSource;
-pub use slice::SliceSource;
-pub use source::{ReadFault, Source};
+pub use numbers::{first_high, sized, wide};
+pub use panes::{Pane, Panes};
+pub use sink::{Sink, WriteFault};
+pub use source::{ReadFault, SliceSource, Source};
 pub use window::Window;
-pub use windows::{Pane, Windows};

@@ -1,9 +1,10 @@
 //! Big-endian numbers of up to 16 bytes.
 
-ghost use Rattle.std.specs.Prelude.{◌≡◌, ◌≤◌, length};
-ghost use Rattle.bplist_octets.specs.Octets.{num};
+ghost use Rattle.std.specs.Prelude.{◌≡◌, ◌≤◌, length, ℕ, ◌+◌, ◌<◌, slice_index, IsTrue, MatchOption};
+ghost use Rattle.bplist_octets.specs.Octets.{num, AreLow, IsFirstHigh};
 
 use byteorder::{BigEndian, ByteOrder};
+use std::simd::prelude::*;
 
 /// Returns the unsigned big-endian number of one to eight bytes.
 pub fn sized(l: &[u8]) -> u64
@@ -35,4 +36,61 @@ pub fn wide(l: &[u8]) -> u128
         16 => BigEndian::read_u128(l),
         n => BigEndian::read_uint128(l, n),
     }
+}
+
+//@@ lanes: The first byte of 0x80 or more, with 64 bytes compared at a time.
+
+/// The number of bytes compared at a time.
+const GROUP: usize = 64;
+
+/// True if the 64 bytes at index `at` are all below 0x80.
+fn is_group_low(l: &[u8], at: usize) -> bool
+    requires { at + 64 ≤ length l.now }
+    ensures { IsTrue result → (k : ℕ) → at ≤ k → k < at + 64 → slice_index l.now k < 128 }
+{
+    let lanes = u8x64::from_slice(&l[at..]);
+    lanes.simd_gt(u8x64::splat(127)).to_bitmask() == 0
+}
+
+/// Returns the length of a prefix of whole groups whose bytes are all below 0x80.
+fn low_front(l: &[u8]) -> usize
+    ensures inside { result ≤ length l.now }
+    ensures low { (k : ℕ) → k < result → slice_index l.now k < 128 }
+{
+    let mut at = 0;
+    while l.len() - at >= GROUP && is_group_low(l, at) {
+        at += GROUP;
+    }
+    at
+}
+
+/// True if all bytes are below 0x80. There are at most 64.
+fn is_rest_low(l: &[u8]) -> bool
+    requires { length l.now ≤ 64 }
+    ensures { IsTrue result → AreLow l.now }
+{
+    let mut group = [0; GROUP];
+    group[..l.len()].copy_from_slice(l);
+    is_group_low(&group, 0)
+}
+
+/// Returns the index of the first byte of 0x80 or more, or None if there is none.
+pub fn first_high(l: &[u8]) -> Option<usize>
+    ensures { MatchOption result (AreLow l.now) (IsFirstHigh l.now) }
+{
+    let front = low_front(l);
+    if front == l.len() {
+        return None;
+    }
+    let (_, rest) = l.split_at(front);
+    if rest.len() < GROUP && is_rest_low(rest) {
+        return None;
+    }
+    // A group only says whether all its bytes are low, so the first high byte is found byte by byte.
+    for i in front..l.len() {
+        if l[i] >= 0x80 {
+            return Some(i);
+        }
+    }
+    None
 }

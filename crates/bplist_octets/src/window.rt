@@ -1,6 +1,7 @@
 //! A source over another source, with one buffer of bytes that it has read.
 
-ghost use Rattle.std.specs.Prelude.{◌≡◌, ◌↔◌, ◌+◌, ◌-◌, ◌≤◌, length, take, min, IsTrue, MatchOption, OnOk, OnErr, is_err};
+ghost use Rattle.std.specs.Prelude.{◌≡◌, ◌↔◌, ◌+◌, ◌-◌, ◌≤◌, length, take, min, IsTrue, MatchOption, OnOk, OnErr};
+ghost use Rattle.std.specs.Prelude.{is_err};
 ghost use Rattle.bplist_octets.specs.Octets.{part};
 ghost use Rattle.bplist_octets.specs.Meaning.{OnlyReads};
 
@@ -20,7 +21,7 @@ pub(crate) const JUMP: usize = 1024;
 /// the length of the request, whichever is greater. At the end of the source it may read fewer. A request of more than
 /// 4,096 bytes goes straight to the source. After a failed read the window is empty.
 ///
-/// A reader that alternates between a few places is better served by `Windows`.
+/// A reader that alternates between a few places is better served by `Panes`.
 #[derive(Drop)]
 pub struct Window<S: Source> {
     source: S,
@@ -35,7 +36,7 @@ pub struct Window<S: Source> {
 
 /// If a window of `filled` bytes from place `start` on has all of the `count` bytes from place `at` on, returns the
 /// index of the first of them in the window.
-pub(crate) fn offset_in(start: u64, filled: usize, at: u64, count: usize) -> Option<usize>
+pub(crate) fn index_in(start: u64, filled: usize, at: u64, count: usize) -> Option<usize>
     ensures { MatchOption result (start ≤ at → at + count ≤ start + filled → ⊥)
         (λ from. (start + from ≡ at) × (from + count ≤ filled)) }
 {
@@ -139,7 +140,7 @@ impl<S: Source> Source for Window<S> {
         if into.len() > WINDOW {
             return self.read_past(at, into);
         }
-        if let Some(from) = offset_in(self.start, self.filled, at, into.len()) {
+        if let Some(from) = index_in(self.start, self.filled, at, into.len()) {
             self.copy_part(from, into);
             return Ok(());
         }

@@ -1,4 +1,5 @@
 //! A writer that fails.
+
 ghost use Rattle.std.specs.Prelude.{◌≡◌, IfOk};
 
 use arrayvec::ArrayVec;

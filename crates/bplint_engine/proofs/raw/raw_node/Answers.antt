@@ -1,6 +1,6 @@
 use Rattle.std.proofs.Common.{refl}
 use Rattle.std.proofs.lemmas.Result.{err_from_is_err_and}
-use Rattle.bplint_lines.specs.declared.said.Said.TheVariants.{All}
+use Rattle.bplint_lines.specs.declared.fault.Said.TheVariants.{All}
 use Rattle.bplint_engine.specs.Raw.{NodeShowsRaw, raw_in}
 use Rattle.bplint_engine.proofs.LeftBytes.{kept_self}
 use Rattle.bplint_engine.proofs.SentAnswers.{excused_leaves, some_failed}

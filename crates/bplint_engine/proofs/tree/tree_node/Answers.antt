@@ -2,7 +2,7 @@ use Rattle.std.proofs.Common.{rules, ◌≡◌, ◌<◌, ◌≤◌, Err, arith, 
 use Rattle.std.proofs.lemmas.Result.{err_from_is_err_and}
 use Rattle.bplist_cursor.specs.Nodes.{nodes}
 use Rattle.bplint_lines.specs.declared.fault.RunFault.TheVariants.{Memory}
-use Rattle.bplint_lines.specs.declared.said.Said.TheVariants.{All}
+use Rattle.bplint_lines.specs.declared.fault.Said.TheVariants.{All}
 use Rattle.bplint_engine.specs.Tree.{NodeLists, joined_lines, tree_lines}
 use Rattle.bplint_engine.proofs.SentAnswers.{excused_leaves, some_failed}
 use Rattle.bplint_engine.proofs.TreeLines.{tree_few}

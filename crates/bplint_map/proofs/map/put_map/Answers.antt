@@ -2,7 +2,7 @@ use Rattle.std.proofs.Common.{◌≡◌, ◌∙◌, ◌*◌, ◌++◌, ap, appen
 use Rattle.std.proofs.lemmas.Result.{err_from_is_err_and}
 use Rattle.bplist_objects.specs.Framed.{frame_in}
 use Rattle.bplist_objects.specs.declared.frame.Frame.{Frame}
-use Rattle.bplist_ascii.proofs.SinkSteps.{some_of_takes, takes_more, takes_nothing}
+use Rattle.bplist_octets.proofs.SinkSteps.{some_of_takes, takes_more, takes_nothing}
 use Rattle.bplint_lines.specs.declared.fault.RunFault.TheVariants as faults
 use Rattle.bplint_map.specs.Layout.{parts}
 use Rattle.bplint_map.specs.Lines.{part_lines}

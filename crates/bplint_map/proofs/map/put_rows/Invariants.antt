@@ -1,6 +1,6 @@
 use Rattle.std.proofs.Common.{◌≡◌, ℕ, List, ◌*◌, ◌++◌, drop, map as map_of}
 use Rattle.bplist_objects.specs.Framed.{HonestlyIn}
-use Rattle.bplist_ascii.specs.Sending.{Takes}
+use Rattle.bplist_octets.specs.Sending.{Takes}
 use Rattle.bplint_map.specs.declared.rows.Finding.{Finding}
 use Rattle.bplint_map.specs.Layout.{parts}
 use Rattle.bplint_map.specs.Lines.{part_lines}

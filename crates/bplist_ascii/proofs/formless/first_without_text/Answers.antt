@@ -1,7 +1,7 @@
 use Rattle.std.proofs.Common.{rules, arith, ◌≡◌, refl, sym, ap, ◌∙◌, subst, Some}
 use Rattle.std.proofs.lemmas.Result.{err_from_is_err_and}
 use Rattle.bplist_objects.specs.Safe.{ref_count}
-use Rattle.bplist_cursor.specs.declared.form.Form.TheVariants.{NoForm}
+use Rattle.bplist_cursor.specs.declared.sizes.Form.TheVariants.{NoForm}
 use Rattle.bplist_cursor.specs.OldStyle.{value_text}
 use Rattle.bplist_cursor.specs.Forms.{form_of, form_of_text}
 use Rattle.bplist_cursor.proofs.StepReferences.{content_of_value}

@@ -3,7 +3,7 @@ use Rattle.std.specs.List.{flat_map}
 use Rattle.std.proofs.lemmas.Result.{IfErr-weaker, on_ok_weaker, err_from_is_err_and}
 use Rattle.bplist_objects.specs.Units.{units_of}
 use Rattle.bplist_cursor.specs.Texts.{text_of_units, quoted}
-use Rattle.bplist_ascii.specs.declared.style.Style.TheVariants.{Unquoted}
+use Rattle.bplist_ascii.specs.declared.printer.Style.TheVariants.{Unquoted}
 use Rattle.bplist_ascii.specs.BoundedWrites.{styled}
 use Rattle.bplist_ascii.proofs.WriteSteps.{unquoted_text, quoted_text, flat_unquoted, text_under, fails_under, fails_same, read_fails, adds_nothing}
 use Rattle.bplist_ascii.proofs.leaves.write_text.Goals as goal

@@ -2,7 +2,7 @@ use Rattle.std.proofs.Common.{◌≡◌, ◌≤◌, ◌+◌, ◌-◌, take, IsTr
 use Rattle.std.specs.List.{flat_map}
 use Rattle.bplist_objects.specs.Units.{units_of}
 use Rattle.bplist_ascii.specs.BoundedWrites.{AddsText, styled}
-use Rattle.bplist_ascii.specs.declared.style.Style.TheVariants.{Unquoted}
+use Rattle.bplist_ascii.specs.declared.printer.Style.TheVariants.{Unquoted}
 use Rattle.bplist_ascii.proofs.leaves.write_text_body.Given as goal
 
 -- the file is unchanged, and the units so far were put in

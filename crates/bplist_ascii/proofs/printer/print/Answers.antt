@@ -1,7 +1,7 @@
 use Rattle.std.proofs.Common.{rules, ◌≡◌, [], Err, ap}
-use Rattle.bplist_ascii.specs.Sending.{Sending}
-use Rattle.bplist_ascii.specs.declared.print_fault.PrintFault.TheVariants.{Write}
-use Rattle.bplist_ascii.proofs.SinkSteps.{cut_bounded}
+use Rattle.bplist_octets.specs.Sending.{Sending}
+use Rattle.bplist_ascii.specs.declared.printer.PrintFault.TheVariants.{Write}
+use Rattle.bplist_octets.proofs.SinkSteps.{cut_bounded}
 use Rattle.bplist_ascii.proofs.PrintSteps.{cut_of_flush, most_of_flush, put_failed}
 use Rattle.bplist_ascii.proofs.printer.print.Goals as goal
 

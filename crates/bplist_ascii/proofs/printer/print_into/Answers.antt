@@ -1,11 +1,11 @@
 use Rattle.std.proofs.Common.{rules, arith, ◌≡◌, ◌≢◌, ◌<◌, ◌≤◌, inl, inr, length, refl, sym, ap, ◌∙◌, subst, Some, None, Err}
 use Rattle.std.specs.Prelude.{⊤}
 use Rattle.std.proofs.lemmas.Result.{err_from_is_err_and}
-use Rattle.bplist_cursor.specs.declared.form.Form.TheVariants.{NoForm, Length}
+use Rattle.bplist_cursor.specs.declared.sizes.Form.TheVariants.{NoForm, Length}
 use Rattle.bplist_cursor.specs.Forms.{form_of}
 use Rattle.bplist_cursor.specs.OldStyle.{value_text}
 use Rattle.bplist_cursor.proofs.TextParts.{text_formed}
-use Rattle.bplist_ascii.specs.Sending.{Takes}
+use Rattle.bplist_octets.specs.Sending.{Takes}
 use Rattle.bplist_ascii.specs.Printed.{HasText}
 use Rattle.bplist_ascii.proofs.SearchSteps.{no_text_of, text_of_length}
 use Rattle.bplist_ascii.proofs.PrintSteps.{read_prints, walk_fails}

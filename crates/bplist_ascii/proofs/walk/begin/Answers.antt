@@ -8,7 +8,7 @@ use Rattle.bplist_cursor.proofs.StepReferences.{content_of_value}
 use Rattle.bplist_ascii.specs.Walks.{opening_of, text_from}
 use Rattle.bplist_ascii.proofs.WriteSteps.{on_err, adds_some, read_fails, fails_under, text_adds, adds_nothing, adds_fit, adds_fail}
 use Rattle.bplist_ascii.proofs.WalkSteps.{shows, shows_text, shows_container, shows_none, text_opens, stack_push, safe_push}
-use Rattle.bplist_ascii.specs.declared.print_fault.PrintFault.TheVariants.{Memory}
+use Rattle.bplist_ascii.specs.declared.printer.PrintFault.TheVariants.{Memory}
 use Rattle.bplist_ascii.proofs.walk.begin.Goals as goal
 
 pub returns-in_err-head-clause-fails : goal.returns-in_err-head-clause-fails

@@ -6,7 +6,7 @@ use Rattle.bplist_cursor.proofs.StepReferences.{content_of_value}
 use Rattle.bplist_ascii.specs.Walks.{separator_of, closing_of}
 use Rattle.bplist_ascii.proofs.WriteSteps.{on_err, adds_some, read_fails, adds_more, adds_fit, adds_within, adds_fail, adds_nothing}
 use Rattle.bplist_ascii.proofs.WalkSteps.{IsMember, none_from, stack_pop, goes_on, ends, safe_push, adds_goes_on}
-use Rattle.bplist_ascii.specs.declared.print_fault.PrintFault.TheVariants.{Memory}
+use Rattle.bplist_ascii.specs.declared.printer.PrintFault.TheVariants.{Memory}
 use Rattle.bplist_ascii.proofs.walk.step.Goals as goal
 
 pub returns-in_err-node-clause-fails : goal.returns-in_err-node-clause-fails

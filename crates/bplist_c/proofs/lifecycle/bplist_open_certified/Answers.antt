@@ -1,6 +1,6 @@
 use Rattle.std.proofs.Common.{◌≡◌, Err, refl}
 use Rattle.bplist_cert.specs.CertifiedFile.{IsVouchingFault}
-use Rattle.bplist_lint.specs.declared.refusal.LintRefusal.TheVariants as lint_refusals
+use Rattle.bplist_lint.specs.declared.answer.LintRefusal.TheVariants as lint_refusals
 use Rattle.bplist_lint.specs.Refusals.{no_circle}
 use Rattle.bplist_c.specs.Lifecycle.{IsPair, certified}
 use Rattle.bplist_c.specs.Verdicts.{refused_told}

@@ -1,5 +1,5 @@
 use Rattle.std.proofs.Common.{Err, inl, inr}
-use Rattle.bplist_lint.specs.declared.refusal.LintRefusal.TheVariants as refusals
+use Rattle.bplist_lint.specs.declared.answer.LintRefusal.TheVariants as refusals
 use Rattle.bplist_c.proofs.linter.bplist_circle.Goals as goal
 
 pub returns : goal.returns

@@ -3,7 +3,7 @@ use Rattle.std.proofs.lemmas.List.{length-take-le}
 use Rattle.std.proofs.lemmas.Result.{err_from_is_err_and}
 use Rattle.bplist_objects.specs.declared.frame.Frame.{Frame}
 use Rattle.bplist_objects.specs.Framed.{frame_in}
-use Rattle.bplist_cert.specs.declared.checker.Look.TheVariants.{Quick}
+use Rattle.bplist_cert.specs.declared.checker.Pass.TheVariants.{Quick}
 use Rattle.bplist_cert.specs.Lists.{Lists}
 use Rattle.bplist_cert.specs.PairFault.{AreCheckedBelow}
 use Rattle.bplist_cert.specs.KeysLooks.{AreSeen}

@@ -1,6 +1,6 @@
 use Rattle.std.proofs.Common.{◌≡◌, ◌≤◌, ◌-◌}
 use Rattle.bplist_objects.specs.Framed.{frame_in, HonestlyIn}
-use Rattle.bplist_cert.specs.declared.checker.Look.TheVariants.{Quick}
+use Rattle.bplist_cert.specs.declared.checker.Pass.TheVariants.{Quick}
 use Rattle.bplist_cert.specs.PairFault.{AreCheckedBelow}
 use Rattle.bplist_cert.specs.KeysLooks.{AreSeen}
 use Rattle.bplist_cert.proofs.checker.check_all.Given as goal

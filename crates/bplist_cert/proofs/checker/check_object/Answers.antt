@@ -6,7 +6,7 @@ use Rattle.bplist_objects.specs.Frame.{off}
 use Rattle.bplist_objects.specs.Safe.{ref_count}
 use Rattle.bplist_objects.specs.ObjectRules.{KeepsByObject, shape_rules, body_rules}
 use Rattle.bplist_objects.proofs.RuleLaws.{kept_all_after}
-use Rattle.bplist_cert.specs.declared.checker.Look.TheVariants.{Quick}
+use Rattle.bplist_cert.specs.declared.checker.Pass.TheVariants.{Quick}
 use Rattle.bplist_cert.specs.Lists.{Lists}
 use Rattle.bplist_cert.specs.PairFault.{IsCheckedObject}
 use Rattle.bplist_cert.proofs.CheckSteps.{object_fault, overfull_fault, heights_fault, seen, given_weaker}

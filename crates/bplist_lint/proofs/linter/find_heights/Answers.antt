@@ -1,6 +1,6 @@
 use Rattle.bplist_objects.specs.declared.frame.Frame.{Frame}
 use Rattle.bplist_objects.specs.Framed.{frame_in}
-use Rattle.bplist_lint.specs.declared.object_graph.View.TheVariants as views
+use Rattle.bplist_lint.specs.declared.graph.View.TheVariants as views
 use Rattle.bplist_lint.proofs.ObjectReferences.{none_in_view}
 use Rattle.bplist_lint.proofs.ValueHeights.{all_closed, are_least_all}
 use Rattle.bplist_lint.proofs.linter.find_heights.Goals as goal

@@ -6,7 +6,7 @@ use Rattle.bplist_objects.specs.declared.frame.Frame.{Frame}
 use Rattle.bplist_objects.specs.Answers.{Never}
 use Rattle.bplist_objects.specs.Framed.{frame_in}
 use Rattle.bplist_lint.specs.FileFault.{IsFileCircle}
-use Rattle.bplist_lint.specs.declared.object_graph.View.TheVariants as views
+use Rattle.bplist_lint.specs.declared.graph.View.TheVariants as views
 use Rattle.bplist_lint.proofs.Passes.{check_means, linted, circled}
 use Rattle.bplist_lint.proofs.ReferenceGraph.{reach_iff}
 use Rattle.bplist_lint.proofs.ValueHeights.{all_whole}

@@ -11,7 +11,7 @@ use Rattle.bplist_objects.proofs.References.{length-refs, nth-refs}
 use Rattle.bplist_keys.specs.Marks.{IsMarked}
 use Rattle.bplist_lint.specs.ReachSearch.{place_index, reference_at}
 use Rattle.bplist_lint.specs.declared.bit_set.BitSet.{BitSet}
-use Rattle.bplist_lint.specs.declared.reach.Search.{Search}
+use Rattle.bplist_lint.specs.declared.reach.ReachSearch.{ReachSearch}
 use Rattle.bplist_lint.proofs.ReachSteps.{Takes, takes_new, takes_old, size_small, numbers_low, reference_at_k, all_marked}
 use Rattle.bplist_lint.proofs.HeightSteps.{among_at}
 use Rattle.bplist_lint.proofs.reach.follow.Goals as goal
@@ -48,8 +48,8 @@ insert-requires g c =
     let h = c.args.head.now in
     let low = numbers_low f F h c.frame-frame.ensures.framed.safe.safe.ref_low c.requires.head in
     let same : c.if-not-index.search.followed.size ≡ c.loop-number.search.followed.size = elim c.if-not-index.branch [
-      | then-not-index+in_ok-push w ↦ ap (λ (s : Search). s.followed.size) w.search-is
-      | else-not-index w ↦ ap (λ (s : Search). s.followed.size) w.search-is
+      | then-not-index+in_ok-push w ↦ ap (λ (s : ReachSearch). s.followed.size) w.search-is
+      | else-not-index w ↦ ap (λ (s : ReachSearch). s.followed.size) w.search-is
     ] in
     omega (arith, low, same, c.loop-number-test.true, c.place_index-first.ensures, c.refs_of.ensures, c.loop-number.invariant.ready.followed_size)
 
@@ -60,8 +60,8 @@ next_outside-number-requires-in-loop-number g c =
     let h = c.args.head.now in
     let low = numbers_low f F h c.frame-frame.ensures.framed.safe.safe.ref_low c.requires.head in
     let same : c.if-not-index.search.followed.size ≡ c.loop-number.search.followed.size = elim c.if-not-index.branch [
-      | then-not-index+in_ok-push w ↦ ap (λ (s : Search). s.followed.size) w.search-is
-      | else-not-index w ↦ ap (λ (s : Search). s.followed.size) w.search-is
+      | then-not-index+in_ok-push w ↦ ap (λ (s : ReachSearch). s.followed.size) w.search-is
+      | else-not-index w ↦ ap (λ (s : ReachSearch). s.followed.size) w.search-is
     ] in
     omega (arith, low, same, c.loop-number-test.true, c.place_index-first.ensures, c.refs_of.ensures, c.insert.ensures.size, c.loop-number.invariant.ready.followed_size)
 
@@ -88,12 +88,12 @@ loop-number-preserved g c =
       | else-not-index w ↦ rw w.search-is (takes_old m marks before.stack.items (sym read ∙ w.if-not-index.false))
     ] in
     let same_good : after.good ≡ before.good = elim c.if-not-index.branch [
-      | then-not-index+in_ok-push w ↦ ap (λ (s : Search). s.good) w.search-is
-      | else-not-index w ↦ ap (λ (s : Search). s.good) w.search-is
+      | then-not-index+in_ok-push w ↦ ap (λ (s : ReachSearch). s.good) w.search-is
+      | else-not-index w ↦ ap (λ (s : ReachSearch). s.good) w.search-is
     ] in
     let same_followed : after.followed ≡ before.followed = elim c.if-not-index.branch [
-      | then-not-index+in_ok-push w ↦ ap (λ (s : Search). s.followed) w.search-is
-      | else-not-index w ↦ ap (λ (s : Search). s.followed) w.search-is
+      | then-not-index+in_ok-push w ↦ ap (λ (s : ReachSearch). s.followed) w.search-is
+      | else-not-index w ↦ ap (λ (s : ReachSearch). s.followed) w.search-is
     ] in
     let put = rw same_followed at c.insert.ensures in
     let next = c.next_outside-number-in-loop-number.ensures in

@@ -1,4 +1,0 @@
-use Rattle.bplist_cert.proofs.key_lists.ListLook.new.Goals as goal
-
-pub returns : goal.returns
-returns c = λ f F. (c.new.ensures f F, c.new-2.ensures f)

@@ -1,6 +1,0 @@
-use Rattle.std.proofs.Common.{refl}
-use Rattle.bplist_cert.proofs.KeyPairs.{pairs_none}
-use Rattle.bplist_cert.proofs.key_pairs.OrderedPairs.new.Goals as goal
-
-pub returns : goal.returns
-returns c = λ f F. (pairs_none f F _ refl, c.new.ensures f)

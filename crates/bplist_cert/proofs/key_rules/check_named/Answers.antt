@@ -1,0 +1,77 @@
+use Rattle.std.proofs.Common.{◌≡◌, None, sym, subst, ◌∙◌, inl, inr, arith}
+use Rattle.std.proofs.lemmas.Bool.{cases_eq}
+use Rattle.std.proofs.lemmas.Result.{err_from_is_err_and}
+use Rattle.bplist_objects.specs.declared.frame.Frame.{Frame}
+use Rattle.bplist_objects.specs.Framed.{frame_in}
+use Rattle.bplist_keys.proofs.LookUps.{new_low, stamped_low}
+use Rattle.bplist_cert.specs.Valid.{IsVouchedBy}
+use Rattle.bplist_cert.specs.KeyRepeats.{HasGoodKeys, BreaksKeys}
+use Rattle.bplist_cert.proofs.KeyRepeats.{keys_classed, good_low}
+use Rattle.bplist_cert.proofs.CheckSteps.{refused_weaker}
+use Rattle.bplist_cert.proofs.key_rules.check_named.Goals as goal
+use Rattle.bplist_cert.proofs.key_rules.check_named.Goals.{then-height_at-gt1+in_ok-check_dict_repeats, else-height_at-gt1}
+
+pub returns-in_err-check_dict_repeats-clause-exact : goal.returns-in_err-check_dict_repeats-clause-exact
+returns-in_err-check_dict_repeats-clause-exact g c = λ honest seen named.
+    let f = (g.P.Source.means c.args.src.now).octets in
+    let F : Frame = frame_in (g.P.Source.means c.args.src.now) in
+    let v = c.loop-n.invariant in
+    let n = c.loop-n.n in
+    let before = v.exact honest seen named in
+    let table_is : c.loop-n.look.table.classes.table.items ≡ c.in_ok-classes.classes.table.items = v.same ∙ c.in_ok-new.ensures.classes in
+    let here : IsVouchedBy c.args.seen.now.heights.now n = omega (arith, c.height_at.ensures, c.if-height_at-gt1.true) in
+    let judged = (rw (v.reads, table_is) at c.in_err-check_dict_repeats.ensures.exact) honest c.loop-n-test.true here seen
+    (keys_classed f F _ c.in_ok-classes.classes.table.items n (c.in_ok-classes.ensures.exact honest) (named.1 n c.loop-n-test.true here)) (new_low n _ (v.stamps honest)) before.0 in
+    let p = err_from_is_err_and c.from_residual-in_err-check_dict_repeats.result c.from_residual-in_err-check_dict_repeats.ensures.1 in
+    rw (p.1, p.2) (refused_weaker _ _ c.in_err-check_dict_repeats.field-0.0 (λ fault h. record {
+      object = n;
+      within = c.loop-n-test.true;
+      vouched = here;
+      breaks = subst (λ count. BreaksKeys f F count None n fault) (sym c.requires.all) h;
+      before = before.1;
+    }) judged)
+
+pub loop-n-preserved : goal.loop-n-preserved
+loop-n-preserved g c =
+    let f = (g.P.Source.means c.args.src.now).octets in
+    let F : Frame = frame_in (g.P.Source.means c.args.src.now) in
+    let heights = c.args.seen.now.heights.now in
+    let v = c.loop-n.invariant in
+    let n = c.loop-n.n in
+    elim c.if-height_at-gt1.branch [
+      | then-height_at-gt1+in_ok-check_dict_repeats w ↦
+          let table_is : c.loop-n.look.table.classes.table.items ≡ c.in_ok-classes.classes.table.items = v.same ∙ c.in_ok-new.ensures.classes in
+          let here : IsVouchedBy heights n = omega (arith, c.height_at.ensures, w.if-height_at-gt1.true) in
+          record {
+            reads = rw w.src-is (w.in_ok-check_dict_repeats.ensures.reads ∙ v.reads);
+            same = rw w.look-is (w.in_ok-check_dict_repeats.ensures.same ∙ v.same);
+            stamps = λ honest. rw w.look-is (stamped_low n _ _ w.check_dict_repeats.ensures.stamped (v.stamps honest));
+            exact = λ honest seen named.
+                let before = v.exact honest seen named in
+                let good = (rw (v.reads, table_is) at w.in_ok-check_dict_repeats.ensures.exact) honest c.loop-n-test.true here seen
+                (keys_classed f F _ c.in_ok-classes.classes.table.items n (c.in_ok-classes.ensures.exact honest) (named.1 n c.loop-n-test.true here)) (new_low n _ (v.stamps honest)) before.0 in (
+                  rw w.look-is good.0,
+                  λ m low vouched. elim (cases_eq m n) [
+                    | inl e ↦ subst (HasGoodKeys f F None) (sym e) good.1
+                    | inr d ↦ before.1 m (omega (arith, low, d)) vouched
+                  ],
+                );
+          }
+      | else-height_at-gt1 w ↦ record {
+        reads = rw w.src-is v.reads;
+        same = rw w.look-is v.same;
+        stamps = λ honest x. rw w.look-is (let l = v.stamps honest x in omega (arith, l));
+        exact = λ honest seen named.
+            let before = v.exact honest seen named in (
+              rw w.look-is before.0,
+              λ m low vouched. elim (cases_eq m n) [
+                | inl e ↦ good_low f F heights m (seen m (omega (arith, e, c.loop-n-test.true)) vouched) (rw e (omega (arith, c.height_at.ensures, w.if-height_at-gt1.false)))
+                | inr d ↦ before.1 m (omega (arith, low, d)) vouched
+              ],
+            );
+      }
+    ]
+
+pub returns-clause-exact : goal.returns-clause-exact
+returns-clause-exact g c = λ honest seen named.
+    λ n low vouched. (c.loop-n.invariant.exact honest seen named).1 n (omega (arith, low, c.loop-n-test.false)) vouched

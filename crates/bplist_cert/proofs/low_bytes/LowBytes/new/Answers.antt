@@ -1,5 +1,0 @@
-use Rattle.bplist_cert.proofs.LowBytes.{low_none}
-use Rattle.bplist_cert.proofs.low_bytes.LowBytes.new.Goals as goal
-
-pub returns : goal.returns
-returns c = λ f. low_none f 256

@@ -1,0 +1,131 @@
+//! A cache of key pairs known to be in order, so that dictionaries with the same keys do not compare them again.
+
+ghost use Rattle.std.specs.Prelude.{◌≡◌, ◌+◌, ◌*◌, ℕ, List, IsTrue, ◌↔◌, ◌≤◌, ◌<◌, length, IfOk, is_err};
+ghost use Rattle.bplist_cert.specs.Prelude.{Frame as frame, Ascends, AreKnown, OnlyReads, Honestly, IsLow, AreLow};
+
+use bplist_keys::RunCache;
+use bplist_objects::first_high_in;
+use bplist_octets::{ReadFault, Source};
+
+/// The number of slots: a prime, so that pairs with near numbers get slots of their own.
+const PAIR_SLOTS: usize = 2039;
+
+/// Pairs of objects that are texts, the first before the second. The table takes 16 KiB, and a new pair replaces the
+/// one in its slot. A pair is stored as one number, and 0 means none. The cache also has the runs of texts compared so
+/// far.
+#[derive(Drop)]
+pub(crate) struct OrderedPairsCache {
+    pub slots: [u64; PAIR_SLOTS],
+    pub runs: RunCache,
+}
+
+/// Packs two object numbers into one number.
+fn pair_of(a: u32, b: u32) -> u64
+    ensures { result ≡ a * 4294967296 + b }
+{
+    a as u64 * 4_294_967_296 + b as u64
+}
+
+impl OrderedPairsCache {
+    /// Returns an empty cache.
+    pub(crate) fn new() -> OrderedPairsCache
+        ensures { (f : List ℕ) (F : frame) → AreKnown f F result }
+    {
+        OrderedPairsCache {
+            slots: [0; PAIR_SLOTS],
+            runs: RunCache::new(),
+        }
+    }
+
+    /// Returns whether objects `a` and `b` are known to be texts in this order.
+    pub(crate) fn has(&self, a: u32, b: u32) -> bool
+        ensures { (f : List ℕ) (F : frame) → AreKnown f F self.now → IsTrue result → Ascends f F a b }
+    {
+        let pair = pair_of(a, b);
+        pair != 0 && self.slots[(pair % PAIR_SLOTS as u64) as usize] == pair
+    }
+
+    /// Records that objects `a` and `b` are texts in this order.
+    pub(crate) fn insert(&mut self, a: u32, b: u32)
+        ensures { (f : List ℕ) (F : frame) → AreKnown f F self.old → Ascends f F a b → AreKnown f F self.new }
+    {
+        let pair = pair_of(a, b);
+        self.slots[(pair % PAIR_SLOTS as u64) as usize] = pair;
+    }
+}
+
+//@@ low_bytes: A cache of stretches of the file that have only bytes below 128, for rule 18. It saves reading an Ascii text again if many dictionaries name it, or if texts overlap.
+
+/// The number of stretches that are kept.
+const STRETCHES: usize = 256;
+
+/// The bytes from place `from` up to, and without, place `to`.
+#[derive(Clone, Copy, Debug)]
+pub(crate) struct Stretch {
+    pub from: u64,
+    pub to: u64,
+}
+
+/// One stretch for each part of the file: the longest that begins in that part, joined with those that it meets.
+#[derive(Drop)]
+pub(crate) struct LowBytesCache {
+    pub slots: [Stretch; STRETCHES],
+    /// The number of bytes in a part of the file. 0 counts as 1.
+    part: u64,
+}
+
+/// Returns one stretch for two: both joined if they meet, else the longer.
+fn joined(known: Stretch, found: Stretch) -> Stretch
+    ensures { (f : List ℕ) → IsLow f known.from known.to → IsLow f found.from found.to → IsLow f result.from result.to }
+{
+    if found.from <= known.to && known.from <= found.to {
+        return Stretch {
+            from: known.from.min(found.from),
+            to: known.to.max(found.to),
+        };
+    }
+    if known.to.saturating_sub(known.from) < found.to.saturating_sub(found.from) {
+        found
+    } else {
+        known
+    }
+}
+
+impl LowBytesCache {
+    /// Returns an empty cache for a file of `len` bytes.
+    pub(crate) fn new(len: u64) -> LowBytesCache
+        ensures { (f : List ℕ) → AreLow f result.slots }
+    {
+        LowBytesCache {
+            slots: [Stretch { from: 0, to: 0 }; STRETCHES],
+            part: len / STRETCHES as u64,
+        }
+    }
+
+    /// Returns whether all bytes of this stretch are below 128. Reads only those that are not known to be.
+    pub(crate) fn covers<S: Source>(
+        &mut self,
+        src: &mut S,
+        from: u64,
+        to: u64,
+    ) -> Result<bool, ReadFault>
+        requires order { from ≤ to }
+        requires within { to ≤ length (S.means src.old).octets }
+        ensures reads { OnlyReads (is_err result) (S.means src.old) (S.means src.new) }
+        ensures exact { Honestly (S.means src.old) (λ f. AreLow f self.old.slots
+            → IfOk result (λ low. AreLow f self.new.slots × (IsTrue low ↔ IsLow f from to))) }
+    {
+        // The slot of the part that the first byte is in.
+        let slot = (from / self.part.max(1) % STRETCHES as u64) as usize;
+        let known = self.slots[slot];
+        let begin = known.from.max(from).min(to);
+        let end = known.to.max(begin).min(to);
+        if first_high_in(src, from, begin - from)?.is_some()
+            || first_high_in(src, end, to - end)?.is_some()
+        {
+            return Ok(false);
+        }
+        self.slots[slot] = joined(known, Stretch { from, to });
+        Ok(true)
+    }
+}

@@ -1,0 +1,246 @@
+//! Checks that the keys of a dictionary are texts: rule 21.
+
+ghost use Rattle.std.specs.Prelude.{◌≡◌, ◌↔◌, IsTrue, ◌+◌, ◌*◌, ◌<◌, length, IfOk, IfSome, MatchOption, Some, is_err};
+ghost use Rattle.std.specs.Prelude.{None};
+ghost use Rattle.bplist_cert.specs.Prelude.{OnlyReads, frame_in, HonestlyIn, IsSafeHead, Gives, read_failed, KeyKind};
+ghost use Rattle.bplist_cert.specs.Prelude.{Dict, Head as head_record, IsText, KeysAreTexts, IsKeylessFault, AreLow};
+ghost use Rattle.bplist_cert.specs.Prelude.{IsOffsetOf, AreOffsetsOf, ReferToTexts, IsFirstOther, HasHead};
+ghost use Rattle.bplist_cert.specs.Prelude.{Head as head, HaveNamedKeys, AreClassed, IsStamped, IsNew, AreClasses};
+ghost use Rattle.bplist_cert.specs.Prelude.{failed_to_read, lists, KeepBeforeKeysBelow, IsVouchedBy, HasGoodKeys};
+ghost use Rattle.bplist_cert.specs.Prelude.{HaveGoodKeys, BreaksKeys, IsFirstKeysFault, Judges, refused_read};
+
+use crate::caches::LowBytesCache;
+use crate::heights::height_at;
+use crate::key_lists::VouchedPrefix;
+use crate::key_names::seen_keys;
+use crate::key_order::{BLOCK, read_ahead};
+use crate::refusal::Refusal;
+use bplist_keys::{ClassTable, KeyDefect, KeyNumbers, NamedKeys, classes_of, ranks_of, text_head};
+use bplist_objects::{
+    Failure, Framed, Head, Kind, ObjectFault, ObjectNo, OffsetTable, Offsets, object_shape,
+    offsets_of,
+};
+use bplist_octets::ReadFault;
+use std::alloc::Global;
+
+/// A dictionary: its object and its head.
+#[derive(Clone, Copy, Debug, Drop)]
+pub(crate) struct Dictionary {
+    pub n: ObjectNo,
+    pub head: Head,
+    pub ghost dict: { head.kind ≡ Dict },
+}
+
+/// Returns whether object `m`, which is at `place`, spells a text. Reads the bytes of an Ascii text unless `low` knows
+/// that they are below 128.
+fn is_text<P: Framed>(
+    src: &mut P,
+    low: &mut LowBytesCache,
+    m: u64,
+    place: u64,
+) -> Result<bool, ReadFault>
+    ensures reads { OnlyReads (is_err result) (P.means src.old) (P.means src.new) }
+    ensures exact { HonestlyIn (P.means src.old) (λ f F. AreLow f low.old.slots → IsOffsetOf f F m place
+        → IfOk result (λ text. AreLow f low.new.slots × (IsTrue text ↔ ((key : head_record) × IsText f F m key)))) }
+{
+    let frame = src.frame();
+    let _len = src.len();
+    let Some(key) = frame.object(m) else {
+        return Ok(false);
+    };
+    let Some(head) = text_head(src, key.0, place)? else {
+        return Ok(false);
+    };
+    match head.kind {
+        Kind::Ascii => low.covers(src, head.body, head.body + head.count),
+        _ => Ok(true),
+    }
+}
+
+/// Returns the index of the first of these objects that is not a text. `offsets` has their places.
+fn first_other<P: Framed>(
+    src: &mut P,
+    low: &mut LowBytesCache,
+    refs: &[u64],
+    offsets: &[u64],
+) -> Result<Option<usize>, ReadFault>
+    requires { length offsets.now ≡ length refs.now }
+    ensures reads { OnlyReads (is_err result) (P.means src.old) (P.means src.new) }
+    ensures exact { HonestlyIn (P.means src.old) (λ f F. AreLow f low.old.slots
+        → AreOffsetsOf f F refs.now offsets.now (length refs.now) → IfOk result (λ found. AreLow f low.new.slots
+        × MatchOption found (ReferToTexts f F refs.now (length refs.now)) (IsFirstOther f F refs.now))) }
+    ensures inside { IfOk result (λ found. IfSome found (λ i. i < length refs.now)) }
+{
+    for i in 0..refs.len() {
+        if !is_text(src, low, refs[i], offsets[i])? {
+            return Ok(Some(i));
+        }
+    }
+    Ok(None)
+}
+
+/// Checks rule 21 for dictionary `n`, which has this head. The fault is that of the first key that is not a text, at
+/// its reference, counted from the file's first byte. `Read` if a read failed.
+pub(crate) fn check_texts<P: Offsets>(
+    src: &mut P,
+    low: &mut LowBytesCache,
+    dict: &Dictionary,
+) -> Result<(), ObjectFault>
+    requires head { IsSafeHead (frame_in (P.means src.old)) dict.now.head }
+    ensures reads { OnlyReads (read_failed result) (P.means src.old) (P.means src.new) }
+    ensures exact { HonestlyIn (P.means src.old) (λ f F. AreLow f low.old.slots
+        → Gives (λ _. AreLow f low.new.slots × KeysAreTexts f F dict.now.head dict.now.head.count)
+        (IsKeylessFault f F dict.now.n.0 dict.now.head) result) }
+{
+    let count = dict.head.count;
+    let mut refs = [0u64; BLOCK];
+    let mut found = [0u64; BLOCK];
+    let mut done = 0u64;
+    while done < count {
+        let now = (count - done).min(BLOCK as u64);
+        let block = &mut refs[..now as usize];
+        let places = &mut found[..now as usize];
+        read_ahead(src, &dict.head, done, block, places)?;
+        if let Some(i) = first_other(src, low, block, places)? {
+            let wrong = KeyDefect::NotText(done + i as u64);
+            return Err(ObjectFault::Fault(wrong.fault(src, dict.n, &dict.head)));
+        }
+        done += now;
+    }
+    Ok(())
+}
+
+//@@ key_repeats: Checks that the keys of vouched dictionaries are texts that differ, by the classes of the texts: rules 21 and 22.
+
+/// A table of all places is worth its memory if at least one object in this many is a key.
+const OBJECTS_FOR_A_KEY: u32 = 16;
+
+/// The tables that keys are looked up in.
+#[derive(Drop)]
+struct KeyTables {
+    table: ClassTable,
+    low: LowBytesCache,
+}
+
+/// Returns the classes of the keys. If not all vouched objects were seen, texts may overlap; they are then compared
+/// with each other and not read one by one.
+fn key_classes<P: Offsets>(
+    alloc: Global,
+    src: &mut P,
+    seen: &VouchedPrefix,
+    named: NamedKeys,
+) -> Result<KeyNumbers, Failure>
+    requires { length named.marks.items ≡ (frame_in (P.means src.old)).objects }
+    ensures reads { OnlyReads (failed_to_read result) (P.means src.old) (P.means src.new) }
+    ensures exact { HonestlyIn (P.means src.old) (λ f F.
+        IfOk result (λ ranks. AreClasses f F named.marks.items ranks.table.items)) }
+{
+    if seen.bound == src.frame().objects {
+        return classes_of(alloc, src, named);
+    }
+    ranks_of(alloc, src, named)
+}
+
+/// Checks the keys of vouched object `n` by their classes, if it is a dictionary. The fault is that of the first key
+/// that is not a text, or else that of the first key with the units of an earlier one. If all vouched objects were
+/// seen, a key that is a text by marker and count is a text, so the classes alone show that the keys are good.
+fn check_dict_repeats<P: Offsets>(
+    src: &mut P,
+    seen: &VouchedPrefix,
+    n: u32,
+    look: &mut KeyTables,
+) -> Result<(), Refusal>
+    requires { n < (frame_in (P.means src.old)).objects }
+    ensures reads { OnlyReads (refused_read result) (P.means src.old) (P.means src.new) }
+    ensures same { look.new.table.classes.table.items ≡ look.old.table.classes.table.items }
+    ensures stamped { IsStamped n look.old.table.seen.items look.new.table.seen.items }
+    ensures exact { HonestlyIn (P.means src.old) (λ f F. n < seen.now.bound → IsVouchedBy seen.now.heights.now n
+        → KeepBeforeKeysBelow f F seen.now.heights.now seen.now.bound
+        → ((head : head) → HasHead f F n head → head.kind ≡ Dict → AreClassed f F look.old.table.classes.table.items head)
+        → IsNew look.old.table.seen.items n → AreLow f look.old.low.slots
+        → Judges (λ _. AreLow f look.new.low.slots × HasGoodKeys f F None n) (BreaksKeys f F F.objects None n) result) }
+{
+    let frame = src.frame();
+    let head = object_shape(src, n)?;
+    let Kind::Dict = head.kind else {
+        return Ok(());
+    };
+    let dict = Dictionary {
+        n: ObjectNo(n),
+        head,
+    };
+    let found = look.table.first_wrong(src, n, &dict.head)?;
+    if found.is_none() && seen.bound == frame.objects {
+        return Ok(());
+    }
+    check_texts(src, &mut look.low, &dict)?;
+    match found {
+        None => Ok(()),
+        Some(wrong) => Err(Refusal::Fault(wrong.fault(src, dict.n, &dict.head))),
+    }
+}
+
+/// Checks the keys of the vouched dictionaries seen so far. Their keys are already named, and the places of keys given.
+fn check_named<P: Offsets>(
+    alloc: Global,
+    src: &mut P,
+    seen: &VouchedPrefix,
+    named: NamedKeys,
+) -> Result<(), Refusal>
+    requires all { length seen.now.heights.now ≡ (frame_in (P.means src.old)).objects }
+    requires all_named { length named.marks.items ≡ (frame_in (P.means src.old)).objects }
+    ensures reads { OnlyReads (refused_read result) (P.means src.old) (P.means src.new) }
+    ensures exact { HonestlyIn (P.means src.old) (λ f F. KeepBeforeKeysBelow f F seen.now.heights.now seen.now.bound
+        → HaveNamedKeys f F seen.now.heights.now seen.now.bound named.marks.items
+        → Judges (λ _. HaveGoodKeys f F seen.now.heights.now None seen.now.bound)
+        (IsFirstKeysFault f F (lists seen.now.heights.now None) seen.now.bound) result) }
+{
+    let _frame = src.frame();
+    let classes = key_classes(alloc, src, seen, named)?;
+    let mut look = KeyTables {
+        table: ClassTable::new(alloc, classes)?,
+        low: LowBytesCache::new(src.len()),
+    };
+    for n in 0..seen.bound {
+        if height_at(seen.heights, n as u64) > 1 {
+            check_dict_repeats(src, seen, n, &mut look)?;
+        }
+    }
+    Ok(())
+}
+
+/// Checks that the keys of the vouched dictionaries seen so far are texts that differ. If all vouched objects were
+/// seen, each named text is read once for its class, and again only if another has the same fingerprint.
+///
+/// Without keys there is nothing to check, so neither classes nor places are read. With few keys, places are read when
+/// they are needed, and not kept in a table.
+pub(crate) fn check_key_repeats<P: Offsets>(
+    alloc: Global,
+    src: &mut P,
+    seen: &VouchedPrefix,
+    named: Option<NamedKeys>,
+) -> Result<(), Refusal>
+    requires { length seen.now.heights.now ≡ (frame_in (P.means src.old)).objects }
+    ensures reads { OnlyReads (refused_read result) (P.means src.old) (P.means src.new) }
+    ensures exact { HonestlyIn (P.means src.old) (λ f F. KeepBeforeKeysBelow f F seen.now.heights.now seen.now.bound
+        → IfSome named (λ keys. HaveNamedKeys f F seen.now.heights.now seen.now.bound keys.marks.items)
+        → Judges (λ _. HaveGoodKeys f F seen.now.heights.now None seen.now.bound)
+        (IsFirstKeysFault f F (lists seen.now.heights.now None) seen.now.bound) result) }
+{
+    let frame = src.frame();
+    let named = seen_keys(alloc, src, seen.heights, seen.bound, named)?;
+    let keys = named.count();
+    if keys == 0 {
+        return Ok(());
+    }
+    if keys < (frame.objects / OBJECTS_FOR_A_KEY) as usize {
+        return check_named(alloc, src, seen, named);
+    }
+    let places = offsets_of(alloc, src, &frame)?;
+    check_named(
+        alloc,
+        &mut OffsetTable::new(src, frame, &places),
+        seen,
+        named,
+    )
+}

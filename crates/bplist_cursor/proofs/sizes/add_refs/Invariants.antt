@@ -1,0 +1,19 @@
+use Rattle.std.proofs.Common.{◌≡◌, ◌≤◌, ◌-◌, drop, Some}
+use Rattle.bplist_objects.specs.Heads.{refs, content_at}
+use Rattle.bplist_cert.specs.CheckedFile.{HonestlyChecked}
+use Rattle.bplist_cursor.specs.Sizes.{added}
+use Rattle.bplist_cursor.specs.declared.sizes.Size.{Size}
+use Rattle.bplist_cursor.proofs.sizes.add_refs.Given as goal
+
+-- the file is as it was; the total so far plus what is left to add is the whole
+abbrev pub invariant-loop-done : goal.invariant-loop-done
+invariant-loop-done g l =
+    record {
+      same : l.checked ≡ l.fn.checked;
+      reached : l.done ≤ l.count;
+      left : HonestlyChecked l.fn.checked (λ f F. (whole : Size) → added l.sizes l.fn.start (refs (content_at f F l.head)) ≡ Some whole
+          → added l.sizes l.total (drop l.done (refs (content_at f F l.head))) ≡ Some whole);
+    }
+
+abbrev pub decreases-loop-done : goal.decreases-loop-done
+decreases-loop-done g l = l.count - l.done

@@ -1,0 +1,29 @@
+use Rattle.std.proofs.Common.{rules}
+use Rattle.std.proofs.lemmas.Result.{err_from_is_err_and}
+use Rattle.bplist_cursor.proofs.OrderSteps.{value_at, refs_sized, set_more}
+use Rattle.bplist_cursor.proofs.sizes.measure_in_order.Goals as goal
+
+pub returns-in_err-size-clause-exact : goal.returns-in_err-size-clause-exact
+returns-in_err-size-clause-exact g c = λ honest heights valid is empty.
+    let f = c.args.checked.now.source.octets in
+    let F = c.args.checked.now.frame in
+    let set = c.loop-n.invariant.set honest heights valid is empty in
+    let v = value_at f F heights c.args.order.now valid is c.loop-n.n-index c.loop-n-test.true in
+    let sized = refs_sized f F heights c.args.order.now valid is c.loop-n.n-index c.loop-n.sizes c.loop-n-test.true set in
+    let p = err_from_is_err_and c.from_residual.result c.from_residual.ensures.1 in
+    let here = (rw c.loop-n.invariant.same at c.in_err-size.ensures.exact) honest v.0 v.1 sized in
+    rw (p.1, p.2) here
+
+pub loop-n-preserved : goal.loop-n-preserved
+loop-n-preserved g c =
+    let f = c.args.checked.now.source.octets in
+    let F = c.args.checked.now.frame in
+    record {
+      same = search rules;
+      count = search rules;
+      set = λ honest heights valid is empty.
+          let set = c.loop-n.invariant.set honest heights valid is empty in
+          let sized = refs_sized f F heights c.args.order.now valid is c.loop-n.n-index c.loop-n.sizes c.loop-n-test.true set in
+          set_more f F heights c.args.order.now valid is c.loop-n.n-index c.loop-n.sizes c.in_ok-size.size c.loop-n-test.true c.loop-n.invariant.count set
+          (λ v h. (rw c.loop-n.invariant.same at c.in_ok-size.ensures.exact) honest v h sized);
+    }

@@ -1,0 +1,51 @@
+use Rattle.std.proofs.Common.{◌≡◌, ◌<◌, length, slice_index, ap, ◌∙◌, arith}
+use Rattle.std.proofs.lemmas.List.{get_or_read, length-set}
+use Rattle.bplist_objects.specs.declared.frame.Frame.{Frame}
+use Rattle.bplist_objects.specs.Framed.{frame_in}
+use Rattle.bplist_keys.proofs.ListedObjects.{listed_over, listed_put, weigh_over, weigh_more, all_weighed}
+use Rattle.bplist_keys.proofs.weights.weigh_keys.Goals as goal
+use Rattle.bplist_keys.proofs.weights.weigh_keys.Goals.{then-index-ne0+in_ok-place+in_ok-weight+in_ok-put, else-index-ne0}
+
+pub loop-m-preserved : goal.loop-m-preserved
+loop-m-preserved g c =
+    let v = c.loop-m.invariant in
+    let f = (g.P.Source.means c.args.src.now).octets in
+    let F : Frame = frame_in (g.P.Source.means c.args.src.now) in
+    let by = c.args.keys.now.by in
+    let named = c.args.keys.now.weights.items in
+    let n = c.loop-m.m in
+    let weights = c.loop-m.keys.weights.items in
+    let texts = c.loop-m.keys.texts.items in
+    let room : n < length weights = omega (arith, v.all, c.loop-m-test.true, ap (λ (x : Frame). x.objects) c.frame-objects.ensures.frame) in
+    let read : c.index.result.now ≡ slice_index weights n = get_or_read weights n _ room c.index.ensures 0 in
+    elim c.if-index-ne0.branch [
+      | then-index-ne0+in_ok-place+in_ok-weight+in_ok-put w ↦
+          let some : 0 < slice_index weights n = omega (arith, read, w.if-index-ne0.true) in
+          let weight = w.in_ok-weight.weight in
+          record {
+            same = rw w.src-is (w.in_ok-weight.ensures.reads ∙ w.in_ok-place.ensures.reads ∙ v.same);
+            by = rw w.keys-is (w.in_ok-put.ensures.by ∙ v.by);
+            all = rw w.keys-is (ap length w.in_ok-put.ensures.weights ∙ length-set weights n weight ∙ v.all);
+            listed = rw (w.keys-is, w.in_ok-put.ensures.weights) (listed_put n named weights texts v.listed room some weight _ w.in_ok-put.ensures.other w.in_ok-put.ensures.text);
+            exact = λ honest. rw (w.keys-is, w.in_ok-put.ensures.weights)
+                (weigh_more f F by named n weight weights room
+                ((rw (w.in_ok-place.ensures.reads, v.same, v.by) at w.in_ok-weight.ensures.exact) honest ((rw v.same at w.in_ok-place.ensures.value) honest)) (v.exact honest));
+          }
+      | else-index-ne0 w ↦
+          let none : slice_index weights n ≡ 0 = omega (arith, read, w.if-index-ne0.false) in
+          record {
+            same = rw w.src-is v.same;
+            by = rw w.keys-is v.by;
+            all = rw w.keys-is v.all;
+            listed = rw w.keys-is (listed_over n named weights texts v.listed none);
+            exact = λ honest. rw w.keys-is (weigh_over f F by named n weights texts v.listed none (v.exact honest));
+          }
+    ]
+
+pub returns-clause-exact : goal.returns-clause-exact
+returns-clause-exact g c = λ honest.
+    let v = c.loop-m.invariant in
+    let F : Frame = frame_in (g.P.Source.means c.args.src.now) in
+    let last : c.loop-m.m ≡ F.objects = omega (arith, c.loop-m.auto.m-end, c.loop-m-test.false, ap (λ (x : Frame). x.objects) c.frame-objects.ensures.frame) in
+    all_weighed (g.P.Source.means c.args.src.now).octets F c.args.keys.now.by c.args.keys.now.weights.items F.objects c.loop-m.keys.weights.items c.loop-m.keys.texts.items
+    c.requires.named v.all (rw last at v.listed) (rw last at (v.exact honest))
