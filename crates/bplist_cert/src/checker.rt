@@ -58,14 +58,15 @@ fn check_object<P: Framed>(
         → Gives (λ now. IsCheckedObject f F walk.entry.certificate.now quick n.0 now.octets)
         (IsShownFault f F walk.entry.certificate.now walk.entry.look n.0) result) }
 {
-    let frame = src.frame();
+    let table = src.frame().table;
     let cert = walk.certificate;
     match walk.look {
         Pass::Quick => match visit_in(src, n, place)? {
-            Visit::Done(end) => Ok(used.with(&frame, n, place, end)?),
+            Visit::Done(end) => Ok(used.with(table, n, place, end)?),
             Visit::Body(head) => {
-                let now = used.with(&frame, n, place, head.end)?;
+                let now = used.with(table, n, place, head.end)?;
                 if refs_of(&head) == 0 {
+                    let frame = src.frame();
                     check_body(src, &frame, n, place, &head)?;
                 } else {
                     let heights: &[u32] = &cert.heights;
@@ -77,7 +78,7 @@ fn check_object<P: Framed>(
         },
         Pass::Exact => {
             let head = head_in(src, n, place)?;
-            let now = used.with(&frame, n, place, head.end)?;
+            let now = used.with(table, n, place, head.end)?;
             let heights: &[u32] = &cert.heights;
             check_refs(src, heights, n, &head, Wanted::Vouched)?;
             let own = heights[n.0 as usize];

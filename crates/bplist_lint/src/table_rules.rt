@@ -103,7 +103,7 @@ impl Tally {
         ensures references { IfOk result (λ now. now.references ≡ self.references + references) }
         ensures roomy { IfOk result (IsRoomy frame.now) }
     {
-        let used = self.used.with(frame, n, place, end)?;
+        let used = self.used.with(frame.table, n, place, end)?;
         Ok(Tally {
             reached: self.reached + 1,
             used,

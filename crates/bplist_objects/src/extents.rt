@@ -2,9 +2,10 @@
 
 ghost use Rattle.std.specs.Prelude.{◌≡◌, ℕ, ◌+◌, ◌-◌, ◌≤◌, ◌<◌, List, ◌∷◌, IfOk, MatchResult, Some};
 ghost use Rattle.bplist_objects.specs.Prelude.{Overfull, TakeOctets, Takes};
+ghost use Rattle.bplist_objects.specs.declared.frame.Frame.{Frame};
 
 use crate::fault::Fault;
-use crate::frame::{Frame, ObjectNo};
+use crate::frame::ObjectNo;
 use crate::rule::Rule;
 
 /// The bytes that objects take together, each from its marker to its end. An object inside another one counts by itself.
@@ -22,22 +23,22 @@ impl Extents {
         Extents { octets: 0 }
     }
 
-    /// Adds the bytes of object `n`, from `place` to `end`. If they are then more than there are between header and offset
-    /// table, the object breaks rule 31, and this is the fault.
+    /// Adds the bytes of object `n`, from `place` to `end`, in a file whose offset table begins at `table`. If the objects
+    /// then take more bytes than there are between header and offset table, the object breaks rule 31, and this is the
+    /// fault.
     #[inline(always)]
-    pub fn with(self, frame: &Frame, n: ObjectNo, place: u64, end: u64) -> Result<Extents, Fault>
-        requires table { 8 ≤ frame.now.table }
+    pub fn with(self, table: u64, n: ObjectNo, place: u64, end: u64) -> Result<Extents, Fault>
+        requires table { 8 ≤ table }
         requires extent { place ≤ «end» }
         ensures room { MatchResult result
-            (λ now. (now.octets ≡ self.octets + («end» - place)) × (now.octets + 8 ≤ frame.now.table))
+            (λ now. (now.octets ≡ self.octets + («end» - place)) × (now.octets + 8 ≤ table))
             (λ fault. (fault.rule ≡ Overfull) × (fault.object ≡ Some n) × (fault.place ≡ place)
-            × (frame.now.table < self.octets + («end» - place) + 8)) }
-        ensures sum { (f ns : List ℕ) → TakeOctets f frame.now ns self.octets → Takes f frame.now n.0 («end» - place)
-            → IfOk result (λ now. TakeOctets f frame.now (n.0 ∷ ns) now.octets) }
+            × (table < self.octets + («end» - place) + 8)) }
+        ensures sum { (f ns : List ℕ) (F : Frame) → TakeOctets f F ns self.octets → Takes f F n.0 («end» - place)
+            → IfOk result (λ now. TakeOctets f F (n.0 ∷ ns) now.octets) }
     {
-        let _places = (frame.table, frame.objects);
         let extent = end - place;
-        let room = frame.table - 8;
+        let room = table - 8;
         if self.octets > room || extent > room - self.octets {
             return Err(Fault {
                 rule: Rule::Overfull,
