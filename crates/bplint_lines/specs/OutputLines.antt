@@ -3,7 +3,7 @@ use Rattle.std.specs.Prelude.{ℕ, List, [], ◌∷◌, ◌++◌, codes, get_or,
 use denote.Enum.Declared.{tag_of}
 use Rattle.std.specs.Fmt.{decimal, signed_decimal}
 use Rattle.hex.specs.Hex.{encode_lower}
-use Rattle.bplist_objects.specs.contracts.kind.Kind.{the_type as kinds}
+use Rattle.bplist_objects.specs.contracts.head.Kind.{the_type as kinds}
 use Rattle.bplist_objects.specs.declared.head.Kind.{Kind}
 use Rattle.bplist_cursor.specs.declared.face.Face.{Face}
 use Rattle.bplist_cursor.specs.declared.face.Face.TheVariants as faces

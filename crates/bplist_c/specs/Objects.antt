@@ -3,7 +3,7 @@ use Rattle.std.specs.Prelude.{◌≡◌, ℕ, suc, ◌-◌, ◌/◌, ◌%◌, �
 use Rattle.std.specs.Int.{w128, cast_unsigned}
 use denote.Enum.Declared.{tag_of}
 use Rattle.bplist_octets.specs.Octets.{part}
-use Rattle.bplist_objects.specs.contracts.kind.Kind.{the_type}
+use Rattle.bplist_objects.specs.contracts.head.Kind.{the_type}
 use Rattle.bplist_objects.specs.Value.{int, text, uid}
 use Rattle.bplist_objects.specs.declared.frame.Frame.{Frame}
 use Rattle.bplist_objects.specs.declared.head.Head.{Head}

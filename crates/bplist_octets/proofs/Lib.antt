@@ -4,3 +4,4 @@ pub mod Parts
 pub mod Sources
 pub mod WindowSteps
 pub mod SinkSteps
+pub mod SentParts

@@ -2,7 +2,7 @@
 use Rattle.std.proofs.Common.{◌≡◌, Bool, true, false, refl, sym, ◌∙◌}
 use Rattle.bplist_octets.specs.Meaning.{Meaning, OnlyReads, last_count}
 use Rattle.bplist_octets.specs.declared.source.SliceSource.{SliceSource}
-use Rattle.bplist_octets.specs.contracts.slice.SliceSourceSource.TheImpl.{ghosts}
+use Rattle.bplist_octets.specs.contracts.source.SliceSourceSource.TheImpl.{ghosts}
 
 -- if the count of failures is 0 before and after, no read has failed
 pub never_fails : (b : Bool) (old new : Meaning) → old.failures ≡ 0 → new.failures ≡ 0 → OnlyReads b old new → b ≡ false

@@ -34,8 +34,8 @@ use Rattle.std.proofs.raw_atomic.Walks.{proved_at, leaves}
 use Rattle.bplist_c.proofs.Values.{both, Loose, loose_good, loose_out}
 use Rattle.std_alloc.specs.contracts.boxed.Box.from_raw as callee
 use Rattle.std_alloc.proofs.boxed.Box.from_raw.Met.{met}
-use Rattle.bplist_c.specs.contracts.loose.Loose.into_box.{ended, clauses}
-use Rattle.bplist_c.specs.contracts.loose.Loose.into_box.Key.{name as #self}
+use Rattle.bplist_c.specs.contracts.handle.Loose.into_box.{ended, clauses}
+use Rattle.bplist_c.specs.contracts.handle.Loose.into_box.Key.{name as #self}
 use Rattle.bplist_c.proofs.handle.Loose.into_box.Statement.{statement}
 use Rattle.bplist_c.proofs.handle.Loose.into_box.Code as code
 

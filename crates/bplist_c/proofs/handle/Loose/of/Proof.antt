@@ -35,8 +35,8 @@ use Rattle.std.proofs.raw_atomic.Walks.{proved_at, leaves}
 use Rattle.bplist_c.proofs.Values.{both, loose_good, loose_in}
 use Rattle.std_alloc.specs.contracts.boxed.Box.into_raw_with_allocator as callee
 use Rattle.std_alloc.proofs.boxed.Box.into_raw_with_allocator.Met.{met}
-use Rattle.bplist_c.specs.contracts.loose.Loose.of.{ended, clauses}
-use Rattle.bplist_c.specs.contracts.loose.Loose.of.Key.{name as #self}
+use Rattle.bplist_c.specs.contracts.handle.Loose.of.{ended, clauses}
+use Rattle.bplist_c.specs.contracts.handle.Loose.of.Key.{name as #self}
 use Rattle.bplist_c.proofs.handle.Loose.of.Statement.{statement}
 use Rattle.bplist_c.proofs.handle.Loose.of.Code as code
 

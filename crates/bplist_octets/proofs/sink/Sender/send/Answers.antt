@@ -1,5 +1,5 @@
 use Rattle.std.proofs.Common.{arith}
-use Rattle.bplist_ascii.proofs.Parts.{sends_on}
+use Rattle.bplist_octets.proofs.SentParts.{sends_on}
 use Rattle.bplist_octets.proofs.sink.Sender.send.Goals as goal
 
 pub loop-sent-preserved : goal.loop-sent-preserved
