@@ -1,4 +1,5 @@
-//! Checks the places of all objects, rule 13, and reads the head at a place.
+//! Checks the places of all objects, rule 13, and reads the head of an object at its place. The tally sums up the
+//! reached objects, their bytes and their references, and finds the fault of rule 31 if there is no room for an object.
 
 ghost use Rattle.std.specs.Prelude.{◌≡◌, ℕ, ◌<◌, IsTrue, slice_index, MatchResult, MatchOption, IfOk, IfSome, is_err};
 ghost use Rattle.std.specs.Prelude.{length, ◌+◌, ◌-◌, ◌≤◌, Some};
@@ -9,54 +10,6 @@ use bplist_objects::{
     Extents, Fault, Frame, Head, ObjectFault, ObjectNo, Offsets, high_entry, object_shape,
 };
 use bplist_octets::ReadFault;
-
-/// Returns whether all these places are below the bound. The loop has no other exit, so that it takes several at a time.
-fn are_below(places: &[u32], bound: u32) -> bool
-    ensures { IsTrue result → (k : ℕ) → k < length places.now → slice_index places.now k < bound }
-{
-    let mut below = true;
-    for place in places {
-        if *place >= bound {
-            below = false;
-        }
-    }
-    below
-}
-
-/// Checks all places by rule 13 OffsetHigh, in a file of `len` bytes.
-pub fn check_offsets(frame: &Frame, places: &[u32], len: u64) -> Result<(), Fault>
-    requires safe { IsSafe len frame.now }
-    requires all { length places.now ≡ frame.now.objects }
-    ensures { MatchResult result (λ _. AreBelowTable frame.now places.now) (IsOffsetFault frame.now places.now) }
-{
-    if are_below(places, frame.table.min(u32::MAX as u64) as u32) {
-        return Ok(());
-    }
-    for n in 0..frame.objects {
-        if places[n as usize] as u64 >= frame.table {
-            return Err(high_entry(frame, ObjectNo(n), len));
-        }
-    }
-    Ok(())
-}
-
-/// Returns the head of object `n`, if the object keeps rules 14 to 17.
-pub fn shape_there<P: Offsets>(src: &mut P, n: u32) -> Result<Option<Head>, ReadFault>
-    requires { n < (frame_in (P.means src.old)).objects }
-    ensures reads { OnlyReads (is_err result) (P.means src.old) (P.means src.new) }
-    ensures safe { IfOk result (λ found. IfSome found (IsSafeHead (frame_in (P.means src.old)))) }
-    ensures shape { HonestlyIn (P.means src.old) (λ f F. IfOk result (λ found. MatchOption found
-        ((h : head) → HasShape f F n h → ⊥) (HasShape f F n))) }
-{
-    let _frame = src.frame();
-    match object_shape(src, n) {
-        Ok(head) => Ok(Some(head)),
-        Err(ObjectFault::Fault(_)) => Ok(None),
-        Err(ObjectFault::Read(error)) => Err(error),
-    }
-}
-
-//@@ tally: Counts the reached objects, their bytes and their references.
 
 /// Sums over the reached objects seen so far.
 #[derive(Clone, Copy, Debug, PartialEq, Eq, Drop)]
@@ -109,5 +62,51 @@ impl Tally {
             used,
             references: self.references + references,
         })
+    }
+}
+
+/// Returns whether all these places are below the bound. The loop has no other exit, so that it takes several at a time.
+fn are_below(places: &[u32], bound: u32) -> bool
+    ensures { IsTrue result → (k : ℕ) → k < length places.now → slice_index places.now k < bound }
+{
+    let mut below = true;
+    for place in places {
+        if *place >= bound {
+            below = false;
+        }
+    }
+    below
+}
+
+/// Checks all places by rule 13 OffsetHigh, in a file of `len` bytes.
+pub fn check_offsets(frame: &Frame, places: &[u32], len: u64) -> Result<(), Fault>
+    requires safe { IsSafe len frame.now }
+    requires all { length places.now ≡ frame.now.objects }
+    ensures { MatchResult result (λ _. AreBelowTable frame.now places.now) (IsOffsetFault frame.now places.now) }
+{
+    if are_below(places, frame.table.min(u32::MAX as u64) as u32) {
+        return Ok(());
+    }
+    for n in 0..frame.objects {
+        if places[n as usize] as u64 >= frame.table {
+            return Err(high_entry(frame, ObjectNo(n), len));
+        }
+    }
+    Ok(())
+}
+
+/// Returns the head of object `n`, if the object keeps rules 14 to 17.
+pub fn shape_there<P: Offsets>(src: &mut P, n: u32) -> Result<Option<Head>, ReadFault>
+    requires { n < (frame_in (P.means src.old)).objects }
+    ensures reads { OnlyReads (is_err result) (P.means src.old) (P.means src.new) }
+    ensures safe { IfOk result (λ found. IfSome found (IsSafeHead (frame_in (P.means src.old)))) }
+    ensures shape { HonestlyIn (P.means src.old) (λ f F. IfOk result (λ found. MatchOption found
+        ((h : head) → HasShape f F n h → ⊥) (HasShape f F n))) }
+{
+    let _frame = src.frame();
+    match object_shape(src, n) {
+        Ok(head) => Ok(Some(head)),
+        Err(ObjectFault::Fault(_)) => Ok(None),
+        Err(ObjectFault::Read(error)) => Err(error),
     }
 }
