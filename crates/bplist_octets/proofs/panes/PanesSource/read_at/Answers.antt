@@ -1,6 +1,6 @@
 use Rattle.std.proofs.Common.{◌∙◌, arith}
 use Rattle.bplist_octets.proofs.WindowSteps.{pane_part}
-use Rattle.bplist_octets.proofs.panes.WindowsSource.read_at.Goals as goal
+use Rattle.bplist_octets.proofs.panes.PanesSource.read_at.Goals as goal
 
 pub returns-in-Some-clause-filled : goal.returns-in-Some-clause-filled
 returns-in-Some-clause-filled g c = λ honest.
