@@ -1,5 +1,6 @@
 //! Writes values as old-style text, Apple's ASCII form of property lists. Not here: how long a text is and whether a
-//! value has one (crate `bplist_cursor`, `measure`), and the buffer in front of a writer (crate `bplist_octets`, `Sink`).
+//! value has one (`measure` of crate `bplist_cursor`), and the buffer in front of a writer (`Sink` of crate
+//! `bplist_octets`).
 //!
 //! ```
 //! let measures = measure(alloc, &mut checked)?;
