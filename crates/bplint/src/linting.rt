@@ -1,4 +1,5 @@
-//! The command `lint` for one FILE, for several, or for all files below a folder.
+//! The command `lint` for one FILE, for several, or for all files below a folder. A run counts its files, and keeps the
+//! greatest exit status.
 
 ghost use Rattle.std.specs.Prelude.{◌≤◌, ◌≡◌, max};
 
@@ -208,8 +209,6 @@ fn unnamed_prefix(alloc: Global, path: &[u8]) -> Result<String, AllocError> {
     let shown = shown_octets(alloc, path)?;
     format!(in alloc; "{shown}: ")
 }
-
-//@@ tally: Counts the files of a `lint` run, and keeps the greatest exit status.
 
 /// The counts so far.
 #[derive(Drop)]

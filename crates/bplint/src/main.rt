@@ -15,11 +15,10 @@
 //! | `arguments`, `subcommands` | the command line as tables, for clap |
 //! | `input` | FILE and CERT: opened and read by place, or read as a whole |
 //! | `runs` | one request about one FILE |
-//! | `output` | OUT, which is created when its first byte is written |
-//! | `endings` | the line of a fault, and the exit status |
+//! | `output` | OUT, which is created when its first byte is written; the line of a fault, and the exit status |
 //! | `unread` | inputs that could not be read |
-//! | `linting`, `tally` | `lint` over several FILEs and folders, and their counts |
-//! | `folders`, `file_names` | the entries of a folder, and file names in lines |
+//! | `linting` | `lint` over several FILEs and folders, and their counts |
+//! | `folders` | the entries of a folder, and file names in lines |
 #![tactic(auto)]
 
 ghost use Rattle.std.specs.Prelude.{◌≤◌};
@@ -37,9 +36,8 @@ mod unread;
 use args::Line;
 use bplint_lines::{RunFault, Said, rule_text};
 use bplist_objects::Rule;
-use endings::{WRONG_LINE, end, refuse};
 use linting::lint_files;
-use output::OutFile;
+use output::{OutFile, WRONG_LINE, end, refuse};
 use runs::{Ending, run};
 use std::alloc::Global;
 use std::fs::{File, Files};

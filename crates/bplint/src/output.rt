@@ -1,4 +1,5 @@
-//! Writes answers to files and to standard output.
+//! Writes answers to files and to standard output, and ends a run: prints the line of a fault to standard error, and
+//! returns the exit status.
 
 ghost use Rattle.std.specs.Prelude.{None};
 ghost use Rattle.bplint.specs.ExitStatuses.{EndsWith, IsRefusedWith};
@@ -12,6 +13,9 @@ use std::alloc::{AllocError, Global};
 use std::fs::{File, Files};
 use std::io;
 use std::io::Write;
+
+/// The exit status of a wrong command line.
+pub const WRONG_LINE: u8 = 2;
 
 /// A writer that creates or empties its file at the first write. `-` is standard output.
 #[derive(Drop)]
@@ -102,11 +106,6 @@ impl Write for NoOut {
         Ok(())
     }
 }
-
-//@@ endings: Ends a run: prints the line of a fault to standard error, and returns the exit status.
-
-/// The exit status of a wrong command line.
-pub const WRONG_LINE: u8 = 2;
 
 /// Prints the line of a fault after the prefix, with its explanation. Returns the exit status. Prints everything with
 /// one write, so that the lines of parallel runs do not mix.

@@ -1,4 +1,5 @@
-//! The command `certify`: writes a certificate of the file.
+//! The certificates of a run. The command `certify` writes one. Other commands need a file together with a certificate
+//! that fits it: the one that a caller gives, or the one that the linter makes.
 
 ghost use Rattle.std.specs.Prelude.{◌≡◌, IfOk, IsTrue, false, true, ℕ, List, length, MatchResult};
 ghost use Rattle.bplint_engine.specs.Prelude.{OnlyReads, octets_of, Lists, IsCertificate, IsUpgraded, read_failed};
@@ -111,8 +112,6 @@ fn bytes_of(alloc: Global, certificate: &Certificate, hex: bool) -> Result<Vec<u
     text.push('\n')?;
     Ok(text.into_bytes())
 }
-
-//@@ certified_file: A file together with a certificate that fits it: one that a caller gives, or the one that the linter makes.
 
 /// Checks the file against the decoded certificate. Returns the file with the certificate if it is accepted, or else
 /// the first fault and the source.

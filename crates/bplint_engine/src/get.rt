@@ -1,4 +1,5 @@
-//! The command `get`: one line for each path.
+//! The command `get`: one line for each path. Path texts become paths here, for this command and for all others that
+//! take them.
 
 ghost use Rattle.std.specs.Prelude.{◌≡◌, ◌++◌, ℕ, List, Err, IfOk, IsTrue, MatchResult, OnOk, map, string_bytes, ◌∷◌};
 ghost use Rattle.std.specs.Prelude.{[], length};
@@ -133,8 +134,6 @@ fn add_reply(alloc: Global, reply: &Reply, lines: &mut Vec<u8>) -> Result<(), Al
     }
     Ok(lines.push(b'\n')?)
 }
-
-//@@ path_queries: Parses path texts, and makes queries of them.
 
 /// Makes one `Get` query for each path text, in order. Returns the fault of the first wrong text.
 pub(crate) fn queries_of(alloc: Global, texts: &[String]) -> Result<Vec<Query>, RunFault>

@@ -25,16 +25,14 @@
 //!
 //! The modules, in reading order:
 //!
-//! - `command`: what a caller asks for.
-//! - `run`: runs one command.
-//! - `lint`, `check`, `get`, `certify`, `print`: one command each.
-//! - `show`, `ls`, `tree`, `raw`: the calls that need no certificate.
-//! - `certified_file`: a file together with a checked certificate, or with the linter's own.
-//! - `path_queries`: path texts and the queries made of them.
-//! - `member_lines`, `tree_walk`, `names`: lines of members, the recursive walk, and the names in it.
-//! - `raw_form`, `raw_parts`, `characters`: raw bytes, and how they are sent in parts.
-//! - `hexadecimal`: input as hexadecimal text.
-//! - `output`, `delivery`: the bytes of an answer, and how they are written.
+//! - `run`: what a caller asks for, and the calls that run it, also over hexadecimal text.
+//! - `lint`, `check`, `print`: one command each.
+//! - `certify`: the command, and a file together with a checked certificate, or with the linter's own.
+//! - `get`: the command, and the paths and queries that path texts mean.
+//! - `show`, `ls`, `tree`, `raw`: the calls that need no certificate. `ls` also has the lines of members.
+//! - `tree_walk`, `names`: the recursive walk, and the names in it.
+//! - `raw_bytes`: which raw bytes a value has, and how they are sent in parts.
+//! - `output`: the bytes of an answer, and how they are written.
 //! - `laws`: facts about the definitions.
 #![tactic(auto)]
 

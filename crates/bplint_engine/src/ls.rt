@@ -1,4 +1,5 @@
-//! The command `ls`: lists the members of one value in a file that has no certificate.
+//! The command `ls`: lists the members of one value in a file that has no certificate. A recursive listing
+//! takes the kinds of members and the values of lines from here.
 
 ghost use Rattle.std.specs.Prelude.{◌≡◌, ◌∷◌, [], ◌*◌, ◌^◌, ◌<◌, Ok, IfSome, IsTrue, MatchOption, ◌++◌, OnOk, Some};
 ghost use Rattle.std.specs.Prelude.{codes};
@@ -18,6 +19,30 @@ use bplist_objects::Head;
 use bplist_octets::Source;
 use std::alloc::{AllocError, Global};
 use std::io::Write;
+
+/// The kind of members that a container has.
+#[derive(Clone, Copy, Debug, PartialEq, Eq, Drop)]
+pub(crate) enum Members {
+    /// Members of an array; an index is the last step of their path.
+    Array,
+    /// Members of a set, which have an index but no path.
+    Set,
+    /// Pairs of a dictionary; the key is the last step of the value's path.
+    Dict,
+}
+
+/// A container whose members are to be listed.
+#[derive(Clone, Copy, Drop)]
+pub(crate) struct Container<'a> {
+    /// The head of the container's object. It is read once for all members.
+    pub head: Head,
+    /// The kind of the members.
+    pub members: Members,
+    /// The number of members, or of pairs.
+    pub count: u64,
+    /// The path text of the container.
+    pub path: &'a str,
+}
 
 /// Lists the value under a path: writes one line for each member of an array or set, one for each pair of a dictionary,
 /// or one for a leaf itself. Returns the source too.
@@ -151,32 +176,6 @@ pub(crate) fn members_of(shown: &Face, length: u64) -> Option<(Members, u64)>
         Face::Dict(count) => Some((Members::Dict, *count)),
         _ => None,
     }
-}
-
-//@@ member_lines: The lines of the members of one container.
-
-/// The kind of members that a container has.
-#[derive(Clone, Copy, Debug, PartialEq, Eq, Drop)]
-pub(crate) enum Members {
-    /// Members of an array; an index is the last step of their path.
-    Array,
-    /// Members of a set, which have an index but no path.
-    Set,
-    /// Pairs of a dictionary; the key is the last step of the value's path.
-    Dict,
-}
-
-/// A container whose members are to be listed.
-#[derive(Clone, Copy, Drop)]
-pub(crate) struct Container<'a> {
-    /// The head of the container's object. It is read once for all members.
-    pub head: Head,
-    /// The kind of the members.
-    pub members: Members,
-    /// The number of members, or of pairs.
-    pub count: u64,
-    /// The path text of the container.
-    pub path: &'a str,
 }
 
 /// Adds the lines of all members of a container, in order.

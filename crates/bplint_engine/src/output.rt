@@ -1,4 +1,5 @@
-//! The answer of a command before it is written.
+//! The answer of a command before it is written, and how it goes to the caller's writer. If the whole answer is made
+//! first, each fault of the run comes before the first byte.
 
 ghost use Rattle.std.specs.Prelude.{◌≡◌, MatchResult};
 ghost use Rattle.std.specs.Io.KnownBytes.{Appends};
@@ -16,8 +17,6 @@ pub(crate) struct Output {
     /// All bytes of the answer, with line feeds.
     pub bytes: Vec<u8>,
 }
-
-//@@ delivery: Writes an answer to the caller's writer.
 
 /// Writes the output if there is one, and passes the source on.
 pub(crate) fn send_made<S: Source, W: Write>(

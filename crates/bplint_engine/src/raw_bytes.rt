@@ -1,4 +1,5 @@
-//! Decides which raw bytes a value has.
+//! Decides which raw bytes a value has, and writes them. Long data and texts are read and written part by part. A part
+//! of a text never ends between the two halves of a surrogate pair, so each part has its own UTF-8.
 
 ghost use Rattle.std.specs.Prelude.{◌≡◌, IfOk, IfSome, IsTrue, length, not, option_map, ◌+◌, ◌<◌, ◌≤◌, take, false};
 ghost use Rattle.std.specs.Prelude.{encode_utf8_all};
@@ -20,6 +21,9 @@ use bplist_objects::{Head, Kind};
 use bplist_octets::{Sink, Source};
 use std::alloc::{AllocError, Global};
 use std::io::Write;
+
+/// The largest number of units that one read takes.
+pub(crate) const PART: usize = 1024;
 
 /// The raw bytes of a value, or the head to read them with.
 #[derive(Debug, Drop)]
@@ -103,11 +107,6 @@ fn is_paired<S: Source>(
     Ok(true)
 }
 
-//@@ characters: Reads the UTF-16 units of a text in parts, and never splits a character between two parts.
-
-/// The largest number of units that one read takes.
-pub(crate) const PART: usize = 1024;
-
 /// Reads units of a text from number `from` on into the buffer. Reads as many as fit, but one less if the part would
 /// end between the two halves of a surrogate pair. Returns how many units it read.
 pub(crate) fn read_characters<S: Source>(
@@ -141,8 +140,6 @@ fn is_high_surrogate(unit: u16) -> bool
 {
     matches!(unit, 0xD800..=0xDBFF)
 }
-
-//@@ raw_parts: Writes raw bytes part by part.
 
 /// Writes raw bytes, and flushes the sink.
 pub(crate) fn send_raw<S: Source, W: Write>(

@@ -1,4 +1,5 @@
-//! Runs one command over a file and a certificate.
+//! Runs one command over a file and a certificate, which are a source, bytes or hexadecimal text: the commands with
+//! their options, and the calls that run them.
 
 ghost use Rattle.std.specs.Prelude.{◌≡◌, ℕ, List, [], false, IsTrue, if◌then◌else◌, ◌⊎◌, ◌-◌, ◌==◌, IfOk, IfErr, IsErr};
 ghost use Rattle.std.specs.Prelude.{Ok, length, slice_index, take};
@@ -18,6 +19,51 @@ use hex::FromHexError;
 use std::alloc::Global;
 use std::io::Write;
 use std::marker::Model;
+
+/// The five commands of [`crate::run_on`].
+#[derive(Clone, Copy, Debug, PartialEq, Eq, Drop)]
+pub enum Verb {
+    /// Decide whether a file holds a value.
+    Lint,
+    /// Check a certificate against a file.
+    Check,
+    /// Print one line for the value under each path.
+    Get,
+    /// Write a certificate of a file.
+    Certify,
+    /// Print the value under one path as old-style text.
+    Print,
+}
+
+/// A command with its options.
+#[derive(Debug, Drop)]
+pub struct Command {
+    /// Which command to run.
+    pub verb: Verb,
+    /// The path texts. Only `Get` and `Print` use them. `Print` needs exactly one.
+    pub paths: Vec<String>,
+    /// The largest text that `Print` may write, in bytes, not counting the final line feed.
+    pub limit: u64,
+    /// If true, the file and the certificate are given as hexadecimal text, and `Certify` writes hexadecimal text.
+    pub hex: bool,
+    /// If true, `Certify` also writes key lists.
+    pub sorted: bool,
+}
+
+impl Model for Command {
+    ghost use Rattle.std.specs.Prelude.{map, string_bytes};
+    ghost use Rattle.bplint_engine.specs.Commands.{Asked};
+
+    ghost Value = { Asked };
+
+    ghost view = { λ c. record {
+      verb = c.verb;
+      paths = map (λ text. string_bytes text) c.paths.items;
+      limit = c.limit;
+      hex = c.hex;
+      sorted = c.sorted;
+    } };
+}
 
 /// Runs a command over a source and a decoded certificate. Returns the source too.
 ///
@@ -124,55 +170,6 @@ fn run_over_bytes<W: Write>(
 {
     run_on(alloc, command, SliceSource::new(file), cert, out).0
 }
-
-//@@ command: The commands that the engine runs, and their options.
-
-/// The five commands of [`crate::run_on`].
-#[derive(Clone, Copy, Debug, PartialEq, Eq, Drop)]
-pub enum Verb {
-    /// Decide whether a file holds a value.
-    Lint,
-    /// Check a certificate against a file.
-    Check,
-    /// Print one line for the value under each path.
-    Get,
-    /// Write a certificate of a file.
-    Certify,
-    /// Print the value under one path as old-style text.
-    Print,
-}
-
-/// A command with its options.
-#[derive(Debug, Drop)]
-pub struct Command {
-    /// Which command to run.
-    pub verb: Verb,
-    /// The path texts. Only `Get` and `Print` use them. `Print` needs exactly one.
-    pub paths: Vec<String>,
-    /// The largest text that `Print` may write, in bytes, not counting the final line feed.
-    pub limit: u64,
-    /// If true, the file and the certificate are given as hexadecimal text, and `Certify` writes hexadecimal text.
-    pub hex: bool,
-    /// If true, `Certify` also writes key lists.
-    pub sorted: bool,
-}
-
-impl Model for Command {
-    ghost use Rattle.std.specs.Prelude.{map, string_bytes};
-    ghost use Rattle.bplint_engine.specs.Commands.{Asked};
-
-    ghost Value = { Asked };
-
-    ghost view = { λ c. record {
-      verb = c.verb;
-      paths = map (λ text. string_bytes text) c.paths.items;
-      limit = c.limit;
-      hex = c.hex;
-      sorted = c.sorted;
-    } };
-}
-
-//@@ hexadecimal: Input as hexadecimal text.
 
 /// Decodes hexadecimal text with digits of either case. Drops one line feed at the end of the text. Returns `Hex` if
 /// the text is anything else, and `Memory` if memory is refused.

@@ -1,4 +1,6 @@
-//! Explains a fault: the rule, the numbers of the file, the path to the object, and the bytes.
+//! Explains rules in plain words. Below the line of a fault there are the rule, the numbers of the file, the path to
+//! the object, and the bytes around the place. The page of a rule says what the rule requires, with an example that
+//! breaks it.
 
 ghost use Rattle.std.specs.Prelude.{◌≡◌, ℕ, List, [], ◌<◌, ◌++◌, IfOk, IfSome, MatchOption, length, string_bytes};
 ghost use Rattle.std.specs.Prelude.{codes};
@@ -71,6 +73,14 @@ fn behind_rule(alloc: Global, rule: Rule, lines: &str) -> Result<String, AllocEr
     let mut text = rule_line_of(alloc, rule)?;
     text.push_str(lines)?;
     Ok(text)
+}
+
+/// Returns the line of a rule that explains a fault.
+pub(crate) fn rule_line_of(alloc: Global, rule: Rule) -> Result<String, AllocError>
+    ensures { IfOk result (λ text. string_bytes text ≡ rule_line rule) }
+{
+    let (number, (demand, _)) = (rule_number(rule), texts_of(rule));
+    format!(in alloc; "  rule {number}: {demand}\n")
 }
 
 /// Returns the lines about the place of a broken rule.
@@ -250,7 +260,15 @@ fn dump(alloc: Global, start: u64, octets: &[u8], marked: usize) -> Result<Strin
     Ok(line)
 }
 
-//@@ rule_lines: Rules in plain words.
+/// Returns two lines: number, word and requirement of a rule, and an example that breaks it.
+pub fn rule_text(alloc: Global, rule: Rule) -> Result<String, AllocError>
+    ensures { IfOk result (λ text. string_bytes text ≡ codes "rule " ++ decimal (number_of rule) ++ codes " " ++ word_of rule
+        ++ codes ": " ++ (text_of rule).0 ++ codes "\nbroken by: " ++ (text_of rule).1 ++ codes "\n") }
+{
+    let (number, word) = (rule_number(rule), rule_name(rule));
+    let (demand, breach) = texts_of(rule);
+    format!(in alloc; "rule {number} {word}: {demand}\nbroken by: {breach}\n")
+}
 
 /// Returns the rule that has this word in fault lines, or `None` if no rule has it.
 pub fn rule_of_word(word: &str) -> Option<Rule>
@@ -263,22 +281,4 @@ pub fn rule_of_word(word: &str) -> Option<Rule>
         }
     }
     None
-}
-
-/// Returns two lines: number, word and requirement of a rule, and an example that breaks it.
-pub fn rule_text(alloc: Global, rule: Rule) -> Result<String, AllocError>
-    ensures { IfOk result (λ text. string_bytes text ≡ codes "rule " ++ decimal (number_of rule) ++ codes " " ++ word_of rule
-        ++ codes ": " ++ (text_of rule).0 ++ codes "\nbroken by: " ++ (text_of rule).1 ++ codes "\n") }
-{
-    let (number, word) = (rule_number(rule), rule_name(rule));
-    let (demand, breach) = texts_of(rule);
-    format!(in alloc; "rule {number} {word}: {demand}\nbroken by: {breach}\n")
-}
-
-/// Returns the line of a rule that explains a fault.
-pub(crate) fn rule_line_of(alloc: Global, rule: Rule) -> Result<String, AllocError>
-    ensures { IfOk result (λ text. string_bytes text ≡ rule_line rule) }
-{
-    let (number, (demand, _)) = (rule_number(rule), texts_of(rule));
-    format!(in alloc; "  rule {number}: {demand}\n")
 }

@@ -1,4 +1,5 @@
-//! The errors of a run, with the line and the exit status of each.
+//! How a run ends: whether each path led to a value, or why the run has no answer. Each error has its line and its exit
+//! status. All faults of the libraries turn into errors of a run, so `?` passes them on.
 
 ghost use Rattle.std.specs.Prelude.{◌≡◌, IfOk, string_bytes};
 ghost use Rattle.bplint_lines.specs.declared.fault.RunFault.TheVariants.{Changed, Circle, Fault, Memory, NoAsciiForm};
@@ -21,8 +22,6 @@ use bplist_lint::{LintRefusal, ObjectNos, UpgradeFault};
 use bplist_objects::{Fault, ObjectNo, Rule, rule_name};
 use bplist_octets::{ReadFault, WriteFault};
 use std::alloc::{AllocError, AllocFailed, Global};
-
-//@@ said: The success values of a run.
 
 /// Whether each path led to a value, of a run that wrote its whole answer.
 #[derive(Clone, Copy, Debug, PartialEq, Eq, Drop)]
@@ -66,6 +65,88 @@ pub enum RunFault {
     Open,
     /// An input that must be read as a whole is longer than the limit of the program.
     InputTooLong,
+}
+
+impl RunFault {
+    /// Returns the exit status.
+    pub fn status(&self) -> u8
+        ensures { result ≡ (report_of self.now).1 }
+    {
+        match self {
+            RunFault::Fault(fault) => match fault.rule {
+                Rule::PathText => 2,
+                _ => 1,
+            },
+            RunFault::Circle(_) | RunFault::NoAsciiForm(_) | RunFault::TooLong => 1,
+            RunFault::Path { .. } => 2,
+            RunFault::Read(_)
+            | RunFault::Hex
+            | RunFault::Changed
+            | RunFault::Write { .. }
+            | RunFault::Open
+            | RunFault::InputTooLong => 3,
+            RunFault::Memory => 4,
+        }
+    }
+
+    /// Returns the line to print, without a line feed. The only error is refused memory.
+    pub fn line(&self, alloc: Global) -> Result<String, AllocError>
+        ensures { IfOk result (λ text. string_bytes text ≡ (report_of self.now).0) }
+    {
+        match self {
+            RunFault::Fault(fault) => line_of_rule(alloc, fault.rule, fault.object, fault.place),
+            RunFault::Circle(objects) => line_of_circle(alloc, objects.as_slice()),
+            RunFault::Path { place } => line_of_rule(alloc, Rule::PathText, None, *place as u64),
+            RunFault::NoAsciiForm(object) => {
+                let number = object.0;
+                format!(in alloc; "form NoAsciiForm object {number}")
+            }
+            RunFault::TooLong => String::from_str(alloc, "form TooLong"),
+            RunFault::Read(fault) => String::from_str(alloc, line_of_read(*fault)),
+            RunFault::Hex => String::from_str(alloc, "read Hex"),
+            RunFault::Changed => String::from_str(alloc, "changed"),
+            RunFault::Write { sent } => format!(in alloc; "write {sent}"),
+            RunFault::Memory => String::from_str(alloc, "memory"),
+            RunFault::Open => String::from_str(alloc, "read Open"),
+            RunFault::InputTooLong => String::from_str(alloc, "read TooLong"),
+        }
+    }
+}
+
+fn line_of_read(fault: ReadFault) -> &'static str
+    ensures { result.now ≡ (report_of (Read fault)).0 }
+{
+    match fault {
+        ReadFault::Device => "read Device",
+        ReadFault::Ended => "read Ended",
+        ReadFault::TooManyTurns => "read TooManyTurns",
+    }
+}
+
+fn line_of_rule(
+    alloc: Global,
+    rule: Rule,
+    object: Option<ObjectNo>,
+    place: u64,
+) -> Result<String, AllocError>
+    ensures { IfOk result (λ text. string_bytes text ≡ fault_line rule object place) }
+{
+    let word = rule_name(rule);
+    match object {
+        Some(ObjectNo(number)) => format!(in alloc; "fault {word} object {number} place {place}"),
+        None => format!(in alloc; "fault {word} object none place {place}"),
+    }
+}
+
+fn line_of_circle(alloc: Global, objects: &[ObjectNo]) -> Result<String, AllocError>
+    ensures { IfOk result (λ text. string_bytes text ≡ (report_of (Circle objects.now)).0) }
+{
+    let mut line = String::from_str(alloc, "circle")?;
+    for object in objects {
+        let number = object.0;
+        write!(line, " {number}")?;
+    }
+    Ok(line)
 }
 
 impl From<ReadFault> for RunFault {
@@ -231,86 +312,4 @@ impl<T: Drop> From<AllocFailed<T>> for RunFault {
     fn from(_error: AllocFailed<T>) -> RunFault {
         RunFault::Memory
     }
-}
-
-impl RunFault {
-    /// Returns the exit status.
-    pub fn status(&self) -> u8
-        ensures { result ≡ (report_of self.now).1 }
-    {
-        match self {
-            RunFault::Fault(fault) => match fault.rule {
-                Rule::PathText => 2,
-                _ => 1,
-            },
-            RunFault::Circle(_) | RunFault::NoAsciiForm(_) | RunFault::TooLong => 1,
-            RunFault::Path { .. } => 2,
-            RunFault::Read(_)
-            | RunFault::Hex
-            | RunFault::Changed
-            | RunFault::Write { .. }
-            | RunFault::Open
-            | RunFault::InputTooLong => 3,
-            RunFault::Memory => 4,
-        }
-    }
-
-    /// Returns the line to print, without a line feed. The only error is refused memory.
-    pub fn line(&self, alloc: Global) -> Result<String, AllocError>
-        ensures { IfOk result (λ text. string_bytes text ≡ (report_of self.now).0) }
-    {
-        match self {
-            RunFault::Fault(fault) => line_of_rule(alloc, fault.rule, fault.object, fault.place),
-            RunFault::Circle(objects) => line_of_circle(alloc, objects.as_slice()),
-            RunFault::Path { place } => line_of_rule(alloc, Rule::PathText, None, *place as u64),
-            RunFault::NoAsciiForm(object) => {
-                let number = object.0;
-                format!(in alloc; "form NoAsciiForm object {number}")
-            }
-            RunFault::TooLong => String::from_str(alloc, "form TooLong"),
-            RunFault::Read(fault) => String::from_str(alloc, line_of_read(*fault)),
-            RunFault::Hex => String::from_str(alloc, "read Hex"),
-            RunFault::Changed => String::from_str(alloc, "changed"),
-            RunFault::Write { sent } => format!(in alloc; "write {sent}"),
-            RunFault::Memory => String::from_str(alloc, "memory"),
-            RunFault::Open => String::from_str(alloc, "read Open"),
-            RunFault::InputTooLong => String::from_str(alloc, "read TooLong"),
-        }
-    }
-}
-
-fn line_of_read(fault: ReadFault) -> &'static str
-    ensures { result.now ≡ (report_of (Read fault)).0 }
-{
-    match fault {
-        ReadFault::Device => "read Device",
-        ReadFault::Ended => "read Ended",
-        ReadFault::TooManyTurns => "read TooManyTurns",
-    }
-}
-
-fn line_of_rule(
-    alloc: Global,
-    rule: Rule,
-    object: Option<ObjectNo>,
-    place: u64,
-) -> Result<String, AllocError>
-    ensures { IfOk result (λ text. string_bytes text ≡ fault_line rule object place) }
-{
-    let word = rule_name(rule);
-    match object {
-        Some(ObjectNo(number)) => format!(in alloc; "fault {word} object {number} place {place}"),
-        None => format!(in alloc; "fault {word} object none place {place}"),
-    }
-}
-
-fn line_of_circle(alloc: Global, objects: &[ObjectNo]) -> Result<String, AllocError>
-    ensures { IfOk result (λ text. string_bytes text ≡ (report_of (Circle objects.now)).0) }
-{
-    let mut line = String::from_str(alloc, "circle")?;
-    for object in objects {
-        let number = object.0;
-        write!(line, " {number}")?;
-    }
-    Ok(line)
 }

@@ -23,10 +23,9 @@
 //!
 //! The modules, in reading order:
 //!
-//! - `said`, `fault`, `raw_fault`: how a run ends.
-//! - `rule_lines`: rules in plain words.
+//! - `fault`, `raw_fault`: how a run ends, [`Said`] and [`RunFault`], or [`RawFault`].
 //! - `output_lines`, `member_names`: the lines of answers, and the names of members in them.
-//! - `explanation`: the lines under the line of a fault.
+//! - `explanation`: rules in plain words, and the lines under the line of a fault.
 //! - `file_lines`, `object_path`: what an explanation says of the file, and the path to an object.
 #![tactic(auto)]
 

@@ -14,10 +14,9 @@
 //!
 //! The modules, in reading order:
 //!
-//! - `map`: the command.
-//! - `verdict`: what the linter says of the objects.
+//! - `map`: the command, [`map_on`].
 //! - `object_order`: the objects in byte order.
-//! - `rows`: what each object breaks by itself.
+//! - `rows`: what the linter says of the objects, and what each object breaks by itself.
 //! - `lines`: the lines of objects, gaps and overlaps.
 //! - `laws`: facts about the definitions.
 #![tactic(auto)]

@@ -1,4 +1,5 @@
-//! What each object breaks by itself.
+//! What the map says of the objects of a file: what the linter says of all of them, and what each object breaks by
+//! itself. The linter stops at the first fault, so the map also checks the objects one by one.
 
 ghost use Rattle.std.specs.Prelude.{IsTrue, ◌≡◌, ℕ, List, ◌∷◌, ◌<◌, IfOk, is_err};
 ghost use Rattle.bplist_octets.specs.Meaning.{OnlyReads};
@@ -19,8 +20,6 @@ use bplist_lint::{LintRefusal, lint};
 use bplist_objects::{Fault, Framed, Head, ObjectFault, ObjectNo, check_body, shape_in};
 use bplist_octets::{ReadFault, Source};
 use std::alloc::Global;
-
-//@@ verdict: What the linter says of the objects of a file.
 
 /// What the linter says of the objects of a file.
 #[derive(Debug, Drop)]

@@ -1,4 +1,4 @@
-//! What windows give, and what they ask of their source.
+//! What windows and panes give, and what they ask of their source.
 
 use crate::octets::{Read, all_answer, answers};
 use bplist_octets::{FaultySource, Pane, Panes, ReadFault, SliceSource, Window};

@@ -1,6 +1,6 @@
 //! Writes values as old-style text, Apple's ASCII form of property lists. Not here: how long a text is and whether a
-//! value has one (crate `bplist_cursor`, `measure`). The sink in this crate also carries every other answer of bplint
-//! to its writer.
+//! value has one (`measure` of crate `bplist_cursor`), and the buffer in front of a writer (`Sink` of crate
+//! `bplist_octets`).
 //!
 //! ```
 //! let measures = measure(alloc, &mut checked)?;
@@ -18,19 +18,17 @@
 //! | the same after other bytes | [`print_into`] |
 //! | make the text of units, or of data | [`text_of_units`], [`text_of_bytes`] |
 //! | add it to bytes | [`add_text_of_units`], [`add_text_of_bytes`] |
-//! | buffer a writer, and count what was written | [`Sink`], [`WriteFault`] |
 //!
 //! `NoAsciiForm` and `TooLong` are decided before the first byte is written. Memory grows with the depth of the value.
 //!
 //! The modules, in reading order:
 //!
 //! - `texts`: texts and data as old-style text, in memory.
-//! - `printer`, `print_fault`: the call that writes a value, and its errors.
+//! - `printer`: the calls that write a value, their errors, and the styles of texts.
 //! - `formless`: the first object that keeps a value from having a text.
 //! - `walk`: the walk through a value.
-//! - `leaves`, `style`: texts and data, part by part.
+//! - `leaves`: texts and data, part by part.
 //! - `output`: writes that are limited by the room left.
-//! - `sink`: the buffer in front of a writer.
 #![tactic(auto)]
 
 mod formless;

@@ -1,4 +1,7 @@
-//! Writes the old-style text of a value to a writer.
+//! Writes the old-style text of a value to a writer, and says why not if it can't.
+//!
+//! The measures tell beforehand whether the value has a text and how long it is. So nothing is written if it has none,
+//! or if the text is too long.
 
 ghost use Rattle.std.specs.Prelude.{◌≡◌, ℕ, ◌+◌, ◌≤◌, List, length, Err, OnOk, OnErr};
 ghost use Rattle.bplist_cursor.specs.declared.faults.Unread.TheVariants.{Changed as unread_changed};
@@ -16,26 +19,6 @@ use bplist_objects::{Head, ObjectNo};
 use bplist_octets::{ReadFault, Sink, Source, WriteFault};
 use std::alloc::{AllocFailed, Global};
 use std::io::Write;
-
-//@@ style: The two ways to write the units of a text.
-
-/// How the units of a text are written.
-#[derive(Clone, Copy, Debug, PartialEq, Eq, Drop)]
-pub(crate) enum Style {
-    /// As they are.
-    Unquoted,
-    /// In quotes.
-    Quoted,
-}
-
-/// The head of a text, and how its units are written.
-#[derive(Clone, Copy, Debug, Drop)]
-pub(crate) struct Styled {
-    pub(crate) head: Head,
-    pub(crate) style: Style,
-}
-
-//@@ print_fault: The errors of printing.
 
 /// Why a value was not printed as a whole.
 #[derive(Clone, Copy, Debug, PartialEq, Eq, Drop)]
@@ -83,6 +66,22 @@ impl<T: Drop> From<AllocFailed<T>> for PrintFault {
     fn from(_failed: AllocFailed<T>) -> PrintFault {
         PrintFault::Memory
     }
+}
+
+/// How the units of a text are written.
+#[derive(Clone, Copy, Debug, PartialEq, Eq, Drop)]
+pub(crate) enum Style {
+    /// As they are.
+    Unquoted,
+    /// In quotes.
+    Quoted,
+}
+
+/// The head of a text, and how its units are written.
+#[derive(Clone, Copy, Debug, Drop)]
+pub(crate) struct Styled {
+    pub(crate) head: Head,
+    pub(crate) style: Style,
 }
 
 /// Puts the old-style text of a node's value into a sink.

@@ -1,17 +1,20 @@
-//! Handles: sessions in the form in which C holds them.
+//! Handles: what an open file keeps between the calls of C, and how a call gets the checked file from it.
+//!
+//! A handle owns a session: the frame and the certificate, without the bytes of the file. C holds the session as a
+//! pointer, because a type with a `Vec` cannot cross the border. A call takes the session out of the handle, makes a
+//! checked file of it and the bytes that C gives again, and puts it back at the end, without a new check.
 
 ghost use Rattle.std.specs.Prelude.{◌≡◌, ◌<◌, Option, Some, None, IsSome, is_some, true, length, MatchResult};
 ghost use Rattle.bplist_c.specs.Prelude.{IsSessionOf, checked_of, IsFileOf, IsRefused, Session as session};
+ghost use Rattle.std_alloc.specs.Box.Ownership.{box_owns};
 
 use crate::status::Status;
 use bplist_cert::{Certificate, Checked};
 use bplist_objects::Frame;
 use bplist_octets::SliceSource;
-use std::alloc::Global;
+use std::alloc::{Allocator, Global};
 use std::marker::Model;
 use std::mem;
-
-//@@ session: The session of a handle.
 
 /// The frame and the certificate of a checked file, without the bytes of the file.
 #[derive(Drop)]
@@ -42,6 +45,33 @@ impl Session {
     {
         let (_, certificate) = checked.into_parts();
         self.certificate = certificate;
+    }
+}
+
+/// A box as its pointer.
+pub(crate) struct Loose<T, A: Allocator> {
+    pub(crate) at: *mut T,
+    pub(crate) alloc: A,
+    pub(crate) ghost value: { T },
+}
+
+impl<T, A: Allocator> Model for Loose<T, A> {
+    ghost also_owns = { λ l. box_owns (A.dealloc_token l.alloc) T.row l.at l.value };
+}
+
+impl<T: Drop, A: Allocator> Loose<T, A> {
+    pub(crate) fn of(value: Box<T, A>) -> Loose<T, A>
+        ensures { result.value ≡ value.value }
+    {
+        let (at, alloc) = Box::into_raw_with_allocator(value);
+        Loose { at, alloc }
+    }
+
+    pub(crate) fn into_box(self) -> Box<T, A>
+        ensures { result.value ≡ self.value }
+    {
+        let Loose { at, alloc } = self;
+        unsafe { Box::from_raw(alloc, at) }
     }
 }
 
@@ -132,43 +162,6 @@ impl BplistHandle {
         self.held.into_loose().into_box()
     }
 }
-
-//@@ loose:
-
-// A box as its pointer.
-ghost use Rattle.std.specs.Prelude.{◌≡◌};
-ghost use Rattle.std_alloc.specs.Box.Ownership.{box_owns};
-
-use std::alloc::Allocator;
-use std::marker::Model;
-
-pub(crate) struct Loose<T, A: Allocator> {
-    pub(crate) at: *mut T,
-    pub(crate) alloc: A,
-    pub(crate) ghost value: { T },
-}
-
-impl<T, A: Allocator> Model for Loose<T, A> {
-    ghost also_owns = { λ l. box_owns (A.dealloc_token l.alloc) T.row l.at l.value };
-}
-
-impl<T: Drop, A: Allocator> Loose<T, A> {
-    pub(crate) fn of(value: Box<T, A>) -> Loose<T, A>
-        ensures { result.value ≡ value.value }
-    {
-        let (at, alloc) = Box::into_raw_with_allocator(value);
-        Loose { at, alloc }
-    }
-
-    pub(crate) fn into_box(self) -> Box<T, A>
-        ensures { result.value ≡ self.value }
-    {
-        let Loose { at, alloc } = self;
-        unsafe { Box::from_raw(alloc, at) }
-    }
-}
-
-//@@ loan: Lends the checked file of a handle to one call.
 
 /// The checked file of a handle and the bytes of its file. While it is lent, the session has no certificate.
 #[derive(Drop)]

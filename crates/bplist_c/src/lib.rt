@@ -16,19 +16,17 @@
 //!
 //! | module | contents |
 //! |---|---|
-//! | `status` | what a call returns, and how outputs are written |
+//! | `status` | results and outputs, `bplist_version`, `bplist_rule_name`, `bplist_rule_text`, `bplist_status_text` |
 //! | `verdict` | the verdict on a file |
 //! | `linter` | `bplist_lint`, `bplist_circle` |
-//! | `session`, `handle`, `loose` | what an open handle holds, and how C holds it |
+//! | `handle` | what an open handle holds, how C holds it, and how a call gets the checked file of it |
 //! | `lifecycle` | `bplist_open`, `bplist_open_certified`, `bplist_close`, `bplist_certificate` |
-//! | `loan` | lends the checked file of a handle to one call |
 //! | `lookup` | `bplist_find`, `bplist_find_key` |
 //! | `object` | `bplist_face`, `bplist_int`, `bplist_uid` |
 //! | `faces` | `bplist_faces` |
 //! | `members` | `bplist_member`, `bplist_members` |
 //! | `parts` | `bplist_read`, `bplist_units` |
 //! | `sizes`, `text` | `bplist_size`, `bplist_text` |
-//! | `words` | `bplist_rule_name`, `bplist_rule_text`, `bplist_status_text`, `bplist_version` |
 //!
 //! A handle owns a session: the frame and the certificate of a file, without its bytes. Each call is given the bytes
 //! again and makes a `Checked` of both by moving them, without a new check.

@@ -1,4 +1,7 @@
-//! What a call returns, and how it writes its outputs.
+//! What a call returns, and how it writes its outputs; the version, and the names and sentences of rules and statuses.
+//!
+//! A call returns 0, or the number of a status. A list goes to a buffer of the caller. The number of its items is told
+//! even if the buffer is too short, so that the caller can try again with a longer one.
 
 ghost use Rattle.std.specs.Prelude.{◌≡◌, ◌<◌, ◌⊎◌, MatchOption, Ok, ◌≢◌, ◌+◌, ◌*◌, ◌^◌, Option, codes, ok_or};
 ghost use Rattle.std.specs.Prelude.{option_map};
@@ -6,6 +9,13 @@ ghost use Rattle.bplist_c.specs.Prelude.{number_of, Puts, Tells, items_of, sente
 ghost use Rattle.bplist_c.specs.Prelude.{Rule as rule_type, Status as status_type, number_of_rule, text_of, word_of};
 
 use bplist_objects::{rule_name, rule_of_number, texts_of};
+
+/// The version, which is also that of the header.
+const MAJOR: u32 = 0;
+
+const MINOR: u32 = 3;
+
+const PATCH: u32 = 0;
 
 /// Why a call has no answer. The header numbers the statuses in this order.
 #[derive(Clone, Copy, Debug, PartialEq, Eq, Drop)]
@@ -146,15 +156,6 @@ pub(crate) fn put_answer<T: Copy>(
         Err(status) => status.number(),
     }
 }
-
-//@@ words: Gives the names and sentences of rules and statuses, and the version.
-
-/// The version, which is also that of the header.
-const MAJOR: u32 = 0;
-
-const MINOR: u32 = 3;
-
-const PATCH: u32 = 0;
 
 /// Returns the version as one number.
 #[unsafe(no_mangle)]

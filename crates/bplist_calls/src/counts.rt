@@ -1,4 +1,5 @@
-//! Counts what the calls that look at a whole file read of it.
+//! Counts what the calls that look at a whole file read of it. The certificates here must be accepted, so a refusal is
+//! an error of the program.
 
 use anyhow::{Result, anyhow, bail};
 use bplist_cert::{Certificate, Checked, check};
@@ -56,8 +57,6 @@ fn write_line<W: Write>(name: &str, counts: &Cell<Counts>, out: &mut W) -> Resul
     writeln!(out, "{name} {reads} {bytes}")?;
     Ok(())
 }
-
-//@@ checks: Certificates that must be accepted.
 
 /// Checks the source with this certificate.
 pub(crate) fn accepted<S: Source + Drop>(

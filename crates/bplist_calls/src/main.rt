@@ -20,10 +20,9 @@
 //!
 //! The modules, in reading order:
 //!
-//! - `lines`, `requests`, `answers`: lines of input, the calls they ask for, and the answers.
+//! - `requests`, `answers`: lines of input, the calls they ask for, and the answers.
 //! - `repeated_calls`: every call twice.
-//! - `counts`: the reads of the calls that look at a whole file.
-//! - `checks`: certificates that must be accepted.
+//! - `counts`: the reads of the calls that look at a whole file, and certificates that must be accepted.
 #![tactic(auto)]
 
 mod answers;
@@ -34,8 +33,8 @@ mod requests;
 use answers::answer_lines;
 use anyhow::{Result, bail};
 use counts::write_counts;
-use lines::has_same_file;
 use repeated_calls::make_twice;
+use requests::has_same_file;
 use std::alloc::Global;
 use std::io::{self, BufRead, BufReader, BufWriter, Read, Write};
 

@@ -1,9 +1,40 @@
-//! The calls that a line of input can ask for.
+//! Lines of input: the words of a line, and the call that they ask for.
 
 use anyhow::{Context, Result, anyhow, bail};
 use bplist_cursor::{Node, Path, Query};
 use bplist_objects::ObjectNo;
 use std::alloc::Global;
+
+/// A line of input, as words.
+#[derive(Clone, Copy, Debug)]
+pub(crate) struct Line<'a> {
+    pub(crate) file: &'a str,
+    pub(crate) certificate: &'a str,
+    /// The name of the call.
+    pub(crate) call: &'a str,
+    /// What follows the name, with tabs in between.
+    pub(crate) operands: &'a str,
+}
+
+/// Returns true if a line is about the same file and certificate as the line before.
+pub(crate) fn has_same_file(line: &str) -> bool {
+    line.starts_with("=\t=\t")
+}
+
+/// Splits a line into its words.
+pub(crate) fn words_of(line: &str) -> Result<Line<'_>> {
+    let (file, rest) = line
+        .split_once('\t')
+        .context("a line without a certificate")?;
+    let (certificate, call) = rest.split_once('\t').context("a line without a call")?;
+    let (call, operands) = call.split_once('\t').unwrap_or((call, ""));
+    Ok(Line {
+        file,
+        certificate,
+        call,
+        operands,
+    })
+}
 
 /// One call of the library.
 #[derive(Drop)]
@@ -51,39 +82,6 @@ fn path(alloc: Global, text: &str) -> Result<Path> {
     let bytes = bytes_of_hex(alloc, text)?;
     let text = std::str::from_utf8(&bytes).context("a path that is no text")?;
     Path::parse(alloc, text).map_err(|fault| anyhow!("a path with the fault {fault:?}"))
-}
-
-//@@ lines: Splits a line into its words.
-
-/// A line of input, as words.
-#[derive(Clone, Copy, Debug)]
-pub(crate) struct Line<'a> {
-    pub(crate) file: &'a str,
-    pub(crate) certificate: &'a str,
-    /// The name of the call.
-    pub(crate) call: &'a str,
-    /// What follows the name, with tabs in between.
-    pub(crate) operands: &'a str,
-}
-
-/// Returns true if a line is about the same file and certificate as the line before.
-pub(crate) fn has_same_file(line: &str) -> bool {
-    line.starts_with("=\t=\t")
-}
-
-/// Splits a line into its words.
-pub(crate) fn words_of(line: &str) -> Result<Line<'_>> {
-    let (file, rest) = line
-        .split_once('\t')
-        .context("a line without a certificate")?;
-    let (certificate, call) = rest.split_once('\t').context("a line without a call")?;
-    let (call, operands) = call.split_once('\t').unwrap_or((call, ""));
-    Ok(Line {
-        file,
-        certificate,
-        call,
-        operands,
-    })
 }
 
 /// Decodes hexadecimal text.

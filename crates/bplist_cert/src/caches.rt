@@ -1,4 +1,6 @@
-//! A cache of key pairs known to be in order, so that dictionaries with the same keys do not compare them again.
+//! Caches that save a check from reading the same texts again. One has key pairs known to be in order, so that
+//! dictionaries with the same keys do not compare them again. The other has stretches of the file that have only bytes
+//! below 128, for rule 18: an Ascii text is not read again if many dictionaries name it, or if texts overlap.
 
 ghost use Rattle.std.specs.Prelude.{◌≡◌, ◌+◌, ◌*◌, ℕ, List, IsTrue, ◌↔◌, ◌≤◌, ◌<◌, length, IfOk, is_err};
 ghost use Rattle.bplist_cert.specs.Prelude.{Frame as frame, Ascends, AreKnown, OnlyReads, Honestly, IsLow, AreLow};
@@ -10,6 +12,9 @@ use bplist_octets::{ReadFault, Source};
 /// The number of slots: a prime, so that pairs with near numbers get slots of their own.
 const PAIR_SLOTS: usize = 2039;
 
+/// The number of stretches that are kept.
+const STRETCHES: usize = 256;
+
 /// Pairs of objects that are texts, the first before the second. The table takes 16 KiB, and a new pair replaces the
 /// one in its slot. A pair is stored as one number, and 0 means none. The cache also has the runs of texts compared so
 /// far.
@@ -17,13 +22,6 @@ const PAIR_SLOTS: usize = 2039;
 pub(crate) struct OrderedPairsCache {
     pub slots: [u64; PAIR_SLOTS],
     pub runs: RunCache,
-}
-
-/// Packs two object numbers into one number.
-fn pair_of(a: u32, b: u32) -> u64
-    ensures { result ≡ a * 4294967296 + b }
-{
-    a as u64 * 4_294_967_296 + b as u64
 }
 
 impl OrderedPairsCache {
@@ -54,11 +52,6 @@ impl OrderedPairsCache {
     }
 }
 
-//@@ low_bytes: A cache of stretches of the file that have only bytes below 128, for rule 18. It saves reading an Ascii text again if many dictionaries name it, or if texts overlap.
-
-/// The number of stretches that are kept.
-const STRETCHES: usize = 256;
-
 /// The bytes from place `from` up to, and without, place `to`.
 #[derive(Clone, Copy, Debug)]
 pub(crate) struct Stretch {
@@ -72,23 +65,6 @@ pub(crate) struct LowBytesCache {
     pub slots: [Stretch; STRETCHES],
     /// The number of bytes in a part of the file. 0 counts as 1.
     part: u64,
-}
-
-/// Returns one stretch for two: both joined if they meet, else the longer.
-fn joined(known: Stretch, found: Stretch) -> Stretch
-    ensures { (f : List ℕ) → IsLow f known.from known.to → IsLow f found.from found.to → IsLow f result.from result.to }
-{
-    if found.from <= known.to && known.from <= found.to {
-        return Stretch {
-            from: known.from.min(found.from),
-            to: known.to.max(found.to),
-        };
-    }
-    if known.to.saturating_sub(known.from) < found.to.saturating_sub(found.from) {
-        found
-    } else {
-        known
-    }
 }
 
 impl LowBytesCache {
@@ -127,5 +103,29 @@ impl LowBytesCache {
         }
         self.slots[slot] = joined(known, Stretch { from, to });
         Ok(true)
+    }
+}
+
+/// Packs two object numbers into one number.
+fn pair_of(a: u32, b: u32) -> u64
+    ensures { result ≡ a * 4294967296 + b }
+{
+    a as u64 * 4_294_967_296 + b as u64
+}
+
+/// Returns one stretch for two: both joined if they meet, else the longer.
+fn joined(known: Stretch, found: Stretch) -> Stretch
+    ensures { (f : List ℕ) → IsLow f known.from known.to → IsLow f found.from found.to → IsLow f result.from result.to }
+{
+    if found.from <= known.to && known.from <= found.to {
+        return Stretch {
+            from: known.from.min(found.from),
+            to: known.to.max(found.to),
+        };
+    }
+    if known.to.saturating_sub(known.from) < found.to.saturating_sub(found.from) {
+        found
+    } else {
+        known
     }
 }

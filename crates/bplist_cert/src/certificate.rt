@@ -1,4 +1,6 @@
-//! The certificate: a height for each object, and in version 2 also the sorted key lists of dictionaries.
+//! The certificate and its bytes. A certificate gives a height to each object. In version 2 it also has the sorted key
+//! lists of dictionaries. Here are its parts, why bytes are not accepted as a certificate, and the writing of the
+//! bytes; `decoding` reads them.
 
 ghost use Rattle.bplist_cert.specs.declared.certificate.CertRefusal.TheVariants.{Memory, Fault as is_fault};
 ghost use Rattle.std.specs.Prelude.{◌≡◌, ◌++◌, IfOk, OnOk, is_some};
@@ -7,6 +9,12 @@ ghost use Rattle.bplist_cert.specs.Prelude.{IsCertificate, AreWords, octets_of, 
 use bplist_objects::Fault;
 use std::alloc::{AllocError, Global};
 use std::marker::Model;
+
+/// The first 8 bytes of a version 1 certificate.
+pub(crate) const PLAIN_MAGIC: [u8; 8] = *b"bplcert1";
+
+/// The first 8 bytes of a version 2 certificate.
+pub(crate) const KEYED_MAGIC: [u8; 8] = *b"bplcert2";
 
 /// The sorted keys of dictionaries. The key list of a dictionary of `c` pairs is `positions[start .. start + c]`.
 #[derive(Drop)]
@@ -45,39 +53,6 @@ impl Model for Certificate {
     ghost invariant = { λ c. HasStarts c.heights.items c.keys };
 }
 
-/// Why bytes are not accepted as a certificate.
-#[derive(Clone, Copy, Debug, PartialEq, Eq, Drop)]
-pub enum CertRefusal {
-    /// Rule 24 or 25 is broken. The place counts from the certificate's first byte.
-    Fault(Fault),
-    /// An allocation was refused. The bytes may still be a certificate.
-    Memory,
-}
-
-impl From<Fault> for CertRefusal {
-    ghost from_gives = { λ fault e. e ≡ is_fault fault };
-
-    fn from(fault: Fault) -> CertRefusal {
-        CertRefusal::Fault(fault)
-    }
-}
-
-impl From<AllocError> for CertRefusal {
-    ghost from_gives = { λ _ e. e ≡ Memory };
-
-    fn from(_error: AllocError) -> CertRefusal {
-        CertRefusal::Memory
-    }
-}
-
-//@@ encoding: Writes a certificate as bytes.
-
-/// The first 8 bytes of a version 1 certificate.
-pub(crate) const PLAIN_MAGIC: [u8; 8] = *b"bplcert1";
-
-/// The first 8 bytes of a version 2 certificate.
-pub(crate) const KEYED_MAGIC: [u8; 8] = *b"bplcert2";
-
 impl Certificate {
     /// Returns the bytes of the certificate: the magic of its version, the number of heights in 8 bytes, the heights,
     /// and in version 2 the starts and the positions. Heights, starts and positions take 4 bytes each. All numbers are
@@ -107,6 +82,31 @@ impl Certificate {
             }
         };
         words.saturating_mul(4).saturating_add(16)
+    }
+}
+
+/// Why bytes are not accepted as a certificate.
+#[derive(Clone, Copy, Debug, PartialEq, Eq, Drop)]
+pub enum CertRefusal {
+    /// Rule 24 or 25 is broken. The place counts from the certificate's first byte.
+    Fault(Fault),
+    /// An allocation was refused. The bytes may still be a certificate.
+    Memory,
+}
+
+impl From<Fault> for CertRefusal {
+    ghost from_gives = { λ fault e. e ≡ is_fault fault };
+
+    fn from(fault: Fault) -> CertRefusal {
+        CertRefusal::Fault(fault)
+    }
+}
+
+impl From<AllocError> for CertRefusal {
+    ghost from_gives = { λ _ e. e ≡ Memory };
+
+    fn from(_error: AllocError) -> CertRefusal {
+        CertRefusal::Memory
     }
 }
 

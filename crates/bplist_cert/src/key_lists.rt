@@ -1,4 +1,8 @@
-//! Checks that the key lists of vouched dictionaries have their keys in order: rules 21 and 32.
+//! What the walk over the vouched objects finds out about the keys of dictionaries, and the check of the keys after it.
+//!
+//! For version 1 the walk collects the objects that are named as keys, and `key_rules` checks them. For version 2 it
+//! checks the key lists, rules 21 and 32. If it sees all objects and finds all lists good, nothing is left to check.
+//! Otherwise each dictionary is checked, in the order of their numbers, so that the fault is the first.
 
 ghost use Rattle.std.specs.Prelude.{◌≡◌, ◌+◌, ◌≤◌, ℕ, List, None, IfOk, IfErr, length, ◌<◌, Some, IsTrue, false};
 ghost use Rattle.bplist_cert.specs.Prelude.{OnlyReads, Gives, Never, read_failed, frame_in, HonestlyIn, Frame as frame};
@@ -18,8 +22,6 @@ use bplist_keys::NamedKeys;
 use bplist_objects::{Framed, Kind, ObjectFault, ObjectNo, Offsets, object_shape, shape_in};
 use std::alloc::{AllocError, Global};
 
-//@@ keys_look: What the walk over the vouched objects finds out about the keys of dictionaries.
-
 /// The vouched objects with numbers below `bound`, all of which keep the rules before those of keys, and the key lists.
 #[derive(Drop)]
 pub(crate) struct VouchedPrefix<'a> {
@@ -29,6 +31,28 @@ pub(crate) struct VouchedPrefix<'a> {
     pub ghost within: { bound ≤ length heights.now },
 }
 
+/// The caches that keys are looked up in, and what a walk over the vouched objects found about the key lists.
+#[derive(Drop)]
+pub(crate) struct KeyListFindings {
+    pub pairs: OrderedPairsCache,
+    pub low: LowBytesCache,
+    /// Whether all key lists that the walk has seen so far are good.
+    pub good: bool,
+}
+
+impl KeyListFindings {
+    /// Before the walk, for a file of `len` bytes.
+    pub(crate) fn new(len: u64) -> KeyListFindings
+        ensures { (f : List ℕ) (F : frame) → AreLearnt f F result }
+    {
+        KeyListFindings {
+            pairs: OrderedPairsCache::new(),
+            low: LowBytesCache::new(len),
+            good: true,
+        }
+    }
+}
+
 /// What the walk over the vouched objects has found out about the keys of dictionaries so far.
 #[derive(Drop)]
 pub(crate) struct KeyFindings {
@@ -36,26 +60,6 @@ pub(crate) struct KeyFindings {
     pub named: Option<NamedKeys>,
     /// For version 2: whether the key lists are good.
     pub lists: KeyListFindings,
-}
-
-/// Returns what a walk begins with.
-pub(crate) fn key_findings<P: Framed>(
-    alloc: Global,
-    src: &P,
-    keys: &Option<KeyLists>,
-) -> Result<KeyFindings, AllocError>
-    ensures none { HonestlyIn (P.means src.now) (λ f F. IfOk result (λ look. (heights : List ℕ) → AreSeen f F (lists heights keys.now) 0 look)) }
-    ensures memory { IfErr result (λ _. keys.now ≡ None) }
-{
-    let objects = src.frame().objects;
-    let named = match keys {
-        None => Some(NamedKeys::new(alloc, objects)?),
-        Some(_) => None,
-    };
-    Ok(KeyFindings {
-        named,
-        lists: KeyListFindings::new(src.len()),
-    })
 }
 
 impl KeyFindings {
@@ -113,61 +117,24 @@ impl KeyFindings {
     }
 }
 
-/// The caches that keys are looked up in, and what a walk over the vouched objects found about the key lists.
-#[derive(Drop)]
-pub(crate) struct KeyListFindings {
-    pub pairs: OrderedPairsCache,
-    pub low: LowBytesCache,
-    /// Whether all key lists that the walk has seen so far are good.
-    pub good: bool,
-}
-
-impl KeyListFindings {
-    /// Before the walk, for a file of `len` bytes.
-    pub(crate) fn new(len: u64) -> KeyListFindings
-        ensures { (f : List ℕ) (F : frame) → AreLearnt f F result }
-    {
-        KeyListFindings {
-            pairs: OrderedPairsCache::new(),
-            low: LowBytesCache::new(len),
-            good: true,
-        }
-    }
-}
-
-/// Checks the keys of vouched object `n` and its key list, if it is a dictionary. If all vouched objects were seen, a key
-/// that is a text by marker and count is a text.
-fn check_dict_order<P: Offsets>(
-    src: &mut P,
-    seen: &VouchedPrefix,
-    keys: &KeyLists,
-    n: u32,
-    look: &mut KeyListFindings,
-) -> Result<(), ObjectFault>
-    requires { n < (frame_in (P.means src.old)).objects }
-    ensures reads { OnlyReads (read_failed result) (P.means src.old) (P.means src.new) }
-    ensures exact { HonestlyIn (P.means src.old) (λ f F. n < seen.now.bound → IsVouchedBy seen.now.heights.now n
-        → KeepBeforeKeysBelow f F seen.now.heights.now seen.now.bound → AreLearnt f F look.old
-        → Gives (λ _. AreLearnt f F look.new × HasGoodKeys f F (Some keys.now) n) (BreaksKeys f F F.objects (Some keys.now) n) result) }
+/// Returns what a walk begins with.
+pub(crate) fn key_findings<P: Framed>(
+    alloc: Global,
+    src: &P,
+    keys: &Option<KeyLists>,
+) -> Result<KeyFindings, AllocError>
+    ensures none { HonestlyIn (P.means src.now) (λ f F. IfOk result (λ look. (heights : List ℕ) → AreSeen f F (lists heights keys.now) 0 look)) }
+    ensures memory { IfErr result (λ _. keys.now ≡ None) }
 {
-    let frame = src.frame();
-    let head = object_shape(src, n)?;
-    let Kind::Dict = head.kind else {
-        return Ok(());
+    let objects = src.frame().objects;
+    let named = match keys {
+        None => Some(NamedKeys::new(alloc, objects)?),
+        Some(_) => None,
     };
-    let dict = Dictionary {
-        n: ObjectNo(n),
-        head,
-    };
-    let found = order_fault(src, keys, &dict, &mut look.pairs)?;
-    if found.is_none() && seen.bound == frame.objects {
-        return Ok(());
-    }
-    check_texts(src, &mut look.low, &dict)?;
-    match found {
-        None => Ok(()),
-        Some(fault) => Err(ObjectFault::Fault(fault)),
-    }
+    Ok(KeyFindings {
+        named,
+        lists: KeyListFindings::new(src.len()),
+    })
 }
 
 /// Returns whether this object needs a look: it may be a dictionary with keys, or its (empty) key list starts past the
@@ -244,6 +211,41 @@ pub(crate) fn look_at_lists<P: Offsets>(
         }
     }
     Ok(())
+}
+
+/// Checks the keys of vouched object `n` and its key list, if it is a dictionary. If all vouched objects were seen, a key
+/// that is a text by marker and count is a text.
+fn check_dict_order<P: Offsets>(
+    src: &mut P,
+    seen: &VouchedPrefix,
+    keys: &KeyLists,
+    n: u32,
+    look: &mut KeyListFindings,
+) -> Result<(), ObjectFault>
+    requires { n < (frame_in (P.means src.old)).objects }
+    ensures reads { OnlyReads (read_failed result) (P.means src.old) (P.means src.new) }
+    ensures exact { HonestlyIn (P.means src.old) (λ f F. n < seen.now.bound → IsVouchedBy seen.now.heights.now n
+        → KeepBeforeKeysBelow f F seen.now.heights.now seen.now.bound → AreLearnt f F look.old
+        → Gives (λ _. AreLearnt f F look.new × HasGoodKeys f F (Some keys.now) n) (BreaksKeys f F F.objects (Some keys.now) n) result) }
+{
+    let frame = src.frame();
+    let head = object_shape(src, n)?;
+    let Kind::Dict = head.kind else {
+        return Ok(());
+    };
+    let dict = Dictionary {
+        n: ObjectNo(n),
+        head,
+    };
+    let found = order_fault(src, keys, &dict, &mut look.pairs)?;
+    if found.is_none() && seen.bound == frame.objects {
+        return Ok(());
+    }
+    check_texts(src, &mut look.low, &dict)?;
+    match found {
+        None => Ok(()),
+        Some(fault) => Err(ObjectFault::Fault(fault)),
+    }
 }
 
 /// Checks that the keys of the vouched dictionaries seen so far are texts, and that the key lists have them in order.

@@ -1,4 +1,7 @@
-//! Checks that the keys of a dictionary are texts: rule 21.
+//! Checks that the keys of dictionaries are texts, rule 21, and for version 1 also that they differ, rule 22.
+//!
+//! Two texts have the same class if and only if their units are the same. The classes of all named texts are found once
+//! for all dictionaries, so a repeated key is a repeated class.
 
 ghost use Rattle.std.specs.Prelude.{◌≡◌, ◌↔◌, IsTrue, ◌+◌, ◌*◌, ◌<◌, length, IfOk, IfSome, MatchOption, Some, is_err};
 ghost use Rattle.std.specs.Prelude.{None};
@@ -23,12 +26,22 @@ use bplist_objects::{
 use bplist_octets::ReadFault;
 use std::alloc::Global;
 
+/// A table of all places is worth its memory if at least one object in this many is a key.
+const OBJECTS_FOR_A_KEY: u32 = 16;
+
 /// A dictionary: its object and its head.
 #[derive(Clone, Copy, Debug, Drop)]
 pub(crate) struct Dictionary {
     pub n: ObjectNo,
     pub head: Head,
     pub ghost dict: { head.kind ≡ Dict },
+}
+
+/// The tables that keys are looked up in.
+#[derive(Drop)]
+struct KeyTables {
+    table: ClassTable,
+    low: LowBytesCache,
 }
 
 /// Returns whether object `m`, which is at `place`, spells a text. Reads the bytes of an Ascii text unless `low` knows
@@ -108,18 +121,6 @@ pub(crate) fn check_texts<P: Offsets>(
         done += now;
     }
     Ok(())
-}
-
-//@@ key_repeats: Checks that the keys of vouched dictionaries are texts that differ, by the classes of the texts: rules 21 and 22.
-
-/// A table of all places is worth its memory if at least one object in this many is a key.
-const OBJECTS_FOR_A_KEY: u32 = 16;
-
-/// The tables that keys are looked up in.
-#[derive(Drop)]
-struct KeyTables {
-    table: ClassTable,
-    low: LowBytesCache,
 }
 
 /// Returns the classes of the keys. If not all vouched objects were seen, texts may overlap; they are then compared

@@ -20,22 +20,17 @@
 //!
 //! | module | what it is about | public items |
 //! |---|---|---|
-//! | certificate | heights and key lists | [`Certificate`], [`KeyLists`], [`CertRefusal`] |
-//! | encoding | a certificate as bytes | `Certificate::to_octets` |
+//! | certificate | heights and key lists, and a certificate as bytes | [`Certificate`], [`KeyLists`], [`CertRefusal`] |
 //! | decoding | a certificate from bytes: rules 24 and 25 | `Certificate::from_source`, `from_octets` |
 //! | checked | a source with a certificate that was accepted | [`Checked`] |
 //! | checker | the check: rules 26, 27 and 31, and the walk over the objects | [`check`] |
 //! | refusal | why the check says no | [`Refusal`] |
 //! | heights | rules 28 and 29 | |
-//! | keys_look | what the walk finds out about keys, and the key rules after it | |
-//! | key_kinds | rule 21 | |
+//! | key_lists | what the walk finds out about keys, and rules 21 and 32 for version 2 | |
 //! | key_names | the objects that are named as keys | [`vouched_keys`] |
-//! | key_repeats | rules 21 and 22, for version 1 | |
-//! | key_lists | rules 21 and 32, for version 2 | |
-//! | key_order | rule 32, in its exact order | |
-//! | key_offsets | key references, read ahead | |
-//! | key_pairs | a cache of key pairs in order | |
-//! | low_bytes | a cache of stretches of ASCII bytes | |
+//! | key_rules | rule 21, and rules 21 and 22 for version 1 | |
+//! | key_order | rule 32 for one dictionary, and key references read ahead | |
+//! | caches | caches of key pairs in order and of stretches of ASCII bytes | |
 //! | laws | laws about the definitions in specs/ | [`one_certificate`], [`yes_or_fault`] and others |
 #![tactic(auto)]
 

@@ -1,4 +1,7 @@
-//! Answers queries about the value of a checked file.
+//! Queries about the value of a checked file, and the replies to them.
+//!
+//! A query has a path and asks for what it leads to: the face, the keys or the size. For many queries the file is
+//! measured at most once.
 
 ghost use Rattle.std.specs.Prelude.{⊤, ◌≡◌, ◌<◌, map, IsTrue, IfSome};
 ghost use Rattle.bplist_cursor.specs.Prelude.{HonestlyChecked, Value, Holds, GivesCursor, cursor_read, OnlyReadsFile};
@@ -16,8 +19,6 @@ use bplist_cert::Checked;
 use bplist_objects::Kind;
 use bplist_octets::Source;
 use std::alloc::Global;
-
-//@@ reply: Queries and their replies.
 
 /// What to ask about the value that a path leads to.
 #[derive(Debug, Drop)]

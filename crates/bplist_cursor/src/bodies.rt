@@ -1,4 +1,6 @@
-//! Reads the body of an object in parts, without taking memory.
+//! Reads an object's body in parts, into memory of the caller, or borrows it from a slice. No call takes memory.
+//!
+//! `node_head` comes first: it says of which kind the object is, and where its body begins and ends.
 
 ghost use Rattle.std.specs.Prelude.{◌≡◌, IfOk, length, Err, ◌+◌, ◌*◌, ◌≤◌, ℕ, List, IfSome, MatchOption};
 ghost use Rattle.bplist_cursor.specs.Prelude.{HonestlyChecked, Content, Spells, content_at, IsSafeHead, IsSafeBody};
@@ -12,8 +14,6 @@ use crate::node::{Node, checked_head};
 use bplist_cert::Checked;
 use bplist_objects::{Head, Kind, octets_at, read_units, shape_of};
 use bplist_octets::{SliceSource, Source};
-
-//@@ node_object: Reads the head of a node's object.
 
 /// Returns the head of the object that a node names: its kind, its count, and where its body begins and ends.
 ///
@@ -77,8 +77,6 @@ pub fn body_units<S: Source>(
 {
     Ok(read_units(checked, head, from, into)?)
 }
-
-//@@ bytes: Borrows the bodies of objects from a slice in memory, without copying them.
 
 /// Returns the body of a node's object as a part of the checked slice, if the object is data or a text of one byte per
 /// unit. Returns None for any other object, and if the certificate does not vouch for the object. Nothing is copied.

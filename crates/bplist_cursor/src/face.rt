@@ -1,4 +1,6 @@
 //! The face of a value: what a value shows without its members.
+//!
+//! A face owns what it shows, so the body of a leaf is read into a [`List`]. Replies to queries use the same lists.
 
 ghost use Rattle.std.specs.Prelude.{◌≡◌, List as list, ◌≢◌, ℕ, IsTrue, IfOk, IfErr, length, Err};
 ghost use Rattle.bplist_cursor.specs.Prelude.{part, HonestlyChecked, Value, item_size, Content, Spells, content_at};
@@ -44,8 +46,6 @@ pub enum Face {
     Dict(u64),
 }
 
-//@@ list: The lists in faces and replies.
-
 /// Items in order: a Vec in a type that contracts see as the list of its items. No call takes memory.
 #[derive(Debug, Drop)]
 pub struct List<T> {
@@ -80,8 +80,6 @@ impl<T> List<T> {
         self.items
     }
 }
-
-//@@ node_face: Reads the face of a node.
 
 /// Returns the body of a leaf that takes one byte for each unit of its count.
 fn leaf_bytes<S: Source>(

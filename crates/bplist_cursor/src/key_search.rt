@@ -1,5 +1,7 @@
-//! Finds a key of a dictionary: by binary search if the certificate has key lists, else by comparing one key after the
-//! other.
+//! The keys of a dictionary: reads all of them, or finds one.
+//!
+//! A key is found by binary search if the certificate has key lists, else by comparing one key after the other. The
+//! search returns `Changed` if a list leads out of the dictionary.
 
 ghost use Rattle.std.specs.Prelude.{◌≡◌, ◌<◌, ℕ, List as list, ◌+◌, ◌^◌, ◌≤◌, List, length, slice_index, IfOk, IfSome};
 ghost use Rattle.std.specs.Prelude.{MatchResult, Option, Some, None};
@@ -18,8 +20,6 @@ use bplist_objects::{Head, Kind, ObjectNo, key_cmp};
 use bplist_octets::Source;
 use std::alloc::Global;
 use std::cmp::Ordering;
-
-//@@ key_texts: Reads the keys of a dictionary.
 
 /// Returns the units of text `k`, or `Changed` if object `k` is not a text.
 fn key_text<S: Source>(

@@ -17,30 +17,17 @@
 //! | module | what it is about | public items |
 //! |---|---|---|
 //! | path | a path, from its text or its steps | [`Path`], [`PathFault`] |
-//! | found | what a path leads to: a node, or why not | [`Found`], [`Node`], [`Why`] |
+//! | node | a node, and what a path leads to: a node, or why not | [`Found`], [`Node`], [`Why`] |
 //! | lookup | following a path from the top | [`locate`], [`locate_in_slice`], [`locate_counted`] |
-//! | one_step | one step from a node | [`step_from`] |
-//! | path_step | the reference that a step takes | |
-//! | index | a step as an index into an array | |
-//! | key_search | a step as a key of a dictionary | |
-//! | faces | a leaf's value, or a container's kind and count | [`Face`] |
-//! | node_face | reading the face of a node | [`face`] |
-//! | list | the lists in faces and replies | [`List`] |
+//! | steps | one step from a node | [`step_from`] |
+//! | key_search | the keys of a dictionary, and a step as one of them | |
+//! | face | a leaf's value, or a container's kind and count | [`Face`], [`List`], [`face`] |
 //! | members | the members of a node | [`member`], [`member_by_head`] |
-//! | node_object | the head of a node's object, for reading it in parts | [`node_head`] |
-//! | bodies | a body, part by part | [`body_bytes`], [`body_units`] |
-//! | bytes | a body borrowed from a slice | [`bytes_of`] |
-//! | reply | queries and replies | [`Query`], [`Reply`] |
-//! | answers | replies to queries about a checked file | [`answer`], [`answer_all`] |
+//! | bodies | a body, part by part or borrowed | [`node_head`], [`body_bytes`], [`body_units`], [`bytes_of`] |
+//! | answers | queries about a checked file, and their replies | [`Query`], [`Reply`], [`answer`], [`answer_all`] |
 //! | certified_answers | the same from a file and a certificate: the theorem | [`answer_certified`], [`AnswerFault`] |
-//! | key_texts | the keys of a dictionary | |
-//! | form | whether a value has an old-style text, and its length | [`Form`] |
-//! | measures | the table of node counts and forms | [`Measures`] |
-//! | object_sizes | filling that table | [`measure`] |
-//! | height_order | the objects in the order of their heights | |
+//! | sizes | node counts and text lengths | [`Form`], [`Measures`], [`measure`], [`is_plain`], [`are_plain`] |
 //! | node_counts | the number of nodes of one value, by its containers alone | [`count_nodes`] |
-//! | text_length | the length of a text's old-style form | [`is_plain`], [`are_plain`] |
-//! | checked_objects | heads and references of a checked file | |
 //! | faults | the errors of the calls above | [`CursorFault`], [`Unread`] |
 //! | laws | laws about specs/ | [`one_path`], [`one_place`], [`one_formless`], [`steps_follow_references`] |
 #![tactic(auto)]

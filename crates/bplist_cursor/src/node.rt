@@ -1,4 +1,7 @@
-//! What a path leads to: a node, or the step that could not be taken.
+//! Nodes of a checked file, and what a path leads to: a node, or the step that could not be taken.
+//!
+//! The functions read the head of an object, and the objects to which it refers. All modules that go from one object to
+//! the next use them.
 
 ghost use Rattle.std.specs.Prelude.{◌≡◌, ℕ, ◌<◌, IfOk, length, slice_index};
 ghost use Rattle.bplist_cursor.specs.Prelude.{HonestlyChecked, Content, Spells, content_at, refs, IsSafeHead};
@@ -40,8 +43,6 @@ pub enum Found {
         why: Why,
     },
 }
-
-//@@ checked_objects: Reads heads and references of a checked file's objects.
 
 /// Returns the head of object `n`. Reads only marker and count, because the check has already read the rest.
 pub(crate) fn checked_head<S: Source>(checked: &mut Checked<S>, n: ObjectNo) -> Result<Head, Unread>

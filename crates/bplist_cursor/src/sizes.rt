@@ -1,4 +1,7 @@
-//! The form of a value: whether it can be written as old-style text, and how long that text is.
+//! Sizes of values: how many nodes a value has, whether it can be written as old-style text, and how long that text is.
+//!
+//! `measure` finds the sizes of all values of a checked file in one pass over its objects, each after those to which it
+//! refers, so a value in many places is measured once. Texts are read in blocks, and never into memory as a whole.
 
 ghost use Rattle.std.specs.Prelude.{◌≡◌, ◌≤◌, length, flat_map, ◌<◌, ℕ, Option, Some, List};
 ghost use Rattle.bplist_cursor.specs.Prelude.{joined, HonestlyChecked, IsSafeBody, IsTextKind, GivesRead, read_failed};
@@ -22,6 +25,12 @@ use bplist_octets::Source;
 use std::alloc::Global;
 use std::marker::Model;
 
+/// The most units that are read at once.
+const UNITS: usize = 128;
+
+/// The most references that are read at once.
+const BLOCK: usize = 128;
+
 /// Whether a value can be written as old-style text, and how long that text is.
 #[derive(Clone, Copy, Debug, PartialEq, Eq)]
 pub enum Form {
@@ -42,8 +51,6 @@ impl Form {
         }
     }
 }
-
-//@@ measures: The table of sizes: for each object, how many nodes its value has and how long its text is.
 
 /// How many nodes a value's tree has, and how long its text is.
 #[derive(Clone, Copy, Debug, PartialEq, Eq)]
@@ -111,10 +118,12 @@ impl Measures {
     }
 }
 
-//@@ text_length: Finds how long a text is as old-style text, without reading it into memory.
-
-/// The most units that are read at once.
-const UNITS: usize = 128;
+/// Returns whether this 16-bit unit is an ASCII letter or digit: one of A-Z, a-z and 0-9.
+pub fn is_plain(unit: u16) -> bool
+    ensures { result ≡ is_ascii_alphanumeric unit }
+{
+    matches!(unit, 0x30..=0x39 | 0x41..=0x5A | 0x61..=0x7A)
+}
 
 /// Returns whether all these 16-bit units are ASCII letters and digits. A non-empty text of such units needs no quotes
 /// in old-style text.
@@ -122,13 +131,6 @@ pub fn are_plain(units: &[u16]) -> bool
     ensures { result ≡ list_all is_ascii_alphanumeric units.now }
 {
     units.iter().all(|unit| is_plain(*unit))
-}
-
-/// Returns whether this 16-bit unit is an ASCII letter or digit: one of A-Z, a-z and 0-9.
-pub fn is_plain(unit: u16) -> bool
-    ensures { result ≡ is_ascii_alphanumeric unit }
-{
-    matches!(unit, 0x30..=0x39 | 0x41..=0x5A | 0x61..=0x7A)
 }
 
 /// Returns how many bytes a unit takes between quotes: `\"`, `\\` and `\n` take two, `\U` and four digits take six.
@@ -182,11 +184,6 @@ pub(crate) fn text_length<S: Source>(checked: &mut Checked<S>, head: &Head) -> R
         quoted
     })
 }
-
-//@@ object_sizes: Measures all values of a checked file in one pass over its objects.
-
-/// The most references that are read at once.
-const BLOCK: usize = 128;
 
 /// Returns the table's entry for an object, or None if the table has none.
 fn size_at(sizes: &[Option<Size>], n: u64) -> Option<Size>

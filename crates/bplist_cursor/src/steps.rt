@@ -1,4 +1,7 @@
 //! Takes one step from a node.
+//!
+//! A step takes one reference of an object: that of the key with its units, or that of the member whose index it spells.
+//! The key is found by `key_search`. Paths and single steps use the same code.
 
 ghost use Rattle.std.specs.Prelude.{◌≡◌, ◌≢◌, ◌∷◌, [], IsTrue, Err, ◌<◌, ◌+◌, IfOk, OnOk, ◌↔◌, ℕ, MatchOption, length};
 ghost use Rattle.std.specs.Prelude.{slice_index};
@@ -17,36 +20,9 @@ use bplist_cert::Checked;
 use bplist_objects::{Head, Kind, ObjectNo};
 use bplist_octets::Source;
 
-/// Returns what one step leads to from a node: the value of the key with these units, or the member whose index they
-/// spell. In `Missing`, `step` is 0. Use it for keys that no path text can name.
-///
-/// A key is found as by [`locate`](crate::locate). The call takes no memory. Errors: `Changed` if the certificate does
-/// not vouch for the object, or the source gives other bytes than those that were checked; `Read` if a read of the
-/// source failed. After an error the `Checked` is as before, except for its source's count of failures.
-pub fn step_from<S: Source>(
-    checked: &mut Checked<S>,
-    node: Node,
-    units: &[u16],
-) -> Result<Found, CursorFault>
-    ensures reads { OnlyReadsFile (cursor_read result) checked.old checked.new }
-    ensures exact { IsTrue checked.old.source.honest → IsVouchedBy checked.old.certificate.heights node.object.0 → (v : Value)
-        → Holds checked.old.source.octets checked.old.frame node.object.0 v
-        → GivesCursor (IsFound checked.old node.object.0 v (units.now ∷ [])) result }
-    ensures unvouched { (IsVouchedBy checked.old.certificate.heights node.object.0 → ⊥) → result ≡ Err Changed }
-    ensures memory { result ≢ Err Memory }
-{
-    let _frame = checked.frame();
-    if checked.height(node.object) == 0 {
-        return Err(CursorFault::Changed);
-    }
-    let mut comparisons = 0u64;
-    match step_at(checked, node.object, units, &mut comparisons)? {
-        Step::On(object) => Ok(Found::At(Node { object })),
-        Step::Not(why) => Ok(Found::Missing { step: 0, why }),
-    }
-}
+const ZERO: u16 = 0x30;
 
-//@@ path_step: Takes one step of a path: finds the reference that the step takes.
+const NINE: u16 = 0x39;
 
 /// The object that a step leads to, or why it leads to none.
 #[derive(Clone, Copy, Debug, PartialEq, Eq, Drop)]
@@ -60,6 +36,34 @@ pub(crate) enum Step {
 enum RefIndex {
     Of(u64),
     Nowhere(Why),
+}
+
+fn has_leading_zero(step: &[u16]) -> bool
+    ensures { IsTrue result ↔ ((1 < length step.now) × (slice_index step.now 0 ≡ 0x30)) }
+{
+    step.len() > 1 && step[0] == ZERO
+}
+
+/// Returns the index below `count` that a step spells in decimal, without leading zeros (RFC 6901, section 4).
+pub(crate) fn index_of(step: &[u16], count: u64) -> Option<u64>
+    ensures { MatchOption result ((i : ℕ) → i < count → decimal i ≢ step.now)
+        (λ i. (i < count) × (decimal i ≡ step.now)) }
+{
+    if step.is_empty() || has_leading_zero(step) {
+        return None;
+    }
+    let mut index = 0;
+    for unit in step {
+        if *unit < ZERO || *unit > NINE {
+            return None;
+        }
+        let next = index as u128 * 10 + (*unit - ZERO) as u128;
+        if next >= count as u128 {
+            return None;
+        }
+        index = next as u64;
+    }
+    Some(index)
 }
 
 /// Returns the reference that this step takes from object `n`, which has this head.
@@ -117,36 +121,31 @@ pub(crate) fn step_at<S: Source>(
     }
 }
 
-//@@ index: Reads a step as an index into an array.
-
-const ZERO: u16 = 0x30;
-
-const NINE: u16 = 0x39;
-
-/// Returns the index below `count` that a step spells in decimal, without leading zeros (RFC 6901, section 4).
-pub(crate) fn index_of(step: &[u16], count: u64) -> Option<u64>
-    ensures { MatchOption result ((i : ℕ) → i < count → decimal i ≢ step.now)
-        (λ i. (i < count) × (decimal i ≡ step.now)) }
+/// Returns what one step leads to from a node: the value of the key with these units, or the member whose index they
+/// spell. In `Missing`, `step` is 0. Use it for keys that no path text can name.
+///
+/// A key is found as by [`locate`](crate::locate). The call takes no memory. Errors: `Changed` if the certificate does
+/// not vouch for the object, or the source gives other bytes than those that were checked; `Read` if a read of the
+/// source failed. After an error the `Checked` is as before, except for its source's count of failures.
+pub fn step_from<S: Source>(
+    checked: &mut Checked<S>,
+    node: Node,
+    units: &[u16],
+) -> Result<Found, CursorFault>
+    ensures reads { OnlyReadsFile (cursor_read result) checked.old checked.new }
+    ensures exact { IsTrue checked.old.source.honest → IsVouchedBy checked.old.certificate.heights node.object.0 → (v : Value)
+        → Holds checked.old.source.octets checked.old.frame node.object.0 v
+        → GivesCursor (IsFound checked.old node.object.0 v (units.now ∷ [])) result }
+    ensures unvouched { (IsVouchedBy checked.old.certificate.heights node.object.0 → ⊥) → result ≡ Err Changed }
+    ensures memory { result ≢ Err Memory }
 {
-    if step.is_empty() || has_leading_zero(step) {
-        return None;
+    let _frame = checked.frame();
+    if checked.height(node.object) == 0 {
+        return Err(CursorFault::Changed);
     }
-    let mut index = 0;
-    for unit in step {
-        if *unit < ZERO || *unit > NINE {
-            return None;
-        }
-        let next = index as u128 * 10 + (*unit - ZERO) as u128;
-        if next >= count as u128 {
-            return None;
-        }
-        index = next as u64;
+    let mut comparisons = 0u64;
+    match step_at(checked, node.object, units, &mut comparisons)? {
+        Step::On(object) => Ok(Found::At(Node { object })),
+        Step::Not(why) => Ok(Found::Missing { step: 0, why }),
     }
-    Some(index)
-}
-
-fn has_leading_zero(step: &[u16]) -> bool
-    ensures { IsTrue result ↔ ((1 < length step.now) × (slice_index step.now 0 ≡ 0x30)) }
-{
-    step.len() > 1 && step[0] == ZERO
 }

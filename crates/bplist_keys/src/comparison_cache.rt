@@ -1,7 +1,11 @@
-//! Notes of compared texts: each says how many of its first units a text shares with another text.
+//! What earlier comparisons of texts found, so that shared units are not read again: notes and runs.
 //!
-//! The text that comes later takes the note. So in a merge sort, the two texts that are compared next have both been
-//! compared with the same text, the one that came before them, and what they share with it is not read again.
+//! A note says how many of its first units a text shares with another text. The text that comes later takes the note. So in
+//! a merge sort, the two texts that are compared next have both been compared with the same text, the one that came before
+//! them, and what they share with it is not read again.
+//!
+//! A run is a piece of the file whose units the file repeats at a known distance. Texts of a faulty file may overlap. If two
+//! of them share a run, the next two texts at the same distance usually begin inside that run.
 
 ghost use Rattle.std.specs.Prelude.{◌≡◌, ◌≤◌, ℕ, List, IfOk, length, vec_len, ◌+◌, ◌*◌, ◌<◌, IfSome};
 ghost use Rattle.bplist_keys.specs.Prelude.{Agree, AreTrue, note_at, AreRuns, item_size, IsTextKind};
@@ -9,6 +13,9 @@ ghost use Rattle.bplist_keys.specs.Prelude.{Agree, AreTrue, note_at, AreRuns, it
 use bplist_objects::{Head, Kind};
 use std::alloc::{AllocError, Global};
 use std::cmp::Ordering;
+
+/// The number of runs that are kept. It is a prime, so that near distances have different slots.
+const SLOTS: usize = 127;
 
 /// A text shares its first `units` units with the text `other`.
 #[derive(Clone, Copy, Debug)]
@@ -25,7 +32,7 @@ pub(crate) struct ComparisonCache {
 }
 
 impl ComparisonCache {
-    /// Returns notes that keep nothing but runs.
+    /// Returns a cache that keeps nothing but runs.
     pub fn none(alloc: Global) -> ComparisonCache
         ensures notes { (text : ℕ → List ℕ) → AreTrue text result.notes.items }
         ensures runs { (f : List ℕ) → AreRuns f result.runs.slots }
@@ -36,7 +43,7 @@ impl ComparisonCache {
         }
     }
 
-    /// Returns empty notes for `objects` objects.
+    /// Returns a cache with an empty note for each of `objects` objects.
     pub fn new(alloc: Global, objects: u32) -> Result<ComparisonCache, AllocError>
         ensures notes { IfOk result (λ notes. (text : ℕ → List ℕ) → AreTrue text notes.notes.items) }
         ensures runs { IfOk result (λ notes. (f : List ℕ) → AreRuns f notes.runs.slots) }
@@ -101,11 +108,6 @@ impl ComparisonCache {
     }
 }
 
-//@@ runs: Runs of units that a file has twice, at a known distance.  Texts of a faulty file may overlap. If two of them share a run of units, the next two texts at the same distance usually begin inside that run, and the rest of it need not be read again.
-
-/// The number of runs that are kept. It is a prime, so that near distances have different slots.
-const SLOTS: usize = 127;
-
 /// The `units` units from place `from` on are the same as those `apart` bytes further on.
 #[derive(Clone, Copy, Debug)]
 pub struct Run {
@@ -157,7 +159,7 @@ impl RunCache {
     ghost use Rattle.bplist_keys.specs.Notes.{Agree};
     ghost use Rattle.bplist_keys.specs.Runs.{AreRuns};
 
-    /// Returns a table without runs.
+    /// Returns a cache without runs.
     pub fn new() -> RunCache
         ensures { (f : List ℕ) → AreRuns f result.slots }
     {

@@ -17,17 +17,13 @@
 //!
 //! | module | what is in it |
 //! |---|---|
-//! | named_keys | [`NamedKeys`], a mark for each object that is named as a key; [`name_keys`], which sets them |
-//! | failure | [`Failure`], a failed read or refused memory |
-//! | offsets | [`Offsets`], a source that has the places of its objects; [`OffsetTable`] holds all places |
-//! | offset_reader | [`OffsetReader`], an [`Offsets`] that reads blocks of the offset table when asked |
-//! | text | [`object_text`], the head of a key; [`text_order`], the order of two texts |
-//! | ranks | [`classes_of`], numbers that are equal if and only if the units are; [`ranks_of`], numbers in order |
-//! | class_table | [`ClassTable`], which finds the first key of a dictionary that is wrong by rules 21 and 22 |
-//! | weight, key_weights | fingerprints and first units, which are compared before the units |
-//! | ordered, merge_sort, numbers | the sort, and the numbers of sorted objects |
-//! | weight_order | the order of texts by weight and units, for the sort |
-//! | notes, runs | what earlier comparisons found, so that shared units are not read again |
+//! | named_keys | [`NamedKeys`], a mark for each object that is named as a key; [`name_keys`], which sets them; [`numbers_of`] |
+//! | text | [`object_text`] and [`text_head`], the head of a key; [`text_order`], the order of two texts |
+//! | ranks | [`KeyNumbers`], a number for each key: [`classes_of`], equal if and only if the units are; [`ranks_of`], in order |
+//! | class_table | [`ClassTable`], which finds a dictionary's first [`KeyDefect`], a key that is wrong by rule 21 or 22 |
+//! | weights | fingerprints and first units, which are compared before the units; the order of texts by both, for the sort |
+//! | merge_sort | the sort, and the trait of objects that it can compare |
+//! | comparison_cache | what earlier comparisons found, so that shared units are not read again; [`RunCache`] is its public part |
 #![tactic(auto)]
 
 mod class_table;

@@ -1,4 +1,6 @@
-//! The linter's yes: a certificate, and figures about the file.
+//! The answers of the crate. The linter's yes is a certificate with figures about the file. Its no says why the file
+//! has no certificate: a fault, or the objects of a circle. An upgrade has a reason of its own for giving no
+//! certificate.
 
 ghost use Rattle.std.specs.Prelude.{◌≡◌, List};
 ghost use Rattle.bplist_cert.specs.declared.refusal.Refusal.TheVariants as cert;
@@ -26,8 +28,6 @@ pub struct Lint {
     pub references: u64,
 }
 
-//@@ refusal: The linter's no: why a file has no certificate.
-
 /// Why the linter returns no certificate.
 #[derive(Debug, Drop)]
 pub enum LintRefusal {
@@ -54,8 +54,6 @@ impl From<Refusal> for LintRefusal {
         }
     }
 }
-
-//@@ object_nos: The list of objects in an answer.
 
 /// A list of objects by their numbers.
 #[derive(Debug, Drop)]
@@ -92,8 +90,6 @@ impl ObjectNos {
         numbers
     }
 }
-
-//@@ upgrade_fault: Why a certificate is not upgraded.
 
 /// Why a certificate of a checked file is not upgraded.
 #[derive(Clone, Copy, Debug, PartialEq, Eq, Drop)]

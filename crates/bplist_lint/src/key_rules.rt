@@ -1,7 +1,9 @@
-//! Finds the first fault of the reached dictionaries by rules 21 and 22.
+//! The keys of dictionaries: the first fault of the reached dictionaries by rules 21 and 22, and the making of key
+//! lists.
 //!
 //! Each text that is named as a key has a class, which is found once for all dictionaries. A repeated key is a repeated
-//! class, and a key without a class is not a text.
+//! class, and a key without a class is not a text. A key list has the positions of a dictionary's keys, sorted by the
+//! ranks of their texts. Ranks are classes in the order of the texts.
 
 ghost use Rattle.std.specs.Prelude.{◌≡◌, ◌+◌, ◌^◌, ◌<◌, ◌++◌, [], ℕ, ⊤, false, OnOk, length, slice_index, ◌↔◌};
 ghost use Rattle.bplist_lint.specs.Prelude.{OnlyReads, frame_in, HonestlyIn, IsSafeHead, Dict, ref, failed_to_read};
@@ -17,8 +19,6 @@ use bplist_keys::{ClassTable, KeyNumbers, NamedKeys, classes_of};
 use bplist_objects::{Failure, Framed, Head, Kind, ObjectNo, Offsets, object_shape, read_refs_in};
 use std::alloc::{AllocError, Global};
 
-//@@ key_lists: Makes key lists: the positions of a dictionary's keys, sorted by the ranks of their texts.
-
 /// The most references that are read at once. It is small because most dictionaries are, and the block is set up for
 /// each of them.
 const BLOCK: usize = 32;
@@ -28,6 +28,47 @@ const BLOCK: usize = 32;
 pub(crate) struct RankedKey {
     pub rank: u32,
     pub position: u32,
+}
+
+/// The ranks of the texts that are named as keys, and the key lists made so far, one after the other.
+#[derive(Drop)]
+pub(crate) struct KeySorting {
+    pub ranks: KeyNumbers,
+    /// The keys of the last dictionary. Kept to reuse its memory.
+    keys: Vec<RankedKey>,
+    pub positions: Vec<u32>,
+}
+
+impl KeySorting {
+    /// Starts with these ranks and no lists.
+    pub fn new(alloc: Global, ranks: KeyNumbers) -> KeySorting
+        ensures ranks { result.ranks.table.items ≡ ranks.table.items }
+        ensures none { result.positions.items ≡ [] }
+    {
+        KeySorting {
+            ranks,
+            keys: Vec::new(alloc),
+            positions: Vec::new(alloc),
+        }
+    }
+
+    /// Appends the key list of a dictionary: as many positions as it has pairs. After an error some of them may be
+    /// there.
+    pub fn list<P: Framed>(&mut self, src: &mut P, head: &Head) -> Result<(), UpgradeFault>
+        requires head { IsSafeHead (frame_in (P.means src.old)) head.now }
+        requires dict { head.now.kind ≡ Dict }
+        requires few { head.now.count < 2 ^ 32 }
+        ensures reads { OnlyReads (upgrade_failed result) (P.means src.old) (P.means src.new) }
+        ensures same { self.new.ranks.table.items ≡ self.old.ranks.table.items }
+        ensures more { OnOk result (length self.new.positions.items ≡ length self.old.positions.items + head.now.count) }
+        ensures exact { HonestlyIn (P.means src.old) (λ f F. HaveRanks f F head.now self.old.ranks.table.items
+            → Upgrades (λ _. IsListed f F head.now self.old.positions.items self.new.positions.items) result) }
+    {
+        let ranks = &self.ranks;
+        rank_keys(src, head, &ranks.table, &mut self.keys)?;
+        self.keys.sort_unstable();
+        push_positions(&self.keys, &mut self.positions)
+    }
 }
 
 /// Returns the rank of object `m`, or 0 if there is no such object.
@@ -100,47 +141,6 @@ fn push_positions(keys: &[RankedKey], positions: &mut Vec<u32>) -> Result<(), Up
         positions.push(key.position)?;
     }
     Ok(())
-}
-
-/// The ranks of the texts that are named as keys, and the key lists made so far, one after the other.
-#[derive(Drop)]
-pub(crate) struct KeySorting {
-    pub ranks: KeyNumbers,
-    /// The keys of the last dictionary. Kept to reuse its memory.
-    keys: Vec<RankedKey>,
-    pub positions: Vec<u32>,
-}
-
-impl KeySorting {
-    /// Starts with these ranks and no lists.
-    pub fn new(alloc: Global, ranks: KeyNumbers) -> KeySorting
-        ensures ranks { result.ranks.table.items ≡ ranks.table.items }
-        ensures none { result.positions.items ≡ [] }
-    {
-        KeySorting {
-            ranks,
-            keys: Vec::new(alloc),
-            positions: Vec::new(alloc),
-        }
-    }
-
-    /// Appends the key list of a dictionary: as many positions as it has pairs. After an error some of them may be
-    /// there.
-    pub fn list<P: Framed>(&mut self, src: &mut P, head: &Head) -> Result<(), UpgradeFault>
-        requires head { IsSafeHead (frame_in (P.means src.old)) head.now }
-        requires dict { head.now.kind ≡ Dict }
-        requires few { head.now.count < 2 ^ 32 }
-        ensures reads { OnlyReads (upgrade_failed result) (P.means src.old) (P.means src.new) }
-        ensures same { self.new.ranks.table.items ≡ self.old.ranks.table.items }
-        ensures more { OnOk result (length self.new.positions.items ≡ length self.old.positions.items + head.now.count) }
-        ensures exact { HonestlyIn (P.means src.old) (λ f F. HaveRanks f F head.now self.old.ranks.table.items
-            → Upgrades (λ _. IsListed f F head.now self.old.positions.items self.new.positions.items) result) }
-    {
-        let ranks = &self.ranks;
-        rank_keys(src, head, &ranks.table, &mut self.keys)?;
-        self.keys.sort_unstable();
-        push_positions(&self.keys, &mut self.positions)
-    }
 }
 
 /// Checks the keys of marked object `n`, if it is a dictionary.

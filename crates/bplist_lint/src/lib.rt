@@ -18,24 +18,17 @@
 //!
 //! | module | what it is about | public items |
 //! |---|---|---|
-//! | answer | the linter's yes: certificate and figures | [`Lint`] |
-//! | refusal | the linter's no | [`LintRefusal`] |
+//! | answer | yes, no, and why an upgrade fails | [`Lint`], [`LintRefusal`], [`ObjectNos`], [`UpgradeFault`] |
 //! | linter | the passes of the linter, in their order | [`lint`], [`lint_with_kind`] |
-//! | offset_rule | rule 13, of all places | |
+//! | table_rules | rule 13, of all places, and sums over the reached objects: rule 31 | |
 //! | walk | the one walk over the reached objects: rules 14 to 20 and 31 | |
-//! | tally | sums over the reached objects | |
-//! | reach | which objects are reached, if the walk met a fault | |
-//! | reach_rules | the first fault by rules 14 to 20 and 31 | |
+//! | reach | which objects are reached, and the first fault of these rules, if the walk met one | |
 //! | bit_set | the sets of places that the search in reach uses | |
-//! | key_rules | rules 21 and 22 | |
-//! | references | what heights and circle see of a file | |
-//! | object_graph | the objects of a file, seen like that | |
+//! | key_rules | rules 21 and 22, and sorting the keys of a dictionary | |
+//! | graph | what heights and circle see of a file | |
 //! | heights | the least heights | |
 //! | circle | the circle, if the top is not founded: rule 23 | |
-//! | object_nos | the list of objects in a circle | [`ObjectNos`] |
 //! | upgrader | a certificate with sorted key lists | [`upgrade`] |
-//! | key_lists | sorting the keys of a dictionary | |
-//! | upgrade_fault | why there is no such certificate | [`UpgradeFault`] |
 //! | laws | laws about the definitions in specs/ | [`value_or_fault`], [`fault_is_final`] and others |
 #![tactic(auto)]
 

@@ -1,5 +1,6 @@
-//! Finds the objects that the top reaches, in a file whose arrays may overlap. The reference at each place is followed
-//! once, however many arrays it is part of.
+//! Finds the objects that the top reaches, and their first fault by rules 14 to 20 and 31. The linter needs this only
+//! if the quick walk meets a fault. Arrays may overlap in such a file, so the reference at each place is followed once,
+//! however many arrays it is part of.
 
 ghost use Rattle.std.specs.Prelude.{◌≡◌, ◌↔◌, ℕ, ◌+◌, ◌^◌, ◌≤◌, ◌<◌, true, false, not, IsTrue, IfOk, OnOk, is_err};
 ghost use Rattle.std.specs.Prelude.{replicate, count_by, vec_len, Bool, List, length};
@@ -172,8 +173,6 @@ pub fn mark_reached<P: Offsets>(alloc: Global, src: &mut P) -> Result<Marked, Fa
         },
     })
 }
-
-//@@ reach_rules: Finds the first fault of the reached objects by rules 14 to 20 and 31.
 
 /// Checks reached object `n`, and adds it to the tally.
 fn check_reached_object<P: Offsets>(src: &mut P, n: u32, tally: Tally) -> Result<Tally, ObjectFault>

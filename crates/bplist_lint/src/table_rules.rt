@@ -1,4 +1,5 @@
-//! Checks the places of all objects, rule 13, and reads the head at a place.
+//! Checks the places of all objects, rule 13, and reads the head of an object at its place. The tally sums up the
+//! reached objects, their bytes and their references, and finds the fault of rule 31 if there is no room for an object.
 
 ghost use Rattle.std.specs.Prelude.{◌≡◌, ℕ, ◌<◌, IsTrue, slice_index, MatchResult, MatchOption, IfOk, IfSome, is_err};
 ghost use Rattle.std.specs.Prelude.{length, ◌+◌, ◌-◌, ◌≤◌, Some};
@@ -9,6 +10,60 @@ use bplist_objects::{
     Extents, Fault, Frame, Head, ObjectFault, ObjectNo, Offsets, high_entry, object_shape,
 };
 use bplist_octets::ReadFault;
+
+/// Sums over the reached objects seen so far.
+#[derive(Clone, Copy, Debug, PartialEq, Eq, Drop)]
+pub struct Tally {
+    /// The number of objects.
+    pub reached: u64,
+    /// The bytes that they take.
+    pub used: Extents,
+    /// The number of their references.
+    pub references: u64,
+}
+
+impl Tally {
+    /// Returns the tally of no objects.
+    pub fn new() -> Tally
+        ensures { result ≡ record { reached = 0; used = record { octets = 0 }; references = 0 } }
+    {
+        Tally {
+            reached: 0,
+            used: Extents::new(),
+            references: 0,
+        }
+    }
+
+    /// Returns the tally with one more object: object `n`, from `place` to `end`, with this number of references. Returns
+    /// the fault of rule 31 if there is no room for it.
+    #[inline(always)]
+    pub fn with(
+        self,
+        frame: &Frame,
+        n: ObjectNo,
+        place: u64,
+        end: u64,
+        references: u64,
+    ) -> Result<Tally, Fault>
+        requires extent { place + references < «end» }
+        requires inside { «end» ≤ frame.now.table }
+        requires roomy { IsRoomy frame.now self }
+        ensures used { MatchResult result
+            (λ now. now.used.octets ≡ self.used.octets + («end» - place))
+            (λ fault. (fault.rule ≡ Overfull) × (fault.object ≡ Some n) × (fault.place ≡ place)
+            × (frame.now.table < self.used.octets + («end» - place) + 8)) }
+        ensures reached { IfOk result (λ now. now.reached ≡ self.reached + 1) }
+        ensures references { IfOk result (λ now. now.references ≡ self.references + references) }
+        ensures roomy { IfOk result (IsRoomy frame.now) }
+    {
+        let used = self.used.with(frame.table, n, place, end)?;
+        Ok(Tally {
+            reached: self.reached + 1,
+            used,
+            references: self.references + references,
+        })
+    }
+}
 
 /// Returns whether all these places are below the bound. The loop has no other exit, so that it takes several at a time.
 fn are_below(places: &[u32], bound: u32) -> bool
@@ -53,61 +108,5 @@ pub fn shape_there<P: Offsets>(src: &mut P, n: u32) -> Result<Option<Head>, Read
         Ok(head) => Ok(Some(head)),
         Err(ObjectFault::Fault(_)) => Ok(None),
         Err(ObjectFault::Read(error)) => Err(error),
-    }
-}
-
-//@@ tally: Counts the reached objects, their bytes and their references.
-
-/// Sums over the reached objects seen so far.
-#[derive(Clone, Copy, Debug, PartialEq, Eq, Drop)]
-pub struct Tally {
-    /// The number of objects.
-    pub reached: u64,
-    /// The bytes that they take.
-    pub used: Extents,
-    /// The number of their references.
-    pub references: u64,
-}
-
-impl Tally {
-    /// Returns the tally of no objects.
-    pub fn new() -> Tally
-        ensures { result ≡ record { reached = 0; used = record { octets = 0 }; references = 0 } }
-    {
-        Tally {
-            reached: 0,
-            used: Extents::new(),
-            references: 0,
-        }
-    }
-
-    /// Returns the tally with one more object: object `n`, from `place` to `end`, with this number of references. Returns the
-    /// fault of rule 31 if there is no room for it.
-    #[inline(always)]
-    pub fn with(
-        self,
-        frame: &Frame,
-        n: ObjectNo,
-        place: u64,
-        end: u64,
-        references: u64,
-    ) -> Result<Tally, Fault>
-        requires extent { place + references < «end» }
-        requires inside { «end» ≤ frame.now.table }
-        requires roomy { IsRoomy frame.now self }
-        ensures used { MatchResult result
-            (λ now. now.used.octets ≡ self.used.octets + («end» - place))
-            (λ fault. (fault.rule ≡ Overfull) × (fault.object ≡ Some n) × (fault.place ≡ place)
-            × (frame.now.table < self.used.octets + («end» - place) + 8)) }
-        ensures reached { IfOk result (λ now. now.reached ≡ self.reached + 1) }
-        ensures references { IfOk result (λ now. now.references ≡ self.references + references) }
-        ensures roomy { IfOk result (IsRoomy frame.now) }
-    {
-        let used = self.used.with(frame.table, n, place, end)?;
-        Ok(Tally {
-            reached: self.reached + 1,
-            used,
-            references: self.references + references,
-        })
     }
 }

@@ -1,4 +1,7 @@
-//! The errors of this crate: a broken rule, or a failed read.
+//! The errors of this crate: a broken rule, a failed read, or refused memory.
+//!
+//! A [`Fault`] says that the file is wrong. An [`ObjectFault`] is a fault or a failed read. A [`Failure`] is a failed read
+//! or refused memory, and says nothing about the file.
 
 ghost use Rattle.std.specs.Prelude.{◌≡◌, Some};
 ghost use Rattle.bplist_objects.specs.Prelude.{Fault as is_fault, Read};
@@ -30,17 +33,6 @@ pub enum ObjectFault {
     Read(ReadFault),
 }
 
-/// Returns the error that object `n` breaks this rule at this place.
-pub(crate) fn broken(rule: Rule, n: ObjectNo, place: u64) -> ObjectFault
-    ensures { result ≡ is_fault (record { rule = rule; object = Some n; place = place }) }
-{
-    ObjectFault::Fault(Fault {
-        rule,
-        object: Some(n),
-        place,
-    })
-}
-
 impl From<ReadFault> for ObjectFault {
     ghost from_gives = { λ error e. e ≡ Read error };
 
@@ -56,8 +48,6 @@ impl From<Fault> for ObjectFault {
         ObjectFault::Fault(fault)
     }
 }
-
-//@@ failure: Why a call failed although no rule is broken.
 
 /// Why a call over a file failed. This says nothing about the file.
 #[derive(Clone, Copy, Debug, PartialEq, Eq, Drop)]
@@ -90,4 +80,15 @@ impl From<AllocError> for Failure {
     fn from(_refused: AllocError) -> Failure {
         Failure::Memory
     }
+}
+
+/// Returns the error that object `n` breaks this rule at this place.
+pub(crate) fn broken(rule: Rule, n: ObjectNo, place: u64) -> ObjectFault
+    ensures { result ≡ is_fault (record { rule = rule; object = Some n; place = place }) }
+{
+    ObjectFault::Fault(Fault {
+        rule,
+        object: Some(n),
+        place,
+    })
 }

@@ -1,4 +1,7 @@
-//! The heads of objects (what marker and count say), by rules 14 to 17.
+//! The kinds of objects, and their heads: what marker and count say, by rules 14 to 17.
+//!
+//! An object begins with a marker, which gives its kind. The count is in the marker, or is an integer object after it.
+//! Kind, count and the size of a reference give the place at which the object ends.
 
 ghost use Rattle.std.specs.Prelude.{◌≡◌, ◌≤◌, MatchOption, ℕ, ◌+◌, ◌^◌, ◌<◌, List, true, IfOk, IfSome, length};
 ghost use Rattle.std.specs.Prelude.{slice_index};
@@ -14,8 +17,6 @@ use crate::numbers::{octet_in, wide_in};
 use crate::offsets::{entry_place, high_entry, offset_of};
 use crate::rule::Rule;
 use bplist_octets::Source;
-
-//@@ kind: The kinds of objects and their markers.
 
 /// The kind of an object.
 #[derive(Clone, Copy, Debug, PartialEq, Eq, Drop)]
@@ -46,6 +47,20 @@ pub enum Kind {
     Set,
     /// A dictionary: references to its keys, then as many references to its values.
     Dict,
+}
+
+/// What the marker and the count of an object say.
+#[derive(Clone, Copy, Debug, PartialEq, Eq, Drop)]
+pub struct Head {
+    /// The kind of the object.
+    pub kind: Kind,
+    /// The number of items in the body: bytes for Int, Real, Date, Bytes, Ascii and Uid, units for Wide, members for
+    /// Array and Set, pairs for Dict, and 0 for Null, False and True.
+    pub count: u64,
+    /// The place of the first byte after the marker and the count, from the start of the file.
+    pub body: u64,
+    /// The place after the object's last byte, from the start of the file.
+    pub end: u64,
 }
 
 /// Returns the kind of object that begins with this marker, or None if it is no marker.
@@ -88,8 +103,6 @@ pub(crate) fn item_size(kind: Kind, ref_size: u8) -> u8
         _ => 1,
     }
 }
-
-//@@ count: The count of an object, in its marker or as an integer object after it.
 
 fn power_of_2(w: u8) -> u8
     requires { w ≤ 4 }
@@ -168,20 +181,6 @@ pub(crate) fn short_count(kind: Kind, marker: u8) -> Option<u8>
         Kind::Uid => Some(marker - 0x7f),
         _ => Some(0),
     }
-}
-
-/// What the marker and the count of an object say.
-#[derive(Clone, Copy, Debug, PartialEq, Eq, Drop)]
-pub struct Head {
-    /// The kind of the object.
-    pub kind: Kind,
-    /// The number of items in the body: bytes for Int, Real, Date, Bytes, Ascii and Uid, units for Wide, members for
-    /// Array and Set, pairs for Dict, and 0 for Null, False and True.
-    pub count: u64,
-    /// The place of the first byte after the marker and the count, from the start of the file.
-    pub body: u64,
-    /// The place after the object's last byte, from the start of the file.
-    pub end: u64,
 }
 
 /// Returns the marker of object `n` at `place`, or its fault by rule 13 or 14.

@@ -1,4 +1,6 @@
-//! The values of leaves with a given head.
+//! The values of leaves with a given head: integers, UIDs, data, and the units of texts.
+//!
+//! Texts are read and compared in blocks of units, so that a text of any length needs only a small buffer.
 
 ghost use Rattle.std.specs.Prelude.{◌≡◌, ◌⊎◌, ◌+◌, ◌*◌, ◌^◌, ◌%◌, ◌≤◌, length, IfOk, OnOk, is_err, ◌<◌, slice_index};
 ghost use Rattle.std.specs.Prelude.{min};
@@ -9,6 +11,15 @@ use crate::head::{Head, item_size};
 use crate::numbers::{Width, read_many, wide_in};
 use bplist_octets::{ReadFault, Source, sized, wide};
 use std::cmp::Ordering;
+
+/// The largest number of units in one read.
+const BLOCK: usize = 128;
+
+/// The largest number of bytes in one read.
+const BLOCK_BYTES: usize = 256;
+
+/// The largest number of units of a key in one read.
+const KEY_BLOCK: usize = 32;
 
 /// Returns the integer that 1, 2, 4, 8 or 16 bytes spell.
 fn integer_in(octets: &[u8]) -> i128
@@ -77,17 +88,6 @@ pub fn octets_at<S: Source>(
 {
     src.read_at(head.body + i, into)
 }
-
-//@@ text: The units of a text with a given head: reading them, and comparing them.
-
-/// The largest number of units in one read.
-const BLOCK: usize = 128;
-
-/// The largest number of bytes in one read.
-const BLOCK_BYTES: usize = 256;
-
-/// The largest number of units of a key in one read.
-const KEY_BLOCK: usize = 32;
 
 /// Fills `into` with the units of a text from unit `from` on.
 ///

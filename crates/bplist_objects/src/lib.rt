@@ -16,21 +16,18 @@
 //! |---|---|
 //! | rule | [`Rule`], the 32 rules of files, certificates and path texts, with their words and numbers |
 //! | rule_texts | [`texts_of`], a sentence and an example for each rule |
-//! | fault | [`Fault`], a broken rule with its object and place; [`ObjectFault`], which is a fault or a failed read |
+//! | fault | [`Fault`], a broken rule with its object and place; [`ObjectFault`], a fault or a failed read; [`Failure`], a failed read or refused memory |
 //! | frame | [`Frame`], the trailer's five numbers: [`trailer_of`] by rules 1 to 12, [`frame_of`] by rules 1 to 13 |
-//! | offset_table | entries of the offset table: [`offset_of`], [`read_offsets`], [`high_entry`] |
-//! | kind | [`Kind`], the kinds of objects, and their markers |
-//! | count | an object's count, in its marker or after it |
-//! | head | [`Head`], what marker and count say, by rules 14 to 17: [`shape_of`], and [`shape_at`] for a known place |
+//! | offsets | the places of objects: [`offset_of`], [`read_offsets`], [`offsets_of`], [`high_entry`]; [`Offsets`], a source that has them, as [`OffsetTable`] does; [`object_shape`] |
+//! | offset_reader | [`OffsetReader`], an [`Offsets`] that reads blocks of the offset table when asked |
+//! | head | [`Kind`], the kinds of objects; [`Head`], what marker and count say, by rules 14 to 17: [`shape_of`], and [`shape_at`] for a known place |
 //! | body | heads by rules 14 to 20: [`head_of`], [`head_at`]; [`check_body`] |
 //! | refs | the references of a container: [`refs_of`], [`ref_at`], [`read_refs`] |
 //! | extents | [`Extents`], what objects take together, by rule 31 |
-//! | leaf | the values of leaves: [`int_of`], [`uid_of`], [`octets_at`] |
-//! | text | the units of texts: [`unit_at`], [`read_units`]; their order: [`key_cmp`] |
-//! | framed | [`Framed`], a source that has its frame, and [`Plist`], which makes one |
-//! | plist | the same calls over a [`Framed`], with names that end in `_in`, as [`shape_in`]; [`ref_place`] |
-//! | visit | [`visit_in`], the first look at an object, which is enough for most leaves |
-//! | numbers, scan | numbers of a source, read and searched block by block; [`first_high_in`] |
+//! | leaf | the values of leaves: [`int_of`], [`uid_of`], [`octets_at`]; the units of texts: [`unit_at`], [`read_units`]; their order: [`key_cmp`] |
+//! | framed | [`Framed`], a source that has its frame, and [`Plist`], which makes one; calls over it: [`offset_in`], [`read_offsets_in`], [`shape_in`], [`head_in`], [`read_refs_in`], [`ref_place`] |
+//! | numbers | numbers of a source, read block by block |
+//! | scan | [`visit_in`], the first look at an object, which finds a [`Visit`] and is enough for most leaves; [`first_high_in`], a search of a text |
 //! | laws, leaf_laws | what the definitions imply, as contracts of functions that do nothing |
 //!
 //! The laws tie the definitions to each other: an object has at most one head, one content and one value

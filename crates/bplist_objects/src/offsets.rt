@@ -1,4 +1,7 @@
-//! The places of all objects, and sources that have them.
+//! The places of objects: entries of the offset table, and sources that have the places of all objects.
+//!
+//! A caller that needs a few places reads their entries with [`offset_of`] or [`read_offsets`]. A caller that needs most of
+//! them reads all entries once with [`offsets_of`], and lends the list to an [`OffsetTable`].
 
 ghost use Rattle.std.specs.Prelude.{◌≡◌, ℕ, ◌+◌, ◌*◌, ◌≤◌, ◌<◌, length, slice_index, IfOk, OnOk, is_err, IsTrue, min};
 ghost use Rattle.std.specs.Prelude.{vec_len};
@@ -23,7 +26,79 @@ use crate::rule::Rule;
 use bplist_octets::{ReadFault, Source};
 use std::alloc::Global;
 
-//@@ offset_table: The offset table, which has the place of each object.
+/// The number of entries of the offset table in one read.
+const BLOCK: usize = 256;
+
+/// A source that has its frame, and gives the places of its objects.
+///
+/// A caller that visits objects in any order keeps their places, 4 bytes an object (`OffsetTable`). If memory is short
+/// or few places are needed, the entries are read when asked for (`OffsetReader`).
+pub trait Offsets: Framed {
+    /// Returns the place of object `n`, from the start of the file. An error is a failed read.
+    fn offset(&mut self, n: u32) -> Result<u64, ReadFault>
+        requires { n < (frame_in (Self.means self.old)).objects }
+        ensures reads { OnlyReads (is_err result) (Self.means self.old) (Self.means self.new) }
+        ensures value { HonestlyIn (Self.means self.old) (λ f F. IfOk result (λ place. place ≡ off f F n)) };
+}
+
+/// A borrowed source with its frame and the places of all objects, so that a place costs no read.
+#[derive(Drop)]
+pub struct OffsetTable<'a, S: Source> {
+    source: &'a mut S,
+    frame: Frame,
+    places: &'a [u32],
+    pub ghost safe: { IsSafeFrame (length (S.means source.now).octets) frame },
+    pub ghost all: { length places.now ≡ frame.objects },
+    pub ghost framed: { IsTrue (S.means source.now).honest → IsFrame (S.means source.now).octets frame },
+    pub ghost placed: { IsTrue (S.means source.now).honest → AreOffsets32 (S.means source.now).octets frame frame.objects places.now },
+}
+
+impl<'a, S: Source> OffsetTable<'a, S> {
+    /// Returns a source with its frame, as `frame_of` returns it, and the places of all objects, as `offsets_of`
+    /// returns them.
+    pub fn new(source: &'a mut S, frame: Frame, places: &'a [u32]) -> OffsetTable<'a, S>
+        requires safe { IsSafeFrame (length (S.means source.old).octets) frame }
+        requires all { length places.now ≡ frame.objects }
+        requires framed { IsTrue (S.means source.old).honest → IsFrame (S.means source.old).octets frame }
+        requires placed { IsTrue (S.means source.old).honest → AreOffsets32 (S.means source.old).octets frame frame.objects places.now }
+        ensures same_source { result.source.ghost_name ≡ source.entry.ghost_name }
+        ensures means { S.means result.source.now ≡ S.means source.old }
+        ensures frame { result.frame ≡ frame }
+    {
+        OffsetTable {
+            source,
+            frame,
+            places,
+        }
+    }
+}
+
+impl<S: Source> Source for OffsetTable<'_, S> {
+    ghost means = { λ t. with_frame t.frame (borrowed t.source.ghost_name (S.means t.source.now)) };
+
+    fn len(&self) -> u64 {
+        self.source.len()
+    }
+
+    // Inlined, so that a read costs no more than one of the source.
+    #[inline(always)]
+    fn read_at(&mut self, at: u64, into: &mut [u8]) -> Result<(), ReadFault> {
+        self.source.read_at(at, into)
+    }
+}
+
+impl<S: Source> Framed for OffsetTable<'_, S> {
+    fn frame(&self) -> Frame {
+        self.frame
+    }
+}
+
+impl<S: Source> Offsets for OffsetTable<'_, S> {
+    #[inline(always)]
+    fn offset(&mut self, n: u32) -> Result<u64, ReadFault> {
+        Ok(self.places[n as usize] as u64)
+    }
+}
 
 /// Returns the place of entry `n` of the offset table, from the start of the file of `len` bytes.
 #[inline(always)]
@@ -88,9 +163,6 @@ pub fn high_entry(frame: &Frame, n: ObjectNo, len: u64) -> Fault
     }
 }
 
-/// The number of entries of the offset table in one read.
-const BLOCK: usize = 256;
-
 /// Puts places into the table from number `from` on. A place that needs more than 32 bits is stored as 4294967295,
 /// which is also after any offset table.
 fn put_offsets(places: &[u64], from: usize, table: &mut [u32])
@@ -148,18 +220,6 @@ pub fn offsets_of<S: Source>(alloc: Global, src: &mut S, frame: &Frame) -> Resul
     Ok(places)
 }
 
-/// A source that has its frame, and gives the places of its objects.
-///
-/// A caller that visits objects in any order keeps their places, 4 bytes an object (`OffsetTable`). If memory is short
-/// or few places are needed, the entries are read when asked for (`OffsetReader`).
-pub trait Offsets: Framed {
-    /// Returns the place of object `n`, from the start of the file. An error is a failed read.
-    fn offset(&mut self, n: u32) -> Result<u64, ReadFault>
-        requires { n < (frame_in (Self.means self.old)).objects }
-        ensures reads { OnlyReads (is_err result) (Self.means self.old) (Self.means self.new) }
-        ensures value { HonestlyIn (Self.means self.old) (λ f F. IfOk result (λ place. place ≡ off f F n)) };
-}
-
 /// Returns the head of object `n`, from marker and count only, as `shape_in` does.
 #[inline(always)]
 pub fn object_shape<P: Offsets>(src: &mut P, n: u32) -> Result<Head, ObjectFault>
@@ -172,63 +232,4 @@ pub fn object_shape<P: Offsets>(src: &mut P, n: u32) -> Result<Head, ObjectFault
 {
     let place = src.offset(n)?;
     shape_in(src, ObjectNo(n), place)
-}
-
-/// A borrowed source with its frame and the places of all objects, so that a place costs no read.
-#[derive(Drop)]
-pub struct OffsetTable<'a, S: Source> {
-    source: &'a mut S,
-    frame: Frame,
-    places: &'a [u32],
-    pub ghost safe: { IsSafeFrame (length (S.means source.now).octets) frame },
-    pub ghost all: { length places.now ≡ frame.objects },
-    pub ghost framed: { IsTrue (S.means source.now).honest → IsFrame (S.means source.now).octets frame },
-    pub ghost placed: { IsTrue (S.means source.now).honest → AreOffsets32 (S.means source.now).octets frame frame.objects places.now },
-}
-
-impl<'a, S: Source> OffsetTable<'a, S> {
-    /// Returns a source with its frame, as `frame_of` returns it, and the places of all objects, as `offsets_of`
-    /// returns them.
-    pub fn new(source: &'a mut S, frame: Frame, places: &'a [u32]) -> OffsetTable<'a, S>
-        requires safe { IsSafeFrame (length (S.means source.old).octets) frame }
-        requires all { length places.now ≡ frame.objects }
-        requires framed { IsTrue (S.means source.old).honest → IsFrame (S.means source.old).octets frame }
-        requires placed { IsTrue (S.means source.old).honest → AreOffsets32 (S.means source.old).octets frame frame.objects places.now }
-        ensures same_source { result.source.ghost_name ≡ source.entry.ghost_name }
-        ensures means { S.means result.source.now ≡ S.means source.old }
-        ensures frame { result.frame ≡ frame }
-    {
-        OffsetTable {
-            source,
-            frame,
-            places,
-        }
-    }
-}
-
-impl<S: Source> Source for OffsetTable<'_, S> {
-    ghost means = { λ t. with_frame t.frame (borrowed t.source.ghost_name (S.means t.source.now)) };
-
-    fn len(&self) -> u64 {
-        self.source.len()
-    }
-
-    // Inlined, so that a read costs no more than one of the source.
-    #[inline(always)]
-    fn read_at(&mut self, at: u64, into: &mut [u8]) -> Result<(), ReadFault> {
-        self.source.read_at(at, into)
-    }
-}
-
-impl<S: Source> Framed for OffsetTable<'_, S> {
-    fn frame(&self) -> Frame {
-        self.frame
-    }
-}
-
-impl<S: Source> Offsets for OffsetTable<'_, S> {
-    #[inline(always)]
-    fn offset(&mut self, n: u32) -> Result<u64, ReadFault> {
-        Ok(self.places[n as usize] as u64)
-    }
 }

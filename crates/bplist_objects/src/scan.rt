@@ -1,4 +1,7 @@
-//! Searches blocks of numbers or bytes for the first that is not below a bound.
+//! The first look at an object, and searches for the first number or byte that is not below a bound.
+//!
+//! For most leaves the marker is enough: it gives the size, and no rule is about the body. What may be too high is
+//! searched block by block: the offset table (rule 13), texts of one byte a unit (rule 18) and references (rule 20).
 
 ghost use Rattle.std.specs.Prelude.{◌≡◌, ◌<◌, IfOk, ◌+◌, ◌*◌, ◌≤◌, length, IsTrue, IfSome, MatchOption, is_err};
 ghost use Rattle.bplist_objects.specs.Prelude.{OnlyReads, frame_in, HonestlyIn, off, Gives, read_failed, IsObjectFault};
@@ -13,7 +16,12 @@ use crate::numbers::{BLOCK_BYTES, FEW, FEW_BYTES, Width, part_of};
 use crate::rule::Rule;
 use bplist_octets::{ReadFault, Source, first_high, sized};
 
-//@@ visit: The first look at an object, which is enough for most leaves.
+/// The largest number of bytes of a text in one read.
+const TEXT_PART: usize = 256;
+
+/// A text of up to this many bytes goes through a small buffer. Most texts are no longer, and a buffer is cleared
+/// before use.
+const SHORT_TEXT: usize = 64;
 
 /// What a visit finds.
 #[derive(Clone, Copy, Debug, PartialEq, Eq, Drop)]
@@ -179,13 +187,6 @@ pub(crate) fn first_not_below<S: Source>(
     }
     first_by_blocks::<FEW_BYTES, S>(src, place, width, count, bound)
 }
-
-/// The largest number of bytes of a text in one read.
-const TEXT_PART: usize = 256;
-
-/// A text of up to this many bytes goes through a small buffer. Most texts are no longer, and a buffer is cleared
-/// before use.
-const SHORT_TEXT: usize = 64;
 
 /// Returns the index in the text of the first byte of a part that is 128 or more. The part begins at byte `done` of the
 /// text.

@@ -1,4 +1,6 @@
-//! A source for tests: one of its reads fails.
+//! Sources for tests: one of the reads of a [`FaultySource`] fails, and the bytes of a [`ShiftingSource`] change.
+//!
+//! Both are public, so that other crates can test what their calls do with such a source.
 
 ghost use Rattle.std.specs.Prelude.{◌≡◌, ◌+◌, ◌≤◌, zero, suc, length, true, [], IsTrue, OnOk, Some, None, is_err, ◌-◌};
 ghost use Rattle.std.specs.Prelude.{nat_lt, if◌then◌else◌};
@@ -60,8 +62,6 @@ impl<'a> FaultySource<'a> {
         }
     }
 }
-
-//@@ shifting_source: A source for tests: its bytes change.
 
 /// A source over two slices of the same length: the first reads come from one, all later reads from the other. It is
 /// not honest, and its reads never fail. It is public so that callers can test what they do if a file changes between

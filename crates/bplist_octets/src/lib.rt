@@ -1,5 +1,5 @@
-//! Reads bytes at a place of a slice or a file, and the big-endian numbers that they spell. The crate knows nothing of
-//! property lists: `bplist_objects` reads the format.
+//! Reads bytes at a place of a slice or a file, and the big-endian numbers that they spell, and writes bytes through a
+//! buffer. The crate knows nothing of property lists: `bplist_objects` reads the format.
 //!
 //! ```
 //! let mut source = SliceSource::new(bytes);
@@ -18,15 +18,13 @@
 //!
 //! | module | what is in it |
 //! |---|---|
-//! | source | the trait [`Source`], and [`ReadFault`], the reasons why a read fails |
-//! | slice | [`SliceSource`], a source over memory |
-//! | file | [`FileSource`], a source over a file; [`fill_from`], which fills a buffer from a reader |
-//! | numbers | big-endian numbers: [`sized`] of up to 8 bytes, [`wide`] of up to 16 |
-//! | lanes | [`first_high`], the first byte of 128 or more |
+//! | source | the trait [`Source`]; [`ReadFault`], the reasons why a read fails; [`SliceSource`], a source over memory |
+//! | file | [`FileSource`], a source over a file, and [`OpenFault`]; [`fill_from`], which fills a buffer from a reader |
+//! | numbers | big-endian numbers: [`sized`] of up to 8 bytes, [`wide`] of up to 16; [`first_high`], the first byte of 128 or more |
 //! | window | [`Window`], a buffer of 4,096 bytes over a source |
-//! | windows | [`Panes`], several buffers ([`Pane`]) over a source, for readers that alternate between places |
-//! | faulty_source | for tests: [`FaultySource`], one read of which fails |
-//! | shifting_source | for tests: [`ShiftingSource`], whose bytes change |
+//! | panes | [`Panes`], several buffers ([`Pane`]) over a source, for readers that alternate between places |
+//! | faulty_sources | for tests: [`FaultySource`], one read of which fails, and [`ShiftingSource`], whose bytes change |
+//! | sink | [`Sink`], a buffer in front of a writer, which counts what was written; [`WriteFault`], a failed write |
 #![tactic(auto)]
 
 mod faulty_sources;

@@ -1,10 +1,15 @@
-//! Big-endian numbers of up to 16 bytes.
+//! Big-endian numbers of up to 16 bytes, and the first byte of 0x80 or more.
+//!
+//! The search compares 64 bytes at a time, because nearly all texts have only bytes below 0x80.
 
 ghost use Rattle.std.specs.Prelude.{◌≡◌, ◌≤◌, length, ℕ, ◌+◌, ◌<◌, slice_index, IsTrue, MatchOption};
 ghost use Rattle.bplist_octets.specs.Octets.{num, AreLow, IsFirstHigh};
 
 use byteorder::{BigEndian, ByteOrder};
 use std::simd::prelude::*;
+
+/// The number of bytes compared at a time.
+const GROUP: usize = 64;
 
 /// Returns the unsigned big-endian number of one to eight bytes.
 pub fn sized(l: &[u8]) -> u64
@@ -37,11 +42,6 @@ pub fn wide(l: &[u8]) -> u128
         n => BigEndian::read_uint128(l, n),
     }
 }
-
-//@@ lanes: The first byte of 0x80 or more, with 64 bytes compared at a time.
-
-/// The number of bytes compared at a time.
-const GROUP: usize = 64;
 
 /// True if the 64 bytes at index `at` are all below 0x80.
 fn is_group_low(l: &[u8], at: usize) -> bool

@@ -1,4 +1,7 @@
-//! The trait of all sources of bytes, and the reasons why a read fails.
+//! The trait of all sources of bytes, the reasons why a read fails, and a source over a slice.
+//!
+//! All readers of the crate and of its callers take any [`Source`]. A [`SliceSource`] is the simplest one: its bytes are
+//! in memory, so its reads never fail, and it can also lend bytes without a copy.
 
 ghost use Rattle.std.specs.Prelude.{◌≡◌, ◌+◌, ◌≤◌, length, IsTrue, OnOk, is_err};
 ghost use Rattle.bplist_octets.specs.Octets.{part};
@@ -42,8 +45,6 @@ pub trait Source {
         ensures filled { OnOk result (IsTrue (means self.old).honest
             → into.new ≡ part (means self.old).octets at (length into.old)) };
 }
-
-//@@ slice: A source over a slice.
 
 /// A source over a slice. It is honest, its reads never fail, and its count of failed reads is 0.
 #[derive(Clone, Copy, Debug, Drop)]
