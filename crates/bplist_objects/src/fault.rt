@@ -5,7 +5,7 @@
 
 ghost use Rattle.std.specs.Prelude.{◌≡◌, Some};
 ghost use Rattle.bplist_objects.specs.Prelude.{Fault as is_fault, Read};
-ghost use Rattle.bplist_keys.specs.Prelude.{Memory};
+ghost use Rattle.bplist_objects.specs.declared.fault.Failure.TheVariants as failed;
 
 use crate::frame::ObjectNo;
 use crate::rule::Rule;
@@ -59,7 +59,7 @@ pub enum Failure {
 }
 
 impl From<ReadFault> for Failure {
-    ghost from_gives = { λ error e. e ≡ Read error };
+    ghost from_gives = { λ error e. e ≡ failed.Read error };
 
     fn from(error: ReadFault) -> Failure {
         Failure::Read(error)
@@ -67,7 +67,7 @@ impl From<ReadFault> for Failure {
 }
 
 impl<T: Drop> From<AllocFailed<T>> for Failure {
-    ghost from_gives = { λ _ e. e ≡ Memory };
+    ghost from_gives = { λ _ e. e ≡ failed.Memory };
 
     fn from(_refused: AllocFailed<T>) -> Failure {
         Failure::Memory
@@ -75,7 +75,7 @@ impl<T: Drop> From<AllocFailed<T>> for Failure {
 }
 
 impl From<AllocError> for Failure {
-    ghost from_gives = { λ _ e. e ≡ Memory };
+    ghost from_gives = { λ _ e. e ≡ failed.Memory };
 
     fn from(_refused: AllocError) -> Failure {
         Failure::Memory
