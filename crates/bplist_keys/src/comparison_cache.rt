@@ -1,11 +1,11 @@
 //! What earlier comparisons of texts found, so that shared units are not read again: notes and runs.
 //!
-//! A note says how many of its first units a text shares with another text. The text that comes later takes the note. So in
-//! a merge sort, the two texts that are compared next have both been compared with the same text, the one that came before
-//! them, and what they share with it is not read again.
+//! A note says how many of its first units a text shares with another text. The text that comes later takes the note.
+//! So in a merge sort, the two texts that are compared next have both been compared with the same text, the one that
+//! came before them, and what they share with it is not read again.
 //!
-//! A run is a piece of the file whose units the file repeats at a known distance. Texts of a faulty file may overlap. If two
-//! of them share a run, the next two texts at the same distance usually begin inside that run.
+//! A run is a piece of the file whose units the file repeats at a known distance. Texts of a faulty file may overlap.
+//! If two of them share a run, the next two texts at the same distance usually begin inside that run.
 
 ghost use Rattle.std.specs.Prelude.{◌≡◌, ◌≤◌, ℕ, List, IfOk, length, vec_len, ◌+◌, ◌*◌, ◌<◌, IfSome};
 ghost use Rattle.bplist_keys.specs.Prelude.{Agree, AreTrue, note_at, AreRuns, item_size, IsTextKind};

@@ -1,6 +1,6 @@
 //! Gives numbers to the texts that dictionaries name as keys, so that keys can be compared as numbers: `lint` compares
-//! classes (rule 22), and `upgrade` sorts key lists by ranks. The crate makes no faults: `bplist_lint` and
-//! `bplist_cert` make those of rules 21 and 22 from what it finds.
+//! classes (rule 22), and `upgrade` sorts key lists by ranks. The crate does not walk a whole file: `bplist_lint` and
+//! `bplist_cert` do, and `bplist_objects` reads the places of objects.
 //!
 //! ```
 //! let mut named = NamedKeys::new(alloc, frame.objects)?;

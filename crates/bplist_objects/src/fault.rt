@@ -1,7 +1,7 @@
 //! The errors of this crate: a broken rule, a failed read, or refused memory.
 //!
-//! A [`Fault`] says that the file is wrong. An [`ObjectFault`] is a fault or a failed read. A [`Failure`] is a failed read
-//! or refused memory, and says nothing about the file.
+//! A [`Fault`] says that the file is wrong. An [`ObjectFault`] is a fault or a failed read. A [`Failure`] is a failed
+//! read or refused memory, and says nothing about the file.
 
 ghost use Rattle.std.specs.Prelude.{◌≡◌, Some};
 ghost use Rattle.bplist_objects.specs.Prelude.{Fault as is_fault, Read};

@@ -1,7 +1,7 @@
 //! Sources that have their frame, and the calls that read objects over such a source.
 //!
-//! The frame fits the source, so a call over a [`Framed`] needs no frame as a parameter, and its contract no condition on
-//! the frame. The names of these calls end in `_in`. Each does what the call with a frame does that its doc names.
+//! The frame fits the source, so a call over a [`Framed`] needs no frame as a parameter, and its contract no condition
+//! on the frame. The names of these calls end in `_in`. Each does what the call with a frame does that its doc names.
 
 ghost use Rattle.std.specs.Prelude.{◌≡◌, length, IsTrue, ℕ, ◌+◌, ◌*◌, ◌≤◌, ◌<◌, IfOk, OnOk, is_err, slice_index};
 ghost use Rattle.bplist_objects.specs.Prelude.{borrowed, IsFrame, IsSafeFrame, IsFramed, frame_in, with_frame};

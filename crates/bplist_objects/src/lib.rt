@@ -16,16 +16,16 @@
 //! |---|---|
 //! | rule | [`Rule`], the 32 rules of files, certificates and path texts, with their words and numbers |
 //! | rule_texts | [`texts_of`], a sentence and an example for each rule |
-//! | fault | [`Fault`], a broken rule with its object and place; [`ObjectFault`], a fault or a failed read; [`Failure`], a failed read or refused memory |
+//! | fault | [`Fault`], a broken rule; [`ObjectFault`], that or a failed read; [`Failure`], a failed read or refused memory |
 //! | frame | [`Frame`], the trailer's five numbers: [`trailer_of`] by rules 1 to 12, [`frame_of`] by rules 1 to 13 |
-//! | offsets | the places of objects: [`offset_of`], [`read_offsets`], [`offsets_of`], [`high_entry`]; [`Offsets`], a source that has them, as [`OffsetTable`] does; [`object_shape`] |
+//! | offsets | places of objects: [`offset_of`], [`read_offsets`], [`offsets_of`], [`high_entry`]; sources that have them: [`Offsets`], [`OffsetTable`], [`object_shape`] |
 //! | offset_reader | [`OffsetReader`], an [`Offsets`] that reads blocks of the offset table when asked |
 //! | head | [`Kind`], the kinds of objects; [`Head`], what marker and count say, by rules 14 to 17: [`shape_of`], and [`shape_at`] for a known place |
 //! | body | heads by rules 14 to 20: [`head_of`], [`head_at`]; [`check_body`] |
 //! | refs | the references of a container: [`refs_of`], [`ref_at`], [`read_refs`] |
 //! | extents | [`Extents`], what objects take together, by rule 31 |
 //! | leaf | the values of leaves: [`int_of`], [`uid_of`], [`octets_at`]; the units of texts: [`unit_at`], [`read_units`]; their order: [`key_cmp`] |
-//! | framed | [`Framed`], a source that has its frame, and [`Plist`], which makes one; calls over it: [`offset_in`], [`read_offsets_in`], [`shape_in`], [`head_in`], [`read_refs_in`], [`ref_place`] |
+//! | framed | [`Framed`], a source that has its frame; [`Plist`], which makes one; the same calls over it, with names that end in `_in`, as [`shape_in`]; [`ref_place`] |
 //! | numbers | numbers of a source, read block by block |
 //! | scan | [`visit_in`], the first look at an object, which finds a [`Visit`] and is enough for most leaves; [`first_high_in`], a search of a text |
 //! | laws, leaf_laws | what the definitions imply, as contracts of functions that do nothing |

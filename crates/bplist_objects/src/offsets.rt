@@ -1,7 +1,7 @@
 //! The places of objects: entries of the offset table, and sources that have the places of all objects.
 //!
-//! A caller that needs a few places reads their entries with [`offset_of`] or [`read_offsets`]. A caller that needs most of
-//! them reads all entries once with [`offsets_of`], and lends the list to an [`OffsetTable`].
+//! A caller that needs a few places reads their entries with [`offset_of`] or [`read_offsets`]. A caller that needs
+//! most of them reads all entries once with [`offsets_of`], and lends the list to an [`OffsetTable`].
 
 ghost use Rattle.std.specs.Prelude.{◌≡◌, ℕ, ◌+◌, ◌*◌, ◌≤◌, ◌<◌, length, slice_index, IfOk, OnOk, is_err, IsTrue, min};
 ghost use Rattle.std.specs.Prelude.{vec_len};

@@ -1,7 +1,7 @@
 //! The trait of all sources of bytes, the reasons why a read fails, and a source over a slice.
 //!
-//! All readers of the crate and of its callers take any [`Source`]. A [`SliceSource`] is the simplest one: its bytes are
-//! in memory, so its reads never fail, and it can also lend bytes without a copy.
+//! All readers of the crate and of its callers take any [`Source`]. A [`SliceSource`] is the simplest one: its bytes
+//! are in memory, so its reads never fail, and it can also lend bytes without a copy.
 
 ghost use Rattle.std.specs.Prelude.{◌≡◌, ◌+◌, ◌≤◌, length, IsTrue, OnOk, is_err};
 ghost use Rattle.bplist_octets.specs.Octets.{part};
