@@ -9,10 +9,10 @@ use Rattle.bplist_objects.specs.declared.frame.Frame.{Frame}
 use Rattle.bplist_objects.specs.Value.{Value}
 use Rattle.bplist_objects.specs.Holds.{Holds}
 use Rattle.bplist_cursor.specs.declared.node.Why.{Why}
-use Rattle.bplist_cursor.specs.declared.answers.Query.{Query}
-use Rattle.bplist_cursor.specs.declared.answers.Query.TheVariants.{Get}
-use Rattle.bplist_cursor.specs.declared.answers.Reply.{Reply}
-use Rattle.bplist_cursor.specs.declared.answers.Reply.TheVariants.{Face, Missing}
+use Rattle.bplist_cursor.specs.declared.replies.Query.{Query}
+use Rattle.bplist_cursor.specs.declared.replies.Query.TheVariants.{Get}
+use Rattle.bplist_cursor.specs.declared.replies.Reply.{Reply}
+use Rattle.bplist_cursor.specs.declared.replies.Reply.TheVariants.{Face, Missing}
 use Rattle.bplist_cursor.specs.Answered.{IsAnswered, RefusesBy}
 use Rattle.bplist_cursor.specs.declared.certified_answers.AnswerFault.{AnswerFault}
 use Rattle.bplist_cert.specs.Encoding.{octets_of}

@@ -1,7 +1,7 @@
 -- The lines of the members of containers.
 use Rattle.std.proofs.Common.{◌≡◌, ◌<◌, ◌+◌, ◌-◌, ◌*◌, ◌++◌, [], ◌∙◌, ℕ, zero, suc, List, codes, length, slice_get, Option, Some, Ok, ap, append_assoc, append-nil, arith, refl, subst, sym}
 use Rattle.bplist_objects.specs.Value.{Value, leaf, array, set, dict, text, Values, no_values, value, Pairs, no_pairs, pair, keys}
-use Rattle.bplist_cursor.specs.declared.face.Face.{Face}
+use Rattle.bplist_cursor.specs.declared.replies.Face.{Face}
 use Rattle.bplist_objects.specs.declared.head.Head.{Head}
 use Rattle.bplist_objects.specs.Heads.{Content, Spells, content_at}
 use Rattle.bplist_cert.specs.CheckedFile.{CheckedFile}

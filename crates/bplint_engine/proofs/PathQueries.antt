@@ -2,8 +2,8 @@
 use Rattle.std.proofs.Common.{◌≡◌, ◌∙◌, ℕ, zero, suc, ◌<◌, List, [], ◌∷◌, ◌++◌, length, take, map, get_or, inl, inr, ap, subst, sym, arith, String, Global, string_bytes}
 use Rattle.std.specs.List.{AllZip}
 use Rattle.std.proofs.lemmas.List.{map-append}
-use Rattle.bplist_cursor.specs.declared.answers.Query.{Query}
-use Rattle.bplist_cursor.specs.declared.answers.Query.TheVariants.{Get}
+use Rattle.bplist_cursor.specs.declared.replies.Query.{Query}
+use Rattle.bplist_cursor.specs.declared.replies.Query.TheVariants.{Get}
 use Rattle.bplist_cursor.specs.declared.path.PathFault.{PathFault}
 use Rattle.bplist_cursor.specs.declared.path.PathFault.TheVariants.{Text, Memory}
 use Rattle.bplist_cursor.specs.Path.{IsNoPath, IsPathOf}

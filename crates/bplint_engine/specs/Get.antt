@@ -5,8 +5,8 @@ use Rattle.bplist_objects.specs.Value.{Value}
 use Rattle.bplist_cursor.specs.declared.certified_answers.AnswerFault.{AnswerFault}
 use Rattle.bplist_cursor.specs.declared.certified_answers.AnswerFault.TheVariants as answers
 use Rattle.bplist_cursor.specs.declared.node.Why.{Why}
-use Rattle.bplist_cursor.specs.declared.answers.Reply.{Reply}
-use Rattle.bplist_cursor.specs.declared.answers.Reply.TheVariants.{Face, Missing}
+use Rattle.bplist_cursor.specs.declared.replies.Reply.{Reply}
+use Rattle.bplist_cursor.specs.declared.replies.Reply.TheVariants.{Face, Missing}
 use Rattle.bplist_cursor.specs.Look.{look}
 use Rattle.bplist_cursor.specs.Replies.{face}
 use Rattle.bplint_lines.specs.declared.fault.RunFault.{RunFault}

@@ -12,8 +12,8 @@ use Rattle.bplist_objects.specs.Frame.{IsFrame}
 use Rattle.bplist_objects.specs.Safe.{IsSafeBody}
 use Rattle.bplist_objects.specs.Units.{IsTextKind, units_of}
 use Rattle.bplist_objects.specs.Value.{Value, leaf, bytes, text, int, uid, boolean}
-use Rattle.bplist_cursor.specs.declared.face.Face.{Face}
-use Rattle.bplist_cursor.specs.declared.face.Face.TheVariants as faces
+use Rattle.bplist_cursor.specs.declared.replies.Face.{Face}
+use Rattle.bplist_cursor.specs.declared.replies.Face.TheVariants as faces
 use Rattle.bplist_cursor.specs.Leads.{LeadTo}
 use Rattle.bplist_cursor.specs.Look.{look}
 use Rattle.bplist_cursor.specs.Path.{IsPathOf}

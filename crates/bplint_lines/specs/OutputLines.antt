@@ -5,8 +5,8 @@ use Rattle.std.specs.Fmt.{decimal, signed_decimal}
 use Rattle.hex.specs.Hex.{encode_lower}
 use Rattle.bplist_objects.specs.contracts.head.Kind.{the_type as kinds}
 use Rattle.bplist_objects.specs.declared.head.Kind.{Kind}
-use Rattle.bplist_cursor.specs.declared.face.Face.{Face}
-use Rattle.bplist_cursor.specs.declared.face.Face.TheVariants as faces
+use Rattle.bplist_cursor.specs.declared.replies.Face.{Face}
+use Rattle.bplist_cursor.specs.declared.replies.Face.TheVariants as faces
 use Rattle.bplist_cursor.specs.declared.node.Why.{Why}
 use Rattle.bplist_cursor.specs.declared.node.Why.TheVariants.{NoKey, NoIndex, NotSteppable}
 use Rattle.bplist_cursor.specs.Texts.{text_of_units, text_of_bytes}

@@ -10,9 +10,9 @@ use Rattle.bplist_objects.specs.Heads.{Content, Spells, content_of, content_at}
 use Rattle.bplist_objects.specs.Holds.{Holds, HoldPairs}
 use Rattle.bplist_objects.proofs.References.{dict_parts}
 use Rattle.bplist_cert.specs.Valid.{SpellsText}
-use Rattle.bplist_cursor.specs.declared.answers.Reply.TheVariants as replies
-use Rattle.bplist_cursor.specs.declared.answers.Query.{Query}
-use Rattle.bplist_cursor.specs.declared.answers.Query.TheVariants as queries
+use Rattle.bplist_cursor.specs.declared.replies.Reply.TheVariants as replies
+use Rattle.bplist_cursor.specs.declared.replies.Query.{Query}
+use Rattle.bplist_cursor.specs.declared.replies.Query.TheVariants as queries
 use Rattle.bplist_cursor.specs.Look.{look}
 use Rattle.bplist_cursor.specs.Replies.{reply, told_of, keys_reply}
 use Rattle.bplist_cursor.specs.Queries.{steps_in, reply_at}

@@ -14,7 +14,7 @@ use Rattle.bplist_objects.specs.Holds.{Holds, HoldEach}
 use Rattle.bplist_objects.specs.Units.{IsTextKind, units_of}
 use Rattle.bplist_objects.proofs.Units.{length-units_at}
 use Rattle.bplist_objects.proofs.References.{length-nums_at}
-use Rattle.bplist_cursor.specs.declared.face.Face.TheVariants as faces
+use Rattle.bplist_cursor.specs.declared.replies.Face.TheVariants as faces
 use Rattle.bplist_cursor.specs.Replies.{face}
 use Rattle.bplist_cursor.specs.Members.{members}
 use Rattle.bplist_cursor.specs.Shown.{content_face}

@@ -5,8 +5,8 @@ use Rattle.bplist_objects.specs.Value.{Value}
 use Rattle.bplist_objects.specs.Heads.{Content, Spells, refs}
 use Rattle.bplist_objects.specs.Reach.{Reach, Chain}
 use Rattle.bplist_objects.specs.File.{FileHolds}
-use Rattle.bplist_cursor.specs.declared.answers.Query.{Query}
-use Rattle.bplist_cursor.specs.declared.answers.Reply.{Reply}
+use Rattle.bplist_cursor.specs.declared.replies.Query.{Query}
+use Rattle.bplist_cursor.specs.declared.replies.Reply.{Reply}
 use Rattle.bplist_cursor.specs.declared.certified_answers.AnswerFault.{AnswerFault}
 use Rattle.bplist_cursor.specs.declared.certified_answers.AnswerFault.TheVariants as faults
 use Rattle.bplist_cursor.specs.Replies.{reply}

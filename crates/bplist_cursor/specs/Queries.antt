@@ -1,10 +1,10 @@
 -- The parts of a query. Source: profile.
 use Rattle.std.specs.Prelude.{ℕ, List}
 use Rattle.bplist_objects.specs.Value.{Value}
-use Rattle.bplist_cursor.specs.declared.answers.Query.{Query}
-use Rattle.bplist_cursor.specs.declared.answers.Query.TheVariants as queries
-use Rattle.bplist_cursor.specs.declared.answers.Reply.{Reply}
-use Rattle.bplist_cursor.specs.declared.answers.Reply.TheVariants as replies
+use Rattle.bplist_cursor.specs.declared.replies.Query.{Query}
+use Rattle.bplist_cursor.specs.declared.replies.Query.TheVariants as queries
+use Rattle.bplist_cursor.specs.declared.replies.Reply.{Reply}
+use Rattle.bplist_cursor.specs.declared.replies.Reply.TheVariants as replies
 use Rattle.bplist_cursor.specs.Nodes.{cap, nodes}
 use Rattle.bplist_cursor.specs.Replies.{face, keys_reply}
 

@@ -1,12 +1,12 @@
 -- What a value replies to a query. Source: profile.
 use Rattle.std.specs.Prelude.{ℕ, List, length, Ok, Err}
 use Rattle.bplist_objects.specs.Value.{null, boolean, int, real, date, bytes, text, uid, Value, leaf, array, set, dict, keys}
-use Rattle.bplist_cursor.specs.declared.face.Face.{Face}
-use Rattle.bplist_cursor.specs.declared.face.Face.TheVariants as faces
-use Rattle.bplist_cursor.specs.declared.answers.Query.{Query}
-use Rattle.bplist_cursor.specs.declared.answers.Query.TheVariants as queries
-use Rattle.bplist_cursor.specs.declared.answers.Reply.{Reply}
-use Rattle.bplist_cursor.specs.declared.answers.Reply.TheVariants as replies
+use Rattle.bplist_cursor.specs.declared.replies.Face.{Face}
+use Rattle.bplist_cursor.specs.declared.replies.Face.TheVariants as faces
+use Rattle.bplist_cursor.specs.declared.replies.Query.{Query}
+use Rattle.bplist_cursor.specs.declared.replies.Query.TheVariants as queries
+use Rattle.bplist_cursor.specs.declared.replies.Reply.{Reply}
+use Rattle.bplist_cursor.specs.declared.replies.Reply.TheVariants as replies
 use Rattle.bplist_cursor.specs.Look.{look}
 use Rattle.bplist_cursor.specs.Members.{members}
 use Rattle.bplist_cursor.specs.Nodes.{cap, nodes}

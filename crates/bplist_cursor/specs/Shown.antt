@@ -2,8 +2,8 @@
 use Rattle.std.specs.Prelude.{◌≡◌, ℕ, ◌*◌, ◌<◌, length}
 use Rattle.bplist_objects.specs.Value.{Value}
 use Rattle.bplist_objects.specs.Heads.{Content, leaf, array, set, dict}
-use Rattle.bplist_cursor.specs.declared.face.Face.{Face}
-use Rattle.bplist_cursor.specs.declared.face.Face.TheVariants as faces
+use Rattle.bplist_cursor.specs.declared.replies.Face.{Face}
+use Rattle.bplist_cursor.specs.declared.replies.Face.TheVariants as faces
 use Rattle.bplist_cursor.specs.Replies.{face}
 
 -- the face of an object with this content

@@ -1,55 +1,22 @@
-//! Queries about the value of a checked file, and the replies to them.
-//!
-//! A query has a path and asks for what it leads to: the face, the keys or the size. For many queries the file is
-//! measured at most once.
+//! Answers queries about the value of a checked file. For many queries the file is measured at most once.
 
 ghost use Rattle.std.specs.Prelude.{⊤, ◌≡◌, ◌<◌, map, IsTrue, IfSome};
 ghost use Rattle.bplist_cursor.specs.Prelude.{HonestlyChecked, Value, Holds, GivesCursor, cursor_read, OnlyReadsFile};
 ghost use Rattle.bplist_cursor.specs.Prelude.{IsHeld, AreMeasuresOf, cap, nodes, reply, keys_reply, steps_in, reply_at};
 
 use crate::bodies::node_head;
-use crate::face::{Face, List, face};
+use crate::face::face;
 use crate::faults::CursorFault;
 use crate::key_search::key_texts;
 use crate::lookup::locate;
-use crate::node::{Found, Node, Why};
+use crate::node::{Found, Node};
 use crate::path::Path;
+use crate::replies::{Query, Reply};
 use crate::sizes::{Measures, measure};
 use bplist_cert::Checked;
 use bplist_objects::Kind;
 use bplist_octets::Source;
 use std::alloc::Global;
-
-/// What to ask about the value that a path leads to.
-#[derive(Debug, Drop)]
-pub enum Query {
-    /// Its face.
-    Get(Path),
-    /// The units of its keys, in written order.
-    Keys(Path),
-    /// The number of nodes of its tree.
-    Size(Path),
-}
-
-/// The reply to a query.
-#[derive(Debug, Drop)]
-pub enum Reply {
-    /// To `Get`: the face of the value.
-    Face(Face),
-    /// To `Keys`: the units of each key of the dictionary, in written order.
-    Keys(List<List<u16>>),
-    /// To `Keys`: the value is not a dictionary, so it has no keys.
-    NoKeys,
-    /// To `Size`: the number of nodes of the value's tree, or 18446744073709551615 if it is greater.
-    Size(u64),
-    /// To any query: the path leads to no value.
-    Missing {
-        /// The number of the first step that can't be taken, counted from 0.
-        step: u64,
-        /// Why it can't.
-        why: Why,
-    },
-}
 
 /// Returns the keys of a dictionary, or `NoKeys` if the node holds another value.
 fn keys_at<S: Source>(

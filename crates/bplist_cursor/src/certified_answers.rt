@@ -8,8 +8,9 @@ ghost use Rattle.bplist_cursor.specs.declared.faults.CursorFault.TheVariants as 
 ghost use Rattle.bplist_cursor.specs.declared.certified_answers.AnswerFault.TheVariants.{Fault as is_fault, Read};
 ghost use Rattle.bplist_cursor.specs.declared.certified_answers.AnswerFault.TheVariants.{Changed, Memory};
 
-use crate::answers::{Query, Reply, answer_all};
+use crate::answers::answer_all;
 use crate::faults::CursorFault;
+use crate::replies::{Query, Reply};
 use bplist_cert::{Certificate, Refusal, check};
 use bplist_objects::Fault;
 use bplist_octets::{ReadFault, Source};

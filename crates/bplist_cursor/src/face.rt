@@ -1,8 +1,8 @@
 //! The face of a value: what a value shows without its members.
 //!
-//! A face owns what it shows, so the body of a leaf is read into a [`List`]. Replies to queries use the same lists.
+//! A face owns what it shows, so the body of a leaf is read into a [`List`].
 
-ghost use Rattle.std.specs.Prelude.{◌≡◌, List as list, ◌≢◌, ℕ, IsTrue, IfOk, IfErr, length, Err};
+ghost use Rattle.std.specs.Prelude.{◌≡◌, ◌≢◌, ℕ, IsTrue, IfOk, IfErr, length, Err};
 ghost use Rattle.bplist_cursor.specs.Prelude.{part, HonestlyChecked, Value, item_size, Content, Spells, content_at};
 ghost use Rattle.bplist_cursor.specs.Prelude.{Holds, IsLeafKind, IsTextKind, IsSafeHead, IsSafeBody, IsVouchedBy};
 ghost use Rattle.bplist_cursor.specs.Prelude.{GivesCursor, cursor_read, OnlyReadsFile, face as face_of, content_face};
@@ -13,73 +13,11 @@ ghost use Rattle.bplist_cursor.specs.declared.faults.CursorFault.TheVariants.{Ch
 use crate::bodies::{body_bytes, body_units, node_head};
 use crate::faults::CursorFault;
 use crate::node::Node;
+use crate::replies::{Face, List};
 use bplist_cert::Checked;
 use bplist_objects::{Head, Kind, int_of, uid_of};
 use bplist_octets::Source;
 use std::alloc::Global;
-use std::marker::Model;
-
-/// The value of a leaf, or the kind and count of a container.
-#[derive(Debug, Drop)]
-pub enum Face {
-    /// Null.
-    Null,
-    /// A boolean.
-    Bool(bool),
-    /// The value of an integer.
-    Int(i128),
-    /// The 4 or 8 bytes of a real, in the order of the file.
-    Real(List<u8>),
-    /// The 8 bytes of a date, in the order of the file.
-    Date(List<u8>),
-    /// The bytes of data.
-    Bytes(List<u8>),
-    /// The 16-bit units of a text.
-    Text(List<u16>),
-    /// The number of a UID.
-    Uid(u32),
-    /// The number of members of an array.
-    Array(u64),
-    /// The number of members of a set.
-    Set(u64),
-    /// The number of pairs of a dictionary.
-    Dict(u64),
-}
-
-/// Items in order: a Vec in a type that contracts see as the list of its items. No call takes memory.
-#[derive(Debug, Drop)]
-pub struct List<T> {
-    items: Vec<T>,
-}
-
-impl<T> Model for List<T> {
-    ghost Value = { list T };
-
-    ghost view = { λ l. l.items.items };
-}
-
-impl<T> List<T> {
-    /// Returns the list of these items.
-    pub fn new(items: Vec<T>) -> List<T>
-        ensures { result ≡ items.items }
-    {
-        List { items }
-    }
-
-    /// Returns the items as a slice.
-    pub fn as_slice(&self) -> &[T]
-        ensures { result.now ≡ self.now }
-    {
-        &self.items
-    }
-
-    /// Returns the Vec that the list was made from.
-    pub fn into_vec(self) -> Vec<T>
-        ensures { result.items ≡ self }
-    {
-        self.items
-    }
-}
 
 /// Returns the body of a leaf that takes one byte for each unit of its count.
 fn leaf_bytes<S: Source>(

@@ -21,10 +21,11 @@
 //! | lookup | following a path from the top | [`locate`], [`locate_in_slice`], [`locate_counted`] |
 //! | steps | one step from a node | [`step_from`] |
 //! | key_search | the keys of a dictionary, and a step as one of them | |
-//! | face | a leaf's value, or a container's kind and count | [`Face`], [`List`], [`face`] |
+//! | replies | queries and replies; a face is a leaf's value, or a container's kind and count | [`Query`], [`Reply`], [`Face`], [`List`] |
+//! | face | reading the face of a node | [`face`] |
 //! | members | the members of a node | [`member`], [`member_by_head`] |
 //! | bodies | a body, part by part or borrowed | [`node_head`], [`body_bytes`], [`body_units`], [`bytes_of`] |
-//! | answers | queries about a checked file, and their replies | [`Query`], [`Reply`], [`answer`], [`answer_all`] |
+//! | answers | replies to queries about a checked file | [`answer`], [`answer_all`] |
 //! | certified_answers | the same from a file and a certificate: the theorem | [`answer_certified`], [`AnswerFault`] |
 //! | sizes | node counts and text lengths | [`Form`], [`Measures`], [`measure`], [`is_plain`], [`are_plain`] |
 //! | node_counts | the number of nodes of one value, by its containers alone | [`count_nodes`] |
@@ -44,13 +45,14 @@ mod members;
 mod node;
 mod node_counts;
 mod path;
+mod replies;
 mod sizes;
 mod steps;
 
-pub use answers::{Query, Reply, answer, answer_all};
+pub use answers::{answer, answer_all};
 pub use bodies::{body_bytes, body_units, bytes_of, node_head};
 pub use certified_answers::{AnswerFault, answer_certified};
-pub use face::{Face, List, face};
+pub use face::face;
 pub use faults::{CursorFault, Unread};
 pub use laws::{one_formless, one_path, one_place, steps_follow_references};
 pub use lookup::{locate, locate_counted, locate_in_slice};
@@ -58,5 +60,6 @@ pub use members::{member, member_by_head};
 pub use node::{Found, Node, Why};
 pub use node_counts::count_nodes;
 pub use path::{Path, PathFault};
+pub use replies::{Face, List, Query, Reply};
 pub use sizes::{Form, Measures, are_plain, is_plain, measure};
 pub use steps::step_from;

@@ -2,10 +2,9 @@
 //! has no certificate: a fault, or the objects of a circle. An upgrade has a reason of its own for giving no
 //! certificate.
 
-ghost use Rattle.std.specs.Prelude.{◌≡◌, List};
+ghost use Rattle.std.specs.Prelude.{◌≡◌};
 ghost use Rattle.bplist_cert.specs.declared.refusal.Refusal.TheVariants as cert;
 ghost use Rattle.bplist_lint.specs.declared.answer.LintRefusal.TheVariants as lint;
-ghost use Rattle.bplist_objects.specs.declared.frame.ObjectNo.{ObjectNo};
 ghost use Rattle.bplist_objects.specs.declared.fault.Failure.TheVariants as keys;
 ghost use Rattle.bplist_lint.specs.declared.answer.UpgradeFault.TheVariants as faults;
 
@@ -62,7 +61,12 @@ pub struct ObjectNos {
 }
 
 impl Model for ObjectNos {
+    ghost use Rattle.std.specs.Prelude.{List};
+    ghost use Rattle.bplist_objects.specs.declared.frame.ObjectNo.{ObjectNo};
+
     ghost Value = { List ObjectNo };
+
+    ghost use Rattle.bplist_lint.specs.declared.answer.ObjectNos.{ObjectNos};
 
     ghost view = { λ l. l.numbers.items };
 }

@@ -1,6 +1,6 @@
 use Rattle.std.proofs.Common.{sym, ap, ◌∙◌}
 use Rattle.std.proofs.lemmas.Result.{err_from_is_err_and}
-use Rattle.bplist_cursor.specs.declared.answers.Reply.TheVariants as replies
+use Rattle.bplist_cursor.specs.declared.replies.Reply.TheVariants as replies
 use Rattle.bplist_cursor.proofs.Causes.{unread_excused}
 use Rattle.bplist_cursor.proofs.StepReferences.{content_of_value}
 use Rattle.bplist_cursor.proofs.KeyReplies.{keys_told, no_keys}
