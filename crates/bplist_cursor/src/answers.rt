@@ -5,11 +5,11 @@ ghost use Rattle.bplist_cursor.specs.Prelude.{HonestlyChecked, Value, Holds, Giv
 ghost use Rattle.bplist_cursor.specs.Prelude.{IsHeld, AreMeasuresOf, cap, nodes, reply, keys_reply, steps_in, reply_at};
 
 use crate::bodies::node_head;
-use crate::face::face;
 use crate::faults::CursorFault;
 use crate::key_search::key_texts;
 use crate::lookup::locate;
 use crate::node::{Found, Node};
+use crate::node_face::face;
 use crate::path::Path;
 use crate::replies::{Query, Reply};
 use crate::sizes::{Measures, measure};

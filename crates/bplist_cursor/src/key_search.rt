@@ -12,9 +12,9 @@ ghost use Rattle.bplist_cursor.specs.Prelude.{IsKeyIndex, IsCompared, IsKeyList,
 ghost use Rattle.std.specs.List.{AllZip};
 ghost use Rattle.std.specs.Int.Digits.{digits_of};
 
-use crate::face::text_units;
 use crate::faults::{CursorFault, Unread};
 use crate::node::{checked_head, checked_ref};
+use crate::node_face::text_units;
 use crate::replies::List;
 use bplist_cert::Checked;
 use bplist_objects::{Head, Kind, ObjectNo, key_cmp};

@@ -22,7 +22,7 @@
 //! | steps | one step from a node | [`step_from`] |
 //! | key_search | the keys of a dictionary, and a step as one of them | |
 //! | replies | queries and replies; a face is a leaf's value, or a container's kind and count | [`Query`], [`Reply`], [`Face`], [`List`] |
-//! | face | reading the face of a node | [`face`] |
+//! | node_face | reading the face of a node | [`face`] |
 //! | members | the members of a node | [`member`], [`member_by_head`] |
 //! | bodies | a body, part by part or borrowed | [`node_head`], [`body_bytes`], [`body_units`], [`bytes_of`] |
 //! | answers | replies to queries about a checked file | [`answer`], [`answer_all`] |
@@ -36,7 +36,6 @@
 mod answers;
 mod bodies;
 mod certified_answers;
-mod face;
 mod faults;
 mod key_search;
 mod laws;
@@ -44,6 +43,7 @@ mod lookup;
 mod members;
 mod node;
 mod node_counts;
+mod node_face;
 mod path;
 mod replies;
 mod sizes;
@@ -52,13 +52,13 @@ mod steps;
 pub use answers::{answer, answer_all};
 pub use bodies::{body_bytes, body_units, bytes_of, node_head};
 pub use certified_answers::{AnswerFault, answer_certified};
-pub use face::face;
 pub use faults::{CursorFault, Unread};
 pub use laws::{one_formless, one_path, one_place, steps_follow_references};
 pub use lookup::{locate, locate_counted, locate_in_slice};
 pub use members::{member, member_by_head};
 pub use node::{Found, Node, Why};
 pub use node_counts::count_nodes;
+pub use node_face::face;
 pub use path::{Path, PathFault};
 pub use replies::{Face, List, Query, Reply};
 pub use sizes::{Form, Measures, are_plain, is_plain, measure};

@@ -6,7 +6,7 @@ use Rattle.bplist_cursor.proofs.Causes.{unread_excused}
 use Rattle.bplist_cursor.proofs.FoundSteps.{unread_for}
 use Rattle.bplist_cursor.proofs.VouchedObjects.{gives_weaker, never_changed}
 use Rattle.bplist_cursor.proofs.ShownFaces.{held_face}
-use Rattle.bplist_cursor.proofs.face.face.Goals as goal
+use Rattle.bplist_cursor.proofs.node_face.face.Goals as goal
 
 pub returns-in_err-head-clause-content : goal.returns-in_err-head-clause-content
 returns-in_err-head-clause-content g c = λ honest vouched content s.

@@ -1,6 +1,6 @@
 use Rattle.std.proofs.Common.{arith, ◌≡◌, ◌∙◌, length, drop}
 use Rattle.bplist_cursor.proofs.ShownFaces.{all_units, take_front}
-use Rattle.bplist_cursor.proofs.face.text_units.Goals as goal
+use Rattle.bplist_cursor.proofs.node_face.text_units.Goals as goal
 
 pub returns-clause-value : goal.returns-clause-value
 returns-clause-value g c = λ honest.

@@ -3,10 +3,7 @@
 //! A face owns what it shows, so the body of a leaf is read into a [`List`].
 
 ghost use Rattle.std.specs.Prelude.{◌≡◌, ◌≢◌, ℕ, IsTrue, IfOk, IfErr, length, Err};
-ghost use Rattle.bplist_cursor.specs.Prelude.{part, HonestlyChecked, Value, item_size, Content, Spells, content_at};
-ghost use Rattle.bplist_cursor.specs.Prelude.{Holds, IsLeafKind, IsTextKind, IsSafeHead, IsSafeBody, IsVouchedBy};
-ghost use Rattle.bplist_cursor.specs.Prelude.{GivesCursor, cursor_read, OnlyReadsFile, face as face_of, content_face};
-ghost use Rattle.bplist_cursor.specs.Prelude.{HasRoom};
+ghost use Rattle.bplist_cursor.specs.Prelude.{part, HonestlyChecked, Value, item_size, Content, Spells, content_at, Holds, IsLeafKind, IsTextKind, IsSafeHead, IsSafeBody, IsVouchedBy, GivesCursor, cursor_read, OnlyReadsFile, face as face_of, content_face, HasRoom};
 ghost use Rattle.bplist_objects.specs.Units.{units_of};
 ghost use Rattle.bplist_cursor.specs.declared.faults.CursorFault.TheVariants.{Changed};
 
