@@ -1,4 +1,3 @@
-mod Parts
 pub mod WriteSteps
 pub mod WalkSteps
 mod SearchSteps
