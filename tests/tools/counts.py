@@ -4,14 +4,20 @@
     python3 tests/tools/counts.py [ROOT]     ROOT is the top of a repository; without it, of this one
 
 Lines that are not blank: of code, of tests, of contracts (clauses, ghost members and their imports), of comments,
-of specs and of proofs. Then how often a contract carries a frame beside its source.
+of specs and of proofs. Then how often a contract carries a frame beside its source. Then the source files, and of the
+shipped crates the functions, and how many of them have one caller in these crates (tests/helpers/calls.py).
 """
 import pathlib
 import re
 import sys
 
+sys.path.insert(0, str(pathlib.Path(__file__).resolve().parents[1]))
+
+from helpers.calls import Crates  # noqa: E402
+
 LINES = ["code", "tests", "contracts", "comments", "specs", "proofs"]
 FORMS = ["frame: &Frame", "requires IsSafe", "premise IsFrame", "honest", "over five"]
+FUNCTIONS = ["files", "functions", "one caller"]
 CLAUSE = re.compile(r"(pub |pub\(crate\) )?(ghost|requires|ensures)\b")
 
 
@@ -62,11 +68,16 @@ def parameters(source):
         yield found[1], len([item for item in items if item])
 
 
-def crate_counts(crate):
-    count = dict.fromkeys(LINES + FORMS, 0)
+def crate_counts(crate, callers):
+    count = dict.fromkeys(LINES + FORMS + FUNCTIONS, 0)
+    for function in callers:
+        if function.crate == crate.name:
+            count["functions"] += 1
+            count["one caller"] += len(callers[function]) == 1
     for path in sorted(crate.glob("src/**/*.rt")):
         source = path.read_text()
         lines, clauses = parts(source)
+        count["files"] += 1
         for key in lines:
             count[key] += lines[key]
         count["frame: &Frame"] += source.count("frame: &Frame")
@@ -82,14 +93,16 @@ def crate_counts(crate):
 
 def main():
     root = pathlib.Path(sys.argv[1]) if len(sys.argv) > 1 else pathlib.Path(__file__).resolve().parents[2]
-    total = dict.fromkeys(LINES + FORMS, 0)
-    print("\t".join(["crate"] + LINES + FORMS))
+    columns = LINES + FORMS + FUNCTIONS
+    total = dict.fromkeys(columns, 0)
+    callers = Crates(root).callers()
+    print("\t".join(["crate"] + columns))
     for crate in sorted(p for p in (root / "crates").iterdir() if (p / "src").is_dir()):
-        count = crate_counts(crate)
-        print("\t".join([crate.name] + [str(count[key]) for key in LINES + FORMS]))
+        count = crate_counts(crate, callers)
+        print("\t".join([crate.name] + [str(count[key]) for key in columns]))
         for key in total:
             total[key] += count[key]
-    print("\t".join(["all"] + [str(total[key]) for key in LINES + FORMS]))
+    print("\t".join(["all"] + [str(total[key]) for key in columns]))
 
 
 if __name__ == "__main__":
