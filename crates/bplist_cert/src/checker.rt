@@ -41,8 +41,8 @@ struct ObjectCheck<'a> {
 }
 
 /// Checks vouched object `n` at `place` by the rules before those of keys. The vouched objects before it take `used`
-/// bytes; returns how many they take with it. A quick check reads no byte twice: it decides rules 20, 28 and 29
-/// together, because only an object has a height.
+/// bytes; returns how many they take with it. A quick check reads no byte twice: the test of rules 28 and 29 also finds
+/// a reference that is not the number of an object, because only an object has a height.
 fn check_object<P: Framed>(
     src: &mut P,
     walk: ObjectCheck,

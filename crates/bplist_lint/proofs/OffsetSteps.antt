@@ -5,8 +5,7 @@ use Rattle.bplist_objects.specs.declared.frame.Frame.{Frame}
 use Rattle.bplist_objects.specs.Frame.{off}
 use Rattle.bplist_objects.proofs.FrameTies.{AreEntriesLow, IsEntryFault, IsTrailer}
 use Rattle.bplist_objects.proofs.ScanLaws.{first_high}
-use Rattle.bplist_objects.specs.Offsets.{AreOffsets32}
-use Rattle.bplist_lint.specs.OffsetRule.{AreBelowTable, IsOffsetFault}
+use Rattle.bplist_objects.specs.Offsets.{AreOffsets32, AreBelowTable, IsOffsetFault}
 
 -- the table that a trailer gives is below 2^32
 table_fits : (f : List ℕ) (F : Frame) → IsTrailer f F → F.table < 2 ^ 32

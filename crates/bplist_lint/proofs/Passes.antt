@@ -29,8 +29,7 @@ use Rattle.bplist_lint.specs.ReachRules.{number_below, references_below, is_mark
 use Rattle.bplist_lint.specs.FileFault.{IsFileFault, IsFileCircle}
 use Rattle.bplist_lint.specs.Refusals.{no_circle}
 use Rattle.bplist_lint.specs.Trail.{number}
-use Rattle.bplist_objects.specs.Offsets.{AreOffsets32}
-use Rattle.bplist_lint.specs.OffsetRule.{AreBelowTable, IsOffsetFault}
+use Rattle.bplist_objects.specs.Offsets.{AreOffsets32, AreBelowTable, IsOffsetFault}
 use Rattle.bplist_lint.specs.LeastHeights.{AreLeastHeights}
 use Rattle.bplist_lint.specs.Linted.{HaveReferences, KeepsRules, IsLintedBy, HasNoHeights}
 use Rattle.bplist_lint.proofs.HeldValues.{formed_holds, holds_formed}

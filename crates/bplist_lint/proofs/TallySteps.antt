@@ -20,7 +20,7 @@ use Rattle.bplist_keys.specs.Marks.{IsMarked}
 use Rattle.bplist_cert.specs.Lists.{lists}
 use Rattle.bplist_cert.specs.CheckRules.{KeepsRule, BreaksRule}
 use Rattle.bplist_lint.specs.ReachRules.{IsReachedFault, reach_rules, is_marked, Tallied}
-use Rattle.bplist_lint.specs.declared.table_rules.Tally.{Tally}
+use Rattle.bplist_lint.specs.declared.tally.Tally.{Tally}
 use Rattle.bplist_lint.proofs.KeptRules.{both_rules}
 use Rattle.bplist_lint.proofs.RangeSums.{sum_next, references_are, references_next}
 

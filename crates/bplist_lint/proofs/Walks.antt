@@ -17,7 +17,7 @@ use Rattle.bplist_objects.proofs.Lists.{none_in}
 use Rattle.bplist_objects.proofs.ReachedObjects.{refs_iff}
 use Rattle.bplist_keys.specs.Classes.{HasNamedKeys}
 use Rattle.bplist_keys.specs.Marks.{IsMarked}
-use Rattle.bplist_lint.specs.declared.table_rules.Tally.{Tally}
+use Rattle.bplist_lint.specs.declared.tally.Tally.{Tally}
 use Rattle.bplist_lint.specs.declared.walk.Reached.{Reached}
 use Rattle.bplist_lint.specs.ReferenceGraph.{AreChildless}
 use Rattle.bplist_lint.specs.ReachRules.{number_below, references_below, is_marked, Tallied}

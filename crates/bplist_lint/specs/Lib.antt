@@ -4,7 +4,6 @@ pub mod HeightWalks
 pub mod Trail
 pub mod ReferenceGraph
 pub mod Tallies
-pub mod OffsetRule
 pub mod BitSets
 pub mod ReachRules
 pub mod ReachWalk

@@ -34,7 +34,6 @@ pub use Rattle.bplist_lint.specs.HeightWalks.{AreClosed, AreLeastOf, Finds, IsHe
 pub use Rattle.bplist_lint.specs.KeyLists.{AreAbove, AreRanked, HaveRanks, IsListed, positions_in, ranks_in}
 pub use Rattle.bplist_lint.specs.LeastHeights.{AreLeastHeights, StandLeast}
 pub use Rattle.bplist_lint.specs.Linted.{HasNoHeights, IsLinted, IsLintedBy, IsLintedWithKind, KeepsRules}
-pub use Rattle.bplist_lint.specs.OffsetRule.{AreBelowTable, IsOffsetFault}
 pub use Rattle.bplist_lint.specs.ReachRules.{IsReachedFault, KeepReached, Tallied, reach_rules}
 pub use Rattle.bplist_lint.specs.ReachSearch.{AreFollowed, AreGood, HasMarks, IsReady, Looked, Searching, index_count, place_index}
 pub use Rattle.bplist_lint.specs.ReachWalk.{AreNamed, HasRoomFor, IsSteady, IsSteadyWalk, IsWalked, IsWalking, Noted, of_object, stop_failed}

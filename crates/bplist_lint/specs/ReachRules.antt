@@ -13,7 +13,7 @@ use Rattle.bplist_objects.specs.Reach.{Reach}
 use Rattle.bplist_objects.specs.Extents.{Sums}
 use Rattle.bplist_cert.specs.Lists.{lists}
 use Rattle.bplist_cert.specs.CheckRules.{KeepBelow, IsLeastFault}
-use Rattle.bplist_lint.specs.declared.table_rules.Tally.{Tally}
+use Rattle.bplist_lint.specs.declared.tally.Tally.{Tally}
 
 -- the rules of a reached object before those of keys, in order: 14 to 20 and 31
 abbrev pub reach_rules : List Rule

@@ -14,7 +14,7 @@ use Rattle.bplist_objects.specs.Rules.{KeepsAll}
 use Rattle.bplist_objects.specs.Spelled.{refs_at}
 use Rattle.bplist_keys.specs.Classes.{HasNamedKeys}
 use Rattle.bplist_keys.specs.Marks.{IsMarked}
-use Rattle.bplist_lint.specs.declared.table_rules.Tally.{Tally}
+use Rattle.bplist_lint.specs.declared.tally.Tally.{Tally}
 use Rattle.bplist_lint.specs.declared.walk.Stop.{Stop}
 use Rattle.bplist_lint.specs.declared.walk.Stop.TheVariants as stops
 use Rattle.bplist_lint.specs.declared.walk.Worklist.{Worklist}

@@ -20,9 +20,9 @@
 //! |---|---|---|
 //! | answer | yes, no, and why an upgrade fails | [`Lint`], [`LintRefusal`], [`ObjectNos`], [`UpgradeFault`] |
 //! | linter | the passes of the linter, in their order | [`lint`], [`lint_with_kind`] |
-//! | table_rules | rule 13, of all places, and sums over the reached objects: rule 31 | |
 //! | walk | the one walk over the reached objects: rules 14 to 20 and 31 | |
-//! | reach | which objects are reached, and the first fault of these rules, if the walk met one | |
+//! | tally | sums over the reached objects: rule 31; and the first fault of these rules, if the walk met one | |
+//! | reach | which objects are reached, if the walk met a fault | |
 //! | bit_set | the sets of places that the search in reach uses | |
 //! | key_rules | rules 21 and 22, and sorting the keys of a dictionary | |
 //! | graph | what heights and circle see of a file | |
@@ -41,7 +41,7 @@ mod key_rules;
 mod laws;
 mod linter;
 mod reach;
-mod table_rules;
+mod tally;
 mod upgrader;
 mod walk;
 

@@ -13,14 +13,14 @@ use crate::circle::circle;
 use crate::graph::{Objects, View};
 use crate::heights::least_heights;
 use crate::key_rules::check_keys;
-use crate::reach::{Marked, check_reached, mark_reached};
-use crate::table_rules::check_offsets;
+use crate::reach::{Marked, mark_reached};
+use crate::tally::check_reached;
 use crate::walk::{Reached, walk};
 use bplist_cert::{Certificate, Refusal};
 use bplist_keys::NamedKeys;
 use bplist_objects::{
-    Fault, Frame, Framed, Kind, OffsetReader, OffsetTable, Offsets, Rule, object_shape, offsets_of,
-    trailer_of,
+    Fault, Frame, Framed, Kind, OffsetReader, OffsetTable, Offsets, Rule, check_offsets,
+    object_shape, offsets_of, trailer_of,
 };
 use bplist_octets::Source;
 use std::alloc::Global;

@@ -1,21 +1,16 @@
-//! Finds the objects that the top reaches, and their first fault by rules 14 to 20 and 31. The linter needs this only
-//! if the quick walk meets a fault. Arrays may overlap in such a file, so the reference at each place is followed once,
-//! however many arrays it is part of.
+//! Finds the objects that the top reaches. The linter needs this only if the quick walk meets a fault. Arrays may overlap
+//! in such a file, so the reference at each place is followed once, however many arrays it is part of.
 
 ghost use Rattle.std.specs.Prelude.{◌≡◌, ◌↔◌, ℕ, ◌+◌, ◌^◌, ◌≤◌, ◌<◌, true, false, not, IsTrue, IfOk, OnOk, is_err};
-ghost use Rattle.std.specs.Prelude.{replicate, count_by, vec_len, Bool, List, length};
+ghost use Rattle.std.specs.Prelude.{replicate, count_by, vec_len, length};
 ghost use Rattle.bplist_lint.specs.Prelude.{OnlyReads, frame_in, HonestlyIn, content_at, refs, Reach, IsSafeHead};
 ghost use Rattle.bplist_lint.specs.Prelude.{ref_count, AreBelow, failed_to_read, IsMarked, HasMarks, place_index};
-ghost use Rattle.bplist_lint.specs.Prelude.{index_count, IsReady, AreGood, AreFollowed, Looked, Searching, Gives};
-ghost use Rattle.bplist_lint.specs.Prelude.{read_failed, IsReachedFault, Tallied, IsRoomy, reach_rules};
+ghost use Rattle.bplist_lint.specs.Prelude.{index_count, IsReady, AreGood, AreFollowed, Looked, Searching};
 
 use crate::bit_set::BitSet;
-use crate::graph::object_in;
-use crate::table_rules::{Tally, shape_there};
+use crate::graph::{object_in, shape_there};
 use bplist_keys::NamedKeys;
-use bplist_objects::{
-    Failure, Framed, Head, ObjectFault, ObjectNo, Offsets, head_in, ref_at, refs_of,
-};
+use bplist_objects::{Failure, Framed, Head, Offsets, ref_at, refs_of};
 use bplist_octets::ReadFault;
 use std::alloc::{AllocError, Global};
 
@@ -172,37 +167,4 @@ pub fn mark_reached<P: Offsets>(alloc: Global, src: &mut P) -> Result<Marked, Fa
             marks: vec![in alloc; true; objects]?,
         },
     })
-}
-
-/// Checks reached object `n`, and adds it to the tally.
-fn check_reached_object<P: Offsets>(src: &mut P, n: u32, tally: Tally) -> Result<Tally, ObjectFault>
-    requires within { n < (frame_in (P.means src.old)).objects }
-    requires roomy { IsRoomy (frame_in (P.means src.old)) tally }
-    ensures reads { OnlyReads (read_failed result) (P.means src.old) (P.means src.new) }
-    ensures roomy { IfOk result (IsRoomy (frame_in (P.means src.old))) }
-    ensures exact { HonestlyIn (P.means src.old) (λ f F. (marks : List Bool) → IsMarked marks n → Reach f F n
-        → Tallied f F marks n tally → Gives (Tallied f F marks (n + 1)) (IsReachedFault f F reach_rules) result) }
-{
-    let frame = src.frame();
-    let place = src.offset(n)?;
-    let head = head_in(src, ObjectNo(n), place)?;
-    Ok(tally.with(&frame, ObjectNo(n), place, head.end, refs_of(&head))?)
-}
-
-/// Checks each marked object, in the order of their numbers. Exactly the reached objects must be marked.
-pub fn check_reached<P: Offsets>(src: &mut P, marks: &[bool]) -> Result<Tally, ObjectFault>
-    requires { length marks.now ≡ (frame_in (P.means src.old)).objects }
-    ensures reads { OnlyReads (read_failed result) (P.means src.old) (P.means src.new) }
-    ensures roomy { IfOk result (IsRoomy (frame_in (P.means src.old))) }
-    ensures exact { HonestlyIn (P.means src.old) (λ f F. ((n : ℕ) → IsMarked marks.now n ↔ Reach f F n)
-        → Gives (Tallied f F marks.now F.objects) (IsReachedFault f F reach_rules) result) }
-{
-    let frame = src.frame();
-    let mut tally = Tally::new();
-    for n in 0..frame.objects {
-        if marks[n as usize] {
-            tally = check_reached_object(src, n, tally)?;
-        }
-    }
-    Ok(tally)
 }

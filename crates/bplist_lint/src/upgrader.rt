@@ -5,8 +5,8 @@ ghost use Rattle.bplist_lint.specs.Prelude.{OnlyReads, frame_in, HonestlyIn, Are
 ghost use Rattle.bplist_lint.specs.Prelude.{HasNamedKeys, Listed, IsUpgraded, Upgrades, upgrade_failed};
 
 use crate::answer::UpgradeFault;
+use crate::graph::shape_there;
 use crate::key_rules::KeySorting;
-use crate::table_rules::shape_there;
 use bplist_cert::{Certificate, Checked, KeyLists, vouched_keys};
 use bplist_keys::ranks_of;
 use bplist_objects::{Framed, Kind, OffsetTable, Offsets, offsets_of};

@@ -9,7 +9,7 @@ ghost use Rattle.bplist_lint.specs.Prelude.{AreNamed, of_object, stop_failed, Re
 ghost use Rattle.bplist_lint.specs.declared.walk.Stop.TheVariants.{Memory as is_memory};
 
 use crate::heights::unmarked;
-use crate::table_rules::Tally;
+use crate::tally::Tally;
 use bplist_keys::NamedKeys;
 use bplist_objects::{
     Failure, Frame, Framed, Head, Kind, ObjectFault, ObjectNo, Offsets, Visit, check_body,

@@ -7,10 +7,8 @@ ghost use Rattle.bplist_objects.specs.Prelude.{IsSafeFrame, frame_of_trailer, Ma
 ghost use Rattle.bplist_objects.specs.Prelude.{read_failed};
 
 use crate::fault::{Fault, ObjectFault};
-use crate::numbers::Width;
-use crate::offsets::high_entry;
+use crate::offsets::{first_high_entry, high_entry};
 use crate::rule::Rule;
-use crate::scan::first_not_below;
 use bplist_octets::{Source, sized};
 
 /// The number of an object, from 0: the index of its entry in the offset table.
@@ -171,10 +169,8 @@ pub fn frame_of<S: Source>(src: &mut S) -> Result<Frame, ObjectFault>
     ensures safe { IfOk result (IsSafeFrame (length (S.means src.old).octets)) }
 {
     let frame = trailer_of(src)?;
-    let bytes = frame.offset_size;
-    let objects = frame.objects as u64;
-    match first_not_below(src, frame.table, Width { bytes }, objects, frame.table)? {
+    match first_high_entry(src, &frame)? {
         None => Ok(frame),
-        Some(i) => Err(high_entry(&frame, ObjectNo(i as u32), src.len()).into()),
+        Some(n) => Err(high_entry(&frame, n, src.len()).into()),
     }
 }

@@ -4,7 +4,7 @@
 //! Kind, count and the size of a reference give the place at which the object ends.
 
 ghost use Rattle.std.specs.Prelude.{◌≡◌, ◌≤◌, MatchOption, ℕ, ◌+◌, ◌^◌, ◌<◌, List, true, IfOk, IfSome, length};
-ghost use Rattle.std.specs.Prelude.{slice_index};
+ghost use Rattle.std.specs.Prelude.{◌↔◌, slice_index, IsTrue};
 ghost use Rattle.bplist_objects.specs.Prelude.{IsMarker, Marks, item_size, OnlyReads, Honestly, Gives, read_failed};
 ghost use Rattle.bplist_objects.specs.Prelude.{markers_of, is_counted, IsLongOf, HasLongCount, Announces, MarkersCount};
 ghost use Rattle.bplist_objects.specs.Prelude.{IsLongCountFault, HonestlyBy, off, IsSafe, IsSafeHead, Never, KeepsAll};
@@ -117,6 +117,16 @@ fn power_of_2(w: u8) -> u8
     }
 }
 
+/// True if `size` bytes from `from` on end before the offset table, which begins at `table`: rule 17 Extent asks this of
+/// an object, whose count and size are known one after the other.
+#[inline(always)]
+pub(crate) fn ends_before_table(table: u64, from: u64, size: u128) -> bool
+    requires { from ≤ table }
+    ensures { IsTrue result ↔ from + size ≤ table }
+{
+    size <= (table - from) as u128
+}
+
 /// Returns the count that follows the marker at `place`, and the place after it, or a fault of rule 16 or 17. Each item
 /// of the count takes at least one byte, so a count that is greater than the number of bytes up to the table breaks
 /// rule 17.
@@ -134,11 +144,11 @@ pub(crate) fn long_count<S: Source>(
         (λ found. HasLongCount f place found.0 found.1) (IsLongCountFault f table place n.0) result) }
     ensures safe { IfOk result (λ found. (place < found.1) × (found.1 ≤ table)) }
 {
-    if table - place <= 1 {
+    if !ends_before_table(table, place, 2) {
         return Err(broken(Rule::Extent, n, place));
     }
     // Most such counts have one byte, which is read together with its marker.
-    if table - place >= 3 {
+    if ends_before_table(table, place, 3) {
         let mut octets = [0u8; 2];
         src.read_at(place + 1, &mut octets)?;
         if octets[0] == 0x10 {
@@ -150,12 +160,12 @@ pub(crate) fn long_count<S: Source>(
         return Err(broken(Rule::Count, n, place + 1));
     }
     let size = power_of_2(form - 0x10);
-    if table - place - 2 < size as u64 {
+    if !ends_before_table(table, place + 2, size as u128) {
         return Err(broken(Rule::Extent, n, place));
     }
     let count = wide_in(src, place + 2, size)?;
     let body = place + 2 + size as u64;
-    if count > (table - body) as u128 {
+    if !ends_before_table(table, body, count) {
         return Err(broken(Rule::Extent, n, place));
     }
     Ok((count as u64, body))
@@ -202,7 +212,7 @@ pub(crate) fn marker_at<S: Source>(
     if place < 8 {
         return Err(broken(Rule::OffsetLow, n, entry_place(frame, n.0, src.len())));
     }
-    if place >= frame.table {
+    if !frame.is_before_table(place) {
         return Err(high_entry(frame, n, src.len()).into());
     }
     Ok(octet_in(src, place)?)
@@ -236,7 +246,7 @@ pub(crate) fn head_by_marker<S: Source>(
     let Some(count) = short_count(kind, marker) else {
         let (count, body) = long_count(src, frame.table, place, n)?;
         let unit = item_size(kind, frame.ref_size);
-        if count as u128 * unit as u128 > (frame.table - body) as u128 {
+        if !ends_before_table(frame.table, body, count as u128 * unit as u128) {
             return Err(broken(Rule::Extent, n, place));
         }
         return Ok(Head {
@@ -248,7 +258,7 @@ pub(crate) fn head_by_marker<S: Source>(
     };
     let body = place + 1;
     let size = count as u64 * item_size(kind, frame.ref_size) as u64;
-    if size > frame.table - body {
+    if !ends_before_table(frame.table, body, size as u128) {
         return Err(broken(Rule::Extent, n, place));
     }
     Ok(Head {

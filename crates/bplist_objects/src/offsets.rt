@@ -1,10 +1,11 @@
 //! The places of objects: entries of the offset table, and sources that have the places of all objects.
 //!
 //! A caller that needs a few places reads their entries with [`offset_of`] or [`read_offsets`]. A caller that needs
-//! most of them reads all entries once with [`offsets_of`], and lends the list to an [`OffsetTable`].
+//! most of them reads all entries once with [`offsets_of`], checks them by rule 13 with [`check_offsets`], and lends the
+//! list to an [`OffsetTable`].
 
 ghost use Rattle.std.specs.Prelude.{◌≡◌, ℕ, ◌+◌, ◌*◌, ◌≤◌, ◌<◌, length, slice_index, IfOk, OnOk, is_err, IsTrue, min};
-ghost use Rattle.std.specs.Prelude.{vec_len};
+ghost use Rattle.std.specs.Prelude.{◌↔◌, vec_len, IfSome, MatchOption, MatchResult, Some};
 ghost use Rattle.bplist_objects.specs.Prelude.{OnlyReads, Honestly, off, IsSafe, OffsetHigh};
 ghost use Rattle.bplist_octets.specs.Panes.{borrowed};
 ghost use Rattle.bplist_objects.specs.Frame.{IsFrame};
@@ -15,7 +16,8 @@ ghost use Rattle.bplist_objects.specs.Announced.{HasHead};
 ghost use Rattle.bplist_objects.specs.Rules.{KeepsAll};
 ghost use Rattle.bplist_objects.specs.ObjectRules.{KeepsByObject, IsObjectFault, shape_rules};
 ghost use Rattle.bplist_objects.specs.Failures.{failed_to_read};
-ghost use Rattle.bplist_objects.specs.Offsets.{AreOffsets32};
+ghost use Rattle.bplist_objects.specs.Offsets.{AreOffsets32, AreBelowTable, IsOffsetFault};
+ghost use Rattle.bplist_objects.specs.Scan.{AreBelow, IsFirstNotBelow};
 
 use crate::fault::{Failure, Fault, ObjectFault};
 use crate::frame::{Frame, ObjectNo};
@@ -23,6 +25,7 @@ use crate::framed::{Framed, shape_in};
 use crate::head::Head;
 use crate::numbers::{Width, number_in, numbers_in};
 use crate::rule::Rule;
+use crate::scan::first_not_below;
 use bplist_octets::{ReadFault, Source};
 use std::alloc::Global;
 
@@ -147,11 +150,20 @@ pub fn read_offsets<S: Source>(
     numbers_in(src, place, Width { bytes }, into)
 }
 
+impl Frame {
+    /// True if this place is before the offset table: rule 13 OffsetHigh asks this of each entry.
+    #[inline(always)]
+    pub(crate) fn is_before_table(&self, place: u64) -> bool
+        ensures { IsTrue result ↔ place < self.now.table }
+    {
+        place < self.table
+    }
+}
+
 /// Returns the fault of object `n` by rule 13 OffsetHigh, in a file of `len` bytes. Its place is that of the entry. The
-/// frame must fit the file, and `n` must be an object. The call does not read the entry: the caller knows that it is
-/// too high.
+/// call does not read the entry: the caller knows that it is too high.
 #[inline(always)]
-pub fn high_entry(frame: &Frame, n: ObjectNo, len: u64) -> Fault
+pub(crate) fn high_entry(frame: &Frame, n: ObjectNo, len: u64) -> Fault
     requires safe { IsSafe len frame.now }
     requires within { n.0 < frame.now.objects }
     ensures { result ≡ record { rule = OffsetHigh; object = Some n; place = frame.now.table + n.0 * frame.now.offset_size } }
@@ -160,6 +172,29 @@ pub fn high_entry(frame: &Frame, n: ObjectNo, len: u64) -> Fault
         rule: Rule::OffsetHigh,
         object: Some(n),
         place: entry_place(frame, n.0, len),
+    }
+}
+
+/// Returns the number of the first object whose entry does not lead to a place before the table. It decides for all
+/// entries, block by block, what `Frame::is_before_table` decides for one.
+#[inline(always)]
+pub(crate) fn first_high_entry<S: Source>(
+    src: &mut S,
+    frame: &Frame,
+) -> Result<Option<ObjectNo>, ReadFault>
+    requires { IsSafe (length (S.means src.old).octets) frame.now }
+    ensures reads { OnlyReads (is_err result) (S.means src.old) (S.means src.new) }
+    ensures found { IfOk result (λ found. Honestly (S.means src.old) (λ f. MatchOption found
+        (AreBelow f frame.now.table frame.now.offset_size frame.now.objects frame.now.table)
+        (λ n. IsFirstNotBelow f frame.now.table frame.now.offset_size frame.now.objects frame.now.table n.0))) }
+    ensures inside { IfOk result (λ found. IfSome found (λ n. n.0 < frame.now.objects)) }
+{
+    let _len = src.len();
+    let bytes = frame.offset_size;
+    let objects = frame.objects as u64;
+    match first_not_below(src, frame.table, Width { bytes }, objects, frame.table)? {
+        None => Ok(None),
+        Some(i) => Ok(Some(ObjectNo(i as u32))),
     }
 }
 
@@ -218,6 +253,39 @@ pub fn offsets_of<S: Source>(alloc: Global, src: &mut S, frame: &Frame) -> Resul
         next = read_entries(src, frame, next, &mut places)?;
     }
     Ok(places)
+}
+
+/// Returns whether all these places are before the table, as `Frame::is_before_table` decides for one. The loop has no
+/// other exit, so that it takes several at a time.
+fn are_before_table(frame: &Frame, places: &[u32]) -> bool
+    ensures { IsTrue result → (k : ℕ) → k < length places.now → slice_index places.now k < frame.now.table }
+{
+    let bound = frame.table.min(u32::MAX as u64) as u32;
+    let mut below = true;
+    for place in places {
+        if *place >= bound {
+            below = false;
+        }
+    }
+    below
+}
+
+/// Checks the places of all objects, as `offsets_of` returns them, by rule 13 OffsetHigh, in a file of `len` bytes. The
+/// frame must fit the file.
+pub fn check_offsets(frame: &Frame, places: &[u32], len: u64) -> Result<(), Fault>
+    requires safe { IsSafe len frame.now }
+    requires all { length places.now ≡ frame.now.objects }
+    ensures { MatchResult result (λ _. AreBelowTable frame.now places.now) (IsOffsetFault frame.now places.now) }
+{
+    if are_before_table(frame, places) {
+        return Ok(());
+    }
+    for n in 0..frame.objects {
+        if !frame.is_before_table(places[n as usize] as u64) {
+            return Err(high_entry(frame, ObjectNo(n), len));
+        }
+    }
+    Ok(())
 }
 
 /// Returns the head of object `n`, from marker and count only, as `shape_in` does.

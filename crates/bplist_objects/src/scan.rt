@@ -11,7 +11,7 @@ ghost use Rattle.bplist_objects.specs.Prelude.{IsFirstNotBelow};
 use crate::fault::{ObjectFault, broken};
 use crate::frame::ObjectNo;
 use crate::framed::Framed;
-use crate::head::{Head, head_by_marker, marker_at};
+use crate::head::{Head, ends_before_table, head_by_marker, marker_at};
 use crate::numbers::{BLOCK_BYTES, FEW, FEW_BYTES, Width, part_of};
 use crate::rule::Rule;
 use bplist_octets::{ReadFault, Source, first_high, sized};
@@ -86,7 +86,7 @@ pub fn visit_in<P: Framed>(src: &mut P, n: ObjectNo, place: u64) -> Result<Visit
         let head = head_by_marker(src, &frame, n, place, marker)?;
         return Ok(Visit::Body(head));
     };
-    if size as u64 > frame.table - place {
+    if !ends_before_table(frame.table, place, size as u128) {
         return Err(broken(Rule::Extent, n, place));
     }
     Ok(Visit::Done(place + size as u64))

@@ -1,7 +1,9 @@
 use Rattle.std.proofs.Common.{◌≡◌, ◌≤◌, ◌-◌, ◌+◌, ◌^◌, ◌∙◌, pow_mono, ap, refl, inr, subst, sym, arith, slice_index, get_or, add-zero}
+use Rattle.std.proofs.Math.Nat.{lt_of_not-le}
+use Rattle.std.proofs.lemmas.Bool.{iff_false}
 use Rattle.bplist_objects.specs.Numbers.{num_at}
 use Rattle.bplist_objects.proofs.Parts.{num-part_one, get_or-part}
-use Rattle.bplist_objects.proofs.head.long_count.Goals.{then-table-place-ge3+in_ok-read_at+else-octets-eq16, else-table-place-ge3}
+use Rattle.bplist_objects.proofs.head.long_count.Goals.{then-ends_before_table+in_ok-read_at+else-octets-eq16, else-ends_before_table}
 use Rattle.bplist_objects.proofs.head.long_count.Goals as goal
 
 pub returns-then-octets-eq16-clause-exact : goal.returns-then-octets-eq16-clause-exact
@@ -21,31 +23,33 @@ wide_in-requires-clause-high g c =
     let small : 2 ^ w ≤ 2 ^ 4 = pow_mono {i = w} {j = 4} (omega arith) in
     omega arith
 
-pub returns-then-table-place-clause-exact : goal.returns-then-table-place-clause-exact
-returns-then-table-place-clause-exact g c = λ honest.
+pub returns-then-not-ends_before_table-2-clause-exact : goal.returns-then-not-ends_before_table-2-clause-exact
+returns-then-not-ends_before_table-2-clause-exact g c = λ honest.
     let f = (g.S.Source.means c.args.src.now).octets in
     let w = c.in_ok-form.form - 16 in
-    let same : g.S.Source.means c.if-table-place-ge3.src ≡ g.S.Source.means c.args.src.now =
-    elim c.if-table-place-ge3.branch [
-      | then-table-place-ge3+in_ok-read_at+else-octets-eq16 w ↦ ap (λ s. g.S.Source.means s) w.src-is ∙ w.in_ok-read_at.ensures.reads
-      | else-table-place-ge3 w ↦ ap (λ s. g.S.Source.means s) w.src-is
+    let same : g.S.Source.means c.if-ends_before_table.src ≡ g.S.Source.means c.args.src.now =
+    elim c.if-ends_before_table.branch [
+      | then-ends_before_table+in_ok-read_at+else-octets-eq16 w ↦ ap (λ s. g.S.Source.means s) w.src-is ∙ w.in_ok-read_at.ensures.reads
+      | else-ends_before_table w ↦ ap (λ s. g.S.Source.means s) w.src-is
     ] in
     let read = rw same at c.in_ok-form.ensures.value in
     let form : slice_index f (c.args.place + 1) ≡ 16 + w = omega (arith, read honest) in
-    rw c.broken-then-table-place.ensures (refl, inr (refl, refl, inr (num_at f (c.args.place + 2) (2 ^ w), c.args.place + 2 + 2 ^ w, (w, omega arith, form, refl, refl), omega (arith, c.power_of_2-size.ensures))))
+    let late = lt_of_not-le (iff_false c.ends_before_table-3.ensures c.if-not-ends_before_table-2.true) in
+    rw c.broken-then-not-ends_before_table-2.ensures (refl, inr (refl, refl, inr (num_at f (c.args.place + 2) (2 ^ w), c.args.place + 2 + 2 ^ w, (w, omega arith, form, refl, refl), omega (arith, late, c.power_of_2-size.ensures))))
 
-pub returns-then-count-table-clause-exact : goal.returns-then-count-table-clause-exact
-returns-then-count-table-clause-exact g c = λ honest.
+pub returns-then-not-ends_before_table-3-clause-exact : goal.returns-then-not-ends_before_table-3-clause-exact
+returns-then-not-ends_before_table-3-clause-exact g c = λ honest.
     let f = (g.S.Source.means c.args.src.now).octets in
     let w = c.in_ok-form.form - 16 in
-    let same : g.S.Source.means c.if-table-place-ge3.src ≡ g.S.Source.means c.args.src.now =
-    elim c.if-table-place-ge3.branch [
-      | then-table-place-ge3+in_ok-read_at+else-octets-eq16 w ↦ ap (λ s. g.S.Source.means s) w.src-is ∙ w.in_ok-read_at.ensures.reads
-      | else-table-place-ge3 w ↦ ap (λ s. g.S.Source.means s) w.src-is
+    let same : g.S.Source.means c.if-ends_before_table.src ≡ g.S.Source.means c.args.src.now =
+    elim c.if-ends_before_table.branch [
+      | then-ends_before_table+in_ok-read_at+else-octets-eq16 w ↦ ap (λ s. g.S.Source.means s) w.src-is ∙ w.in_ok-read_at.ensures.reads
+      | else-ends_before_table w ↦ ap (λ s. g.S.Source.means s) w.src-is
     ] in
     let read = rw same at c.in_ok-form.ensures.value in
     let form : slice_index f (c.args.place + 1) ≡ 16 + w = omega (arith, read honest) in
     let size : c.power_of_2-size.result ≡ 2 ^ w = c.power_of_2-size.ensures in
     let counted = rw (c.in_ok-form.ensures.reads, same) at c.in_ok-count.ensures.value in
     let count = subst (λ s. c.in_ok-count.count ≡ num_at f (c.args.place + 2) s) size (counted honest) in
-    rw c.broken-then-count-table.ensures (refl, inr (refl, refl, inr (c.in_ok-count.count, c.args.place + 2 + c.power_of_2-size.result, (w, omega arith, form, count, ap (λ s. c.args.place + 2 + s) size), omega arith)))
+    let late = lt_of_not-le (iff_false c.ends_before_table-4.ensures c.if-not-ends_before_table-3.true) in
+    rw c.broken-then-not-ends_before_table-3.ensures (refl, inr (refl, refl, inr (c.in_ok-count.count, c.args.place + 2 + c.power_of_2-size.result, (w, omega arith, form, count, ap (λ s. c.args.place + 2 + s) size), omega (arith, late))))

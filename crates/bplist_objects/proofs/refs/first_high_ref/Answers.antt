@@ -1,4 +1,4 @@
-use Rattle.std.proofs.Common.{arith, length}
+use Rattle.std.proofs.Common.{arith}
 use Rattle.bplist_objects.proofs.BodyLaws.{refs_fit}
 use Rattle.bplist_objects.proofs.refs.first_high_ref.Goals as goal
 

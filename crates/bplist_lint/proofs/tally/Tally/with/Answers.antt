@@ -1,5 +1,5 @@
 use Rattle.std.proofs.Common.{arith}
-use Rattle.bplist_lint.proofs.table_rules.Tally.with.Goals as goal
+use Rattle.bplist_lint.proofs.tally.Tally.with.Goals as goal
 
 pub overflow_add-result-2 : goal.overflow_add-result-2
 overflow_add-result-2 c = omega (arith, c.in_ok-used.ensures.room.0, c.in_ok-used.ensures.room.1)

@@ -1,5 +1,5 @@
 use Rattle.std.proofs.Common.{ℕ, ◌<◌, slice_index}
-use Rattle.bplist_lint.proofs.table_rules.check_offsets.Given as goal
+use Rattle.bplist_objects.proofs.offsets.check_offsets.Given as goal
 
 -- the places so far are below the table
 abbrev pub invariant-loop-n : goal.invariant-loop-n

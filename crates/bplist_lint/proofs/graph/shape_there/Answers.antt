@@ -1,6 +1,6 @@
 use Rattle.bplist_objects.proofs.FirstFaults.{no_shape}
 use Rattle.bplist_objects.proofs.HeadTies.{shape_tie}
-use Rattle.bplist_lint.proofs.table_rules.shape_there.Goals as goal
+use Rattle.bplist_lint.proofs.graph.shape_there.Goals as goal
 
 pub returns-in-Ok-clause-shape : goal.returns-in-Ok-clause-shape
 returns-in-Ok-clause-shape g c = λ honest.

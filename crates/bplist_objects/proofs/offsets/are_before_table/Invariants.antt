@@ -1,5 +1,5 @@
 use Rattle.std.proofs.Common.{ℕ, ◌<◌, slice_index, IsTrue}
-use Rattle.bplist_lint.proofs.table_rules.are_below.Given as goal
+use Rattle.bplist_objects.proofs.offsets.are_before_table.Given as goal
 
 -- the places so far are below the bound, if none was found that is not
 abbrev pub invariant-loop-place : goal.invariant-loop-place

@@ -4,7 +4,7 @@ use Rattle.bplist_objects.specs.declared.frame.Frame.{Frame}
 use Rattle.bplist_objects.specs.Framed.{frame_in}
 use Rattle.bplist_objects.proofs.AnswerLaws.{faults_mean}
 use Rattle.bplist_lint.proofs.TallySteps.{tallied_more, object_fault, room_fault}
-use Rattle.bplist_lint.proofs.reach.check_reached_object.Goals as goal
+use Rattle.bplist_lint.proofs.tally.check_reached_object.Goals as goal
 
 pub returns-in_err-head-clause-exact : goal.returns-in_err-head-clause-exact
 returns-in_err-head-clause-exact g c = λ honest marks marked reached t.

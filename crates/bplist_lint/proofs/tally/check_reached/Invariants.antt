@@ -4,7 +4,7 @@ use Rattle.bplist_objects.specs.Reach.{Reach}
 use Rattle.bplist_keys.specs.Marks.{IsMarked}
 use Rattle.bplist_lint.specs.ReachRules.{Tallied}
 use Rattle.bplist_lint.specs.Tallies.{IsRoomy}
-use Rattle.bplist_lint.proofs.reach.check_reached.Given as goal
+use Rattle.bplist_lint.proofs.tally.check_reached.Given as goal
 
 abbrev pub invariant-loop-n : goal.invariant-loop-n
 invariant-loop-n g l =

@@ -1,8 +1,8 @@
 use Rattle.std.proofs.Common.{◌<◌, length, arith, sym, ◌∙◌}
 use Rattle.std.proofs.lemmas.Bool.{false≢true}
 use Rattle.bplist_lint.proofs.TallySteps.{tallied_over, tallied_none}
-use Rattle.bplist_lint.proofs.reach.check_reached.Goals as goal
-use Rattle.bplist_lint.proofs.reach.check_reached.Goals.{then-marks-n+in_ok-tally, else-marks-n}
+use Rattle.bplist_lint.proofs.tally.check_reached.Goals as goal
+use Rattle.bplist_lint.proofs.tally.check_reached.Goals.{then-marks-n+in_ok-tally, else-marks-n}
 
 pub loop-n-init : goal.loop-n-init
 loop-n-init g c = record {
