@@ -3,7 +3,7 @@ use Rattle.std.proofs.Common.{arith, ◌≡◌, ◌<◌, ◌∙◌, ℕ, List, l
 use denote.Ref.{Bor}
 use Rattle.bplist_cert.specs.CheckedFile.{CheckedFile}
 use Rattle.bplist_c.specs.declared.handle.BplistHandle.{BplistHandle}
-use Rattle.bplist_c.specs.declared.handle.Session.{Session}
+use Rattle.bplist_c.specs.declared.session.Session.{Session}
 use Rattle.bplist_c.specs.declared.status.Status.{Status}
 use Rattle.bplist_c.specs.Sessions.{IsRefused, OnHandle, checked_of}
 

@@ -3,7 +3,7 @@ use Rattle.std.specs.Prelude.{◌≡◌, ◌≢◌, ◌⊎◌, ℕ, List, length
 use denote.Ref.{Bor}
 use Rattle.bplist_octets.specs.Slices.{source_over}
 use Rattle.bplist_cert.specs.CheckedFile.{CheckedFile, IsChecked}
-use Rattle.bplist_c.specs.declared.handle.Session.{Session}
+use Rattle.bplist_c.specs.declared.session.Session.{Session}
 use Rattle.bplist_c.specs.declared.handle.BplistHandle.{BplistHandle}
 use Rattle.bplist_c.specs.declared.status.Status.{Status}
 use Rattle.bplist_c.specs.declared.status.Status.TheVariants as statuses

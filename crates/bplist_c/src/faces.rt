@@ -4,7 +4,8 @@ ghost use Rattle.std.specs.Prelude.{◌≡◌, List, Result, length};
 ghost use Rattle.bplist_c.specs.Prelude.{BplistBody as body, Status as status, AreFaces, FacesSay, IsFace, IsFileOf};
 ghost use Rattle.bplist_c.specs.Prelude.{IsSame, OnHandle, Puts};
 
-use crate::handle::{BplistHandle, give_back, lend};
+use crate::handle::BplistHandle;
+use crate::loan::{give_back, lend};
 use crate::object::{BplistBody, face_of};
 use bplist_cert::Checked;
 use bplist_octets::SliceSource;

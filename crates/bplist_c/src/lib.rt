@@ -19,7 +19,8 @@
 //! | `status` | results and outputs, `bplist_version`, `bplist_rule_name`, `bplist_rule_text`, `bplist_status_text` |
 //! | `verdict` | the verdict on a file |
 //! | `linter` | `bplist_lint`, `bplist_circle` |
-//! | `handle` | what an open handle holds, how C holds it, and how a call gets the checked file of it |
+//! | `session`, `handle`, `loose` | what an open handle holds, and how C holds it |
+//! | `loan` | lends the checked file of a handle to one call |
 //! | `lifecycle` | `bplist_open`, `bplist_open_certified`, `bplist_close`, `bplist_certificate` |
 //! | `lookup` | `bplist_find`, `bplist_find_key` |
 //! | `object` | `bplist_face`, `bplist_int`, `bplist_uid` |
@@ -36,10 +37,13 @@ mod faces;
 mod handle;
 mod lifecycle;
 mod linter;
+mod loan;
 mod lookup;
+mod loose;
 mod members;
 mod object;
 mod parts;
+mod session;
 mod sizes;
 mod status;
 mod text;

@@ -9,9 +9,10 @@ ghost use Rattle.bplist_c.specs.Prelude.{IsCheckedFor, IsOpened, IsPair, certifi
 ghost use Rattle.bplist_c.specs.Prelude.{items_of, number_of as number, NO_VERDICT, ShowsLint};
 ghost use Rattle.bplist_cert.specs.declared.certificate.CertRefusal.TheVariants as refusals;
 
-use crate::handle::{BplistHandle, Session};
+use crate::handle::BplistHandle;
 use crate::linter::{lint_file, show};
 use crate::object::{head_of_object, number_of};
+use crate::session::Session;
 use crate::status::{Status, put_answer};
 use crate::verdict::{BplistVerdict, NO_VERDICT, Top};
 use bplist_cert::{CertRefusal, Certificate, Checked, Refusal, check};

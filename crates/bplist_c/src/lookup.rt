@@ -4,7 +4,8 @@ ghost use Rattle.std.specs.Prelude.{◌≡◌, ◌∷◌, [], ℕ, Result};
 ghost use Rattle.bplist_c.specs.Prelude.{Status as status, Holds, IsFound, Found as place, FindSays, told_found};
 ghost use Rattle.bplist_c.specs.Prelude.{step_answer, why_status, OnObject, IsFileOf, IsSame, OnHandle, Tells};
 
-use crate::handle::{BplistHandle, give_back, lend};
+use crate::handle::BplistHandle;
+use crate::loan::{give_back, lend};
 use crate::status::{self, Status};
 use bplist_cert::Checked;
 use bplist_cursor::{Found, Node, Path, PathFault, Why, locate_in_slice, step_from};

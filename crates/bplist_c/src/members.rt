@@ -6,7 +6,8 @@ ghost use Rattle.bplist_c.specs.Prelude.{Spells, IsSafeHead, member_reference, n
 ghost use Rattle.bplist_c.specs.Prelude.{MembersSay, Status as status, NoMember, OnObject, IsFileOf, IsSame, OnHandle};
 ghost use Rattle.bplist_c.specs.Prelude.{Puts, Tells};
 
-use crate::handle::{BplistHandle, give_back, lend};
+use crate::handle::BplistHandle;
+use crate::loan::{give_back, lend};
 use crate::object::head_of_object;
 use crate::status::{Status, tell};
 use bplist_cert::Checked;

@@ -5,7 +5,8 @@ ghost use Rattle.bplist_c.specs.Prelude.{int, IsHeadOf, Spells, leaf, IsSafeBody
 ghost use Rattle.bplist_c.specs.Prelude.{Status as status, BplistInteger as number, OnObject, body_of, int_answer};
 ghost use Rattle.bplist_c.specs.Prelude.{kind_number, uid_answer, IsFileOf, IsSame, OnHandle, Tells};
 
-use crate::handle::{BplistHandle, give_back, lend};
+use crate::handle::BplistHandle;
+use crate::loan::{give_back, lend};
 use crate::status::{Status, tell};
 use bplist_cert::Checked;
 use bplist_objects::{Head, Kind, ObjectNo, int_of, shape_of, uid_of};

@@ -4,7 +4,8 @@ ghost use Rattle.std.specs.Prelude.{◌≡◌, ◌+◌, ◌≤◌, ℕ, List, Ok
 ghost use Rattle.bplist_c.specs.Prelude.{part, IsTextKind, units_of, IsHeadOf, Spells, IsSafeBody, Status as status};
 ghost use Rattle.bplist_c.specs.Prelude.{OnObject, bytes_of_body, units_answer, IsFileOf, IsSame, OnHandle, Puts};
 
-use crate::handle::{BplistHandle, give_back, lend};
+use crate::handle::BplistHandle;
+use crate::loan::{give_back, lend};
 use crate::object::head_of_object;
 use crate::status::Status;
 use bplist_cert::Checked;

@@ -5,7 +5,8 @@ ghost use Rattle.bplist_c.specs.Prelude.{Holds, BplistSizes as sizes, Status as 
 ghost use Rattle.bplist_c.specs.Prelude.{IsSame, OnHandle, sizes_by, Tells, form_of, AreMeasuresOf, cap};
 ghost use Rattle.bplist_c.specs.Prelude.{nodes as node_count};
 
-use crate::handle::{BplistHandle, give_back, lend};
+use crate::handle::BplistHandle;
+use crate::loan::{give_back, lend};
 use crate::status::{Status, tell};
 use bplist_cert::Checked;
 use bplist_cursor::{Form, Measures, measure};

@@ -4,7 +4,8 @@ ghost use Rattle.std.specs.Prelude.{◌≡◌, Result, length};
 ghost use Rattle.bplist_c.specs.Prelude.{Status as status, Text as text, IsFileOf, IsSame, OnHandle, OnObject, Holds};
 ghost use Rattle.bplist_c.specs.Prelude.{IsTextOf, TellsText, printed_as, text_length};
 
-use crate::handle::{BplistHandle, give_back, lend};
+use crate::handle::BplistHandle;
+use crate::loan::{give_back, lend};
 use crate::sizes::measures_of;
 use crate::status::{Status, put_all};
 use bplist_ascii::{PrintFault, print};
