@@ -109,10 +109,7 @@ module _ (f : List ℕ) (F : Frame) where
     pub number_below : (k : ℕ) → k < ref_count kind count → k < length (refs content)
     number_below k l = let n = ap (λ c. length (refs c)) same ∙ length-refs f F kind count body in omega (arith, n, l)
 
-  -- the node at an object that is not a dictionary; below, at a dictionary
-  pub node_in_order : (ms : List ℕ) (i : ℕ) → i < length ms → named (slice_get ms i) ≡ Some (node_of (slice_index ms i))
-  node_in_order ms i l = ap named (slice_get-get_or ms i 0 l)
-
+  -- the nodes at an object
   pub no_node_from_end : (content : Content) (n i : ℕ) → Spells f F n content → length (refs content) ≤ i → named (member_reference content i) ≡ None
   no_node_from_end content n i s l =
       let shape = s.shape in

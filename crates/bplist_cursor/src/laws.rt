@@ -1,11 +1,11 @@
 //! Laws about the definitions in specs/. Each law is the contract of a function that does nothing. The bodies of this
 //! crate rest on those that are private to it: about tables by object, and about the text of a value in two parts.
 
-ghost use Rattle.std.specs.Prelude.{◌≡◌, ◌≤◌, ◌↔◌, ℕ, ◌<◌, List, [], ◌∷◌, Ok, Err, Some, None, Contains, slice_index};
+ghost use Rattle.std.specs.Prelude.{◌≡◌, ◌≤◌, ◌↔◌, ◌+◌, ◌*◌, length, ℕ, ◌<◌, List, [], ◌∷◌, Ok, Err, Some, None, Contains, slice_index};
 ghost use Rattle.bplist_cursor.specs.Prelude.{Frame as frame, IsFrame, Value, Content, Spells, refs, Holds, Refs};
 ghost use Rattle.bplist_cursor.specs.Prelude.{IsNoPath, IsPathOf, stepped, IsTaken, LeadTo, HasTextKeys, why_of, cap};
 ghost use Rattle.bplist_cursor.specs.Prelude.{nodes, Measured, value_text, IsFormed, plain, IsFormless, Formed};
-ghost use Rattle.bplist_cursor.specs.Prelude.{form_at, form_of, Form};
+ghost use Rattle.bplist_cursor.specs.Prelude.{form_at, form_of, Form, array, set, dict, named, member_reference, node_of};
 
 /// A path text spells exactly one list of steps.
 pub fn one_path()
@@ -24,6 +24,22 @@ pub fn steps_follow_references()
         → LeadTo f F n (step ∷ []) m → (w : Value) × (stepped v step ≡ Ok w) × Holds f F m w }
     ensures goes_on { (f : List ℕ) (F : frame) (n : ℕ) (v : Value) (step : List ℕ) (w : Value) → Holds f F n v
         → stepped v step ≡ Ok w → (m : ℕ) × LeadTo f F n (step ∷ []) m × Holds f F m w }
+{}
+
+/// The reference for each member: that for member `i` of an array or a set is its reference `i`. In a dictionary, the one
+/// for member `2 * j` is that to key `j`, and the one for member `2 * j + 1` that to value `j`. From the number of
+/// references on there is none.
+pub fn members_by_number()
+    ensures array { (ms : List ℕ) (i : ℕ) → i < length ms
+        → named (member_reference (array ms) i) ≡ Some (node_of (slice_index ms i)) }
+    ensures set { (ms : List ℕ) (i : ℕ) → i < length ms
+        → named (member_reference (set ms) i) ≡ Some (node_of (slice_index ms i)) }
+    ensures key { (f : List ℕ) (F : frame) (n : ℕ) (ks ms : List ℕ) (j : ℕ) → Spells f F n (dict ks ms) → j < length ks
+        → named (member_reference (dict ks ms) (2 * j)) ≡ Some (node_of (slice_index ks j)) }
+    ensures value { (f : List ℕ) (F : frame) (n : ℕ) (ks ms : List ℕ) (j : ℕ) → Spells f F n (dict ks ms) → j < length ms
+        → named (member_reference (dict ks ms) (2 * j + 1)) ≡ Some (node_of (slice_index ms j)) }
+    ensures none { (f : List ℕ) (F : frame) (n i : ℕ) (content : Content) → Spells f F n content → length (refs content) ≤ i
+        → named (member_reference content i) ≡ None }
 {}
 
 /// An object that holds a value spells a content. If a step takes none of its references, the step can't be taken; if

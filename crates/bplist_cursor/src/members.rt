@@ -44,7 +44,7 @@ pub fn member_by_head<S: Source>(
     ensures reads { OnlyReadsFile (read_failed result) checked.old checked.new }
     ensures reference { HonestlyChecked checked.old (λ f F. (n : ℕ) → IsVouchedBy checked.old.certificate.heights n
         → (content : Content) → Spells f F n content → content ≡ content_at f F head.now
-        → GivesRead (λ member. member ≡ option_map node_of (member_reference content i)) result) }
+        → GivesRead (λ member. member ≡ named (member_reference content i)) result) }
     ensures vouched { IfOk result (λ member. IfSome member (λ m. IsVouchedBy checked.old.certificate.heights m.object.0)) }
     ensures within { IfOk result (λ member. IfSome member (λ _. i < ref_count head.now.kind head.now.count)) }
 {
@@ -59,28 +59,12 @@ pub fn member_by_head<S: Source>(
     Ok(Some(Node { object }))
 }
 
-fn member_by_reference<S: Source>(
-    checked: &mut Checked<S>,
-    node: Node,
-    i: u64,
-) -> Result<Option<Node>, CursorFault>
-    ensures reads { OnlyReadsFile (cursor_read result) checked.old checked.new }
-    ensures reference { HonestlyChecked checked.old (λ f F. IsVouchedBy checked.old.certificate.heights node.object.0
-        → (content : Content) → Spells f F node.object.0 content → GivesCursor
-        (λ member. member ≡ named (member_reference content i)) result) }
-    ensures vouched { IfOk result (λ member. IfSome member (λ m. IsVouchedBy checked.old.certificate.heights m.object.0)) }
-    ensures unvouched { (IsVouchedBy checked.old.certificate.heights node.object.0 → ⊥) → result ≡ Err Changed }
-    ensures memory { result ≢ Err Memory }
-{
-    let head = node_head(checked, node)?;
-    Ok(member_by_head(checked, &head, i)?)
-}
-
 /// Returns the node of member `i` of a node's object, counted from 0. For an array or a set that is its member `i`. For
 /// a dictionary, number `2 * j` is key `j` and number `2 * j + 1` is value `j`. Returns None for a number past the last
 /// member, and for a leaf.
 ///
-/// The certificate vouches for the returned node too. The call takes no memory. Errors: `Changed` if the certificate
+/// [`members_by_number`](crate::members_by_number) says in the words of each kind which reference that is. The certificate
+/// vouches for the returned node too. The call takes no memory. Errors: `Changed` if the certificate
 /// does not vouch for the object, or the source gives other bytes than those that were checked; `Read` if a read
 /// failed, so never over a slice. After an error the `Checked` is as before, except for its source's count of failures.
 pub fn member<S: Source>(
@@ -89,21 +73,9 @@ pub fn member<S: Source>(
     i: u64,
 ) -> Result<Option<Node>, CursorFault>
     ensures reads { OnlyReadsFile (cursor_read result) checked.old checked.new }
-    ensures array { HonestlyChecked checked.old (λ f F. IsVouchedBy checked.old.certificate.heights node.object.0
-        → (ms : List ℕ) → Spells f F node.object.0 (array ms) → i < length ms
-        → GivesCursor (λ member. member ≡ Some (node_of (slice_index ms i))) result) }
-    ensures set { HonestlyChecked checked.old (λ f F. IsVouchedBy checked.old.certificate.heights node.object.0
-        → (ms : List ℕ) → Spells f F node.object.0 (set ms) → i < length ms
-        → GivesCursor (λ member. member ≡ Some (node_of (slice_index ms i))) result) }
-    ensures key { HonestlyChecked checked.old (λ f F. IsVouchedBy checked.old.certificate.heights node.object.0
-        → (ks ms : List ℕ) (j : ℕ) → Spells f F node.object.0 (dict ks ms) → i ≡ 2 * j → j < length ks
-        → GivesCursor (λ member. member ≡ Some (node_of (slice_index ks j))) result) }
-    ensures value { HonestlyChecked checked.old (λ f F. IsVouchedBy checked.old.certificate.heights node.object.0
-        → (ks ms : List ℕ) (j : ℕ) → Spells f F node.object.0 (dict ks ms) → i ≡ 2 * j + 1 → j < length ms
-        → GivesCursor (λ member. member ≡ Some (node_of (slice_index ms j))) result) }
-    ensures none { HonestlyChecked checked.old (λ f F. IsVouchedBy checked.old.certificate.heights node.object.0
-        → (content : Content) → Spells f F node.object.0 content → length (refs content) ≤ i
-        → GivesCursor (λ member. member ≡ None) result) }
+    ensures reference { HonestlyChecked checked.old (λ f F. IsVouchedBy checked.old.certificate.heights node.object.0
+        → (content : Content) → Spells f F node.object.0 content
+        → GivesCursor (λ member. member ≡ named (member_reference content i)) result) }
     ensures holds { HonestlyChecked checked.old (λ f F. IsVouchedBy checked.old.certificate.heights node.object.0
         → (v : Value) → Holds f F node.object.0 v → GivesCursor (HoldsMember f F (member_of v i)) result) }
     ensures vouched { IfOk result (λ member. IfSome member (λ m. IsVouchedBy checked.old.certificate.heights m.object.0)) }
@@ -114,5 +86,6 @@ pub fn member<S: Source>(
     ensures unread { checked.new.source.failures ≡ 0 → cursor_read result ≡ false }
 {
     let _frame = checked.frame();
-    member_by_reference(checked, node, i)
+    let head = node_head(checked, node)?;
+    Ok(member_by_head(checked, &head, i)?)
 }

@@ -1,47 +1,58 @@
-use Rattle.std.proofs.Common.{◌≡◌, ◌∙◌, subst, sym}
-use Rattle.bplist_objects.specs.Heads.{array, set, dict}
+use Rattle.std.proofs.Common.{◌≡◌, subst, sym}
+use Rattle.std.proofs.lemmas.Result.{err_from_is_err_and}
 use Rattle.bplist_cursor.specs.Members.{HoldsMember, member_of, member_reference, named}
-use Rattle.bplist_cursor.proofs.Membership.{node_in_order, no_node_from_end, node_of_key, node_of_value, held_members}
+use Rattle.bplist_cursor.proofs.Causes.{unread_excused}
+use Rattle.bplist_cursor.proofs.Membership.{held_members}
 use Rattle.bplist_cursor.proofs.VouchedObjects.{gives_weaker, never_changed}
 use Rattle.bplist_cursor.proofs.members.member.Goals as goal
 
-pub returns-clause-array : goal.returns-clause-array
-returns-clause-array g c = λ honest vouched ms s l.
-    gives_weaker _ _ c.member_by_reference.result (λ x e. e ∙ node_in_order c.args.checked.now.source.octets c.args.checked.now.frame ms c.args.i l)
-    (c.member_by_reference.ensures.reference honest vouched (array ms) s)
+pub returns-in_err-head-clause-reference : goal.returns-in_err-head-clause-reference
+returns-in_err-head-clause-reference g c = λ honest vouched content s.
+    let p = err_from_is_err_and c.from_residual.result c.from_residual.ensures.1 in
+    rw (p.1, p.2) (unread_excused c.in_err-head.field-0.0 (c.in_err-head.ensures.exact honest vouched content s))
 
-pub returns-clause-set : goal.returns-clause-set
-returns-clause-set g c = λ honest vouched ms s l.
-    gives_weaker _ _ c.member_by_reference.result (λ x e. e ∙ node_in_order c.args.checked.now.source.octets c.args.checked.now.frame ms c.args.i l)
-    (c.member_by_reference.ensures.reference honest vouched (set ms) s)
+pub returns-in_err-head-clause-holds : goal.returns-in_err-head-clause-holds
+returns-in_err-head-clause-holds g c = λ honest vouched v h.
+    let held = held_members c.args.checked.now.source.octets c.args.checked.now.frame v c.args.node.object.0 h in
+    let p = err_from_is_err_and c.from_residual.result c.from_residual.ensures.1 in
+    rw (p.1, p.2) (unread_excused c.in_err-head.field-0.0 (c.in_err-head.ensures.exact honest vouched held.0 held.1))
 
-pub returns-clause-key : goal.returns-clause-key
-returns-clause-key g c = λ honest vouched ks ms j s is l.
-    gives_weaker _ _ c.member_by_reference.result
-    (λ x e. e ∙ node_of_key c.args.checked.now.source.octets c.args.checked.now.frame ks ms c.args.node.object.0 c.args.i j s is l)
-    (c.member_by_reference.ensures.reference honest vouched (dict ks ms) s)
+pub returns-in_err-head-clause-unchanged : goal.returns-in_err-head-clause-unchanged
+returns-in_err-head-clause-unchanged g c = λ honest vouched.
+    let p = err_from_is_err_and c.from_residual.result c.from_residual.ensures.1 in
+    never_changed c.args.checked.now c.frame-frame.ensures.checked honest c.args.node.object.0 vouched
+    (λ content member. member ≡ named (member_reference content c.args.i)) c.from_residual.result
+    (λ content s. rw (p.1, p.2) (unread_excused c.in_err-head.field-0.0 (c.in_err-head.ensures.exact honest vouched content s)))
 
-pub returns-clause-value : goal.returns-clause-value
-returns-clause-value g c = λ honest vouched ks ms j s is l.
-    gives_weaker _ _ c.member_by_reference.result
-    (λ x e. e ∙ node_of_value c.args.checked.now.source.octets c.args.checked.now.frame ks ms c.args.node.object.0 c.args.i j s is l)
-    (c.member_by_reference.ensures.reference honest vouched (dict ks ms) s)
+pub returns-in_err-member_by_head-clause-reference : goal.returns-in_err-member_by_head-clause-reference
+returns-in_err-member_by_head-clause-reference g c = λ honest vouched content s.
+    let same = c.in_ok-head.ensures.exact honest vouched content s in
+    let p = err_from_is_err_and c.from_residual-in_err-member_by_head.result c.from_residual-in_err-member_by_head.ensures.1 in
+    rw (p.1, p.2) (unread_excused c.in_err-member_by_head.field-0.0 ((rw c.in_ok-head.ensures.reads at c.in_err-member_by_head.ensures.reference) honest c.args.node.object.0 vouched content s same))
 
-pub returns-clause-none : goal.returns-clause-none
-returns-clause-none g c = λ honest vouched content s l.
-    gives_weaker _ _ c.member_by_reference.result
-    (λ x e. e ∙ no_node_from_end c.args.checked.now.source.octets c.args.checked.now.frame content c.args.node.object.0 c.args.i s l)
-    (c.member_by_reference.ensures.reference honest vouched content s)
+pub returns-in_err-member_by_head-clause-holds : goal.returns-in_err-member_by_head-clause-holds
+returns-in_err-member_by_head-clause-holds g c = λ honest vouched v h.
+    let held = held_members c.args.checked.now.source.octets c.args.checked.now.frame v c.args.node.object.0 h in
+    let same = c.in_ok-head.ensures.exact honest vouched held.0 held.1 in
+    let p = err_from_is_err_and c.from_residual-in_err-member_by_head.result c.from_residual-in_err-member_by_head.ensures.1 in
+    rw (p.1, p.2) (unread_excused c.in_err-member_by_head.field-0.0 ((rw c.in_ok-head.ensures.reads at c.in_err-member_by_head.ensures.reference) honest c.args.node.object.0 vouched held.0 held.1 same))
+
+pub returns-in_err-member_by_head-clause-unchanged : goal.returns-in_err-member_by_head-clause-unchanged
+returns-in_err-member_by_head-clause-unchanged g c = λ honest vouched.
+    let p = err_from_is_err_and c.from_residual-in_err-member_by_head.result c.from_residual-in_err-member_by_head.ensures.1 in
+    never_changed c.args.checked.now c.frame-frame.ensures.checked honest c.args.node.object.0 vouched
+    (λ content member. member ≡ named (member_reference content c.args.i)) c.from_residual-in_err-member_by_head.result
+    (λ content s. rw (p.1, p.2) (unread_excused c.in_err-member_by_head.field-0.0 ((rw c.in_ok-head.ensures.reads at c.in_err-member_by_head.ensures.reference) honest c.args.node.object.0 vouched content s (c.in_ok-head.ensures.exact honest vouched content s))))
+
+pub returns-clause-reference : goal.returns-clause-reference
+returns-clause-reference g c = λ honest vouched content s.
+    let same = c.in_ok-head.ensures.exact honest vouched content s in
+    (rw c.in_ok-head.ensures.reads at c.in_ok-member_by_head.ensures.reference) honest c.args.node.object.0 vouched content s same
 
 pub returns-clause-holds : goal.returns-clause-holds
 returns-clause-holds g c = λ honest vouched v h.
     let f = c.args.checked.now.source.octets in
     let F = c.args.checked.now.frame in
     let held = held_members f F v c.args.node.object.0 h in
-    gives_weaker _ _ c.member_by_reference.result (λ x e. subst (HoldsMember f F (member_of v c.args.i)) (sym e) (held.2 c.args.i))
-    (c.member_by_reference.ensures.reference honest vouched held.0 held.1)
-
-pub returns-clause-unchanged : goal.returns-clause-unchanged
-returns-clause-unchanged g c = λ honest vouched.
-    never_changed c.args.checked.now c.frame-frame.ensures.checked honest c.args.node.object.0 vouched
-    (λ content member. member ≡ named (member_reference content c.args.i)) c.member_by_reference.result (c.member_by_reference.ensures.reference honest vouched)
+    let same = c.in_ok-head.ensures.exact honest vouched held.0 held.1 in
+    subst (HoldsMember f F (member_of v c.args.i)) (sym ((rw c.in_ok-head.ensures.reads at c.in_ok-member_by_head.ensures.reference) honest c.args.node.object.0 vouched held.0 held.1 same)) (held.2 c.args.i)
