@@ -2,7 +2,7 @@
 //! in such a file, so the reference at each place is followed once, however many arrays it is part of.
 
 ghost use Rattle.std.specs.Prelude.{◌≡◌, ◌↔◌, ℕ, ◌+◌, ◌^◌, ◌≤◌, ◌<◌, true, false, not, IsTrue, IfOk, OnOk, is_err};
-ghost use Rattle.std.specs.Prelude.{replicate, count_by, vec_len, length};
+ghost use Rattle.std.specs.Prelude.{replicate, count_by, vec_len};
 ghost use Rattle.bplist_lint.specs.Prelude.{OnlyReads, frame_in, HonestlyIn, content_at, refs, Reach, IsSafeHead};
 ghost use Rattle.bplist_lint.specs.Prelude.{ref_count, AreBelow, failed_to_read, IsMarked, HasMarks, place_index};
 ghost use Rattle.bplist_lint.specs.Prelude.{index_count, IsReady, AreGood, AreFollowed, Looked, Searching};

@@ -3,16 +3,15 @@
 //! An object begins with a marker, which gives its kind. The count is in the marker, or is an integer object after it.
 //! Kind, count and the size of a reference give the place at which the object ends.
 
-ghost use Rattle.std.specs.Prelude.{◌≡◌, ◌≤◌, MatchOption, ℕ, ◌+◌, ◌^◌, ◌<◌, List, true, IfOk, IfSome, length};
-ghost use Rattle.std.specs.Prelude.{◌↔◌, slice_index, IsTrue};
-ghost use Rattle.bplist_objects.specs.Prelude.{IsMarker, Marks, item_size, OnlyReads, Honestly, Gives, read_failed};
-ghost use Rattle.bplist_objects.specs.Prelude.{markers_of, is_counted, IsLongOf, HasLongCount, Announces, MarkersCount};
+ghost use Rattle.std.specs.Prelude.{◌≡◌, ◌≤◌, ◌+◌, ◌<◌, IfOk, length, ◌↔◌, slice_index, IsTrue};
+ghost use Rattle.bplist_objects.specs.Prelude.{OnlyReads, Honestly, Gives, read_failed, HasLongCount};
 ghost use Rattle.bplist_objects.specs.Prelude.{IsLongCountFault, HonestlyBy, off, IsSafe, IsSafeHead, Never, KeepsAll};
 ghost use Rattle.bplist_objects.specs.Prelude.{HasHead, HasShape, Head as head, KeepsByObject, IsObjectFault};
 ghost use Rattle.bplist_objects.specs.Prelude.{shape_rules};
 
 use crate::fault::{ObjectFault, broken};
 use crate::frame::{Frame, ObjectNo};
+use crate::marker::{item_size, kind_of, power_of_2, short_count};
 use crate::numbers::{octet_in, wide_in};
 use crate::offsets::{entry_place, high_entry, offset_of};
 use crate::rule::Rule;
@@ -61,60 +60,6 @@ pub struct Head {
     pub body: u64,
     /// The place after the object's last byte, from the start of the file.
     pub end: u64,
-}
-
-/// Returns the kind of object that begins with this marker, or None if it is no marker.
-#[tactic(auto, using(crate::proofs::HeadLaws::marker_marks))]
-pub(crate) fn kind_of(marker: u8) -> Option<Kind>
-    ensures { MatchOption result (IsMarker marker → ⊥) (Marks marker) }
-{
-    // The high half first: most kinds have halves of their own, so one jump decides.
-    match marker / 16 {
-        0x0 => match marker {
-            0x00 => Some(Kind::Null),
-            0x08 => Some(Kind::False),
-            0x09 => Some(Kind::True),
-            _ => None,
-        },
-        0x1 if marker <= 0x14 => Some(Kind::Int),
-        0x2 if marker == 0x22 || marker == 0x23 => Some(Kind::Real),
-        0x3 if marker == 0x33 => Some(Kind::Date),
-        0x4 => Some(Kind::Bytes),
-        0x5 => Some(Kind::Ascii),
-        0x6 => Some(Kind::Wide),
-        0x8 => Some(Kind::Uid),
-        0xa => Some(Kind::Array),
-        0xc => Some(Kind::Set),
-        0xd => Some(Kind::Dict),
-        _ => None,
-    }
-}
-
-/// Returns the number of body bytes for each item of the count.
-#[inline(always)]
-pub(crate) fn item_size(kind: Kind, ref_size: u8) -> u8
-    requires { ref_size ≤ 8 }
-    ensures { result ≡ item_size ref_size kind }
-{
-    match kind {
-        Kind::Wide => 2,
-        Kind::Array | Kind::Set => ref_size,
-        Kind::Dict => 2 * ref_size,
-        _ => 1,
-    }
-}
-
-fn power_of_2(w: u8) -> u8
-    requires { w ≤ 4 }
-    ensures { result ≡ 2 ^ w }
-{
-    match w {
-        0 => 1,
-        1 => 2,
-        2 => 4,
-        3 => 8,
-        _ => 16,
-    }
 }
 
 /// True if `size` bytes from `from` on end before the offset table, which begins at `table`: rule 17 Extent asks this of
@@ -169,28 +114,6 @@ pub(crate) fn long_count<S: Source>(
         return Err(broken(Rule::Extent, n, place));
     }
     Ok((count as u64, body))
-}
-
-/// Returns the count that a marker of this kind holds, or None if the count follows the marker.
-#[inline(always)]
-pub(crate) fn short_count(kind: Kind, marker: u8) -> Option<u8>
-    requires marks { Marks marker kind }
-    ensures found { MatchOption result
-        (IsLongOf (markers_of kind) marker × (is_counted (markers_of kind) ≡ true))
-        (λ count. (f : List ℕ) (place : ℕ) → slice_index f place ≡ marker → Announces f place kind count (place + 1)) }
-    ensures may { IfSome result (MarkersCount (markers_of kind)) }
-{
-    match kind {
-        Kind::Bytes | Kind::Ascii | Kind::Wide | Kind::Array | Kind::Set | Kind::Dict => {
-            let low = marker % 16;
-            if low == 15 { None } else { Some(low) }
-        }
-        Kind::Int => Some(power_of_2(marker - 0x10)),
-        Kind::Real => Some(power_of_2(marker - 0x20)),
-        Kind::Date => Some(8),
-        Kind::Uid => Some(marker - 0x7f),
-        _ => Some(0),
-    }
 }
 
 /// Returns the marker of object `n` at `place`, or its fault by rule 13 or 14.

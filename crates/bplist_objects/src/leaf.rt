@@ -7,7 +7,8 @@ ghost use Rattle.std.specs.Prelude.{min};
 ghost use Rattle.bplist_objects.specs.Prelude.{part, OnlyReads, Honestly, integer, num_at, item_size, IsLeafKind};
 ghost use Rattle.bplist_objects.specs.Prelude.{IsSafeBody, Int, Uid, last_count, IsTextKind, units_of, compare_units};
 
-use crate::head::{Head, item_size};
+use crate::head::Head;
+use crate::marker::item_size;
 use crate::numbers::{Width, read_many, wide_in};
 use bplist_octets::{ReadFault, Source, sized, wide};
 use std::cmp::Ordering;

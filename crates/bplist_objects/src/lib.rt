@@ -21,6 +21,7 @@
 //! | offsets | places of objects: [`offset_of`], [`read_offsets`], [`offsets_of`], and [`check_offsets`] by rule 13; sources that have them: [`Offsets`], [`OffsetTable`], [`object_shape`] |
 //! | offset_reader | [`OffsetReader`], an [`Offsets`] that reads blocks of the offset table when asked |
 //! | head | [`Kind`], the kinds of objects; [`Head`], what marker and count say, by rules 14 to 17: [`shape_of`], and [`shape_at`] for a known place |
+//! | marker | what the marker alone says: the kind, by rule 15, the count and the size |
 //! | body | heads by rules 14 to 20: [`head_of`], [`head_at`]; [`check_body`] |
 //! | refs | the references of a container: [`refs_of`], [`ref_at`], [`read_refs`] |
 //! | extents | [`Extents`], what objects take together, by rule 31 |
@@ -44,6 +45,7 @@ mod head;
 mod laws;
 mod leaf;
 mod leaf_laws;
+mod marker;
 mod numbers;
 mod offset_reader;
 mod offsets;

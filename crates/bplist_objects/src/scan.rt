@@ -4,14 +4,15 @@
 //! searched block by block: the offset table (rule 13), texts of one byte a unit (rule 18) and references (rule 20).
 
 ghost use Rattle.std.specs.Prelude.{◌≡◌, ◌<◌, IfOk, ◌+◌, ◌*◌, ◌≤◌, length, IsTrue, IfSome, MatchOption, is_err};
-ghost use Rattle.bplist_objects.specs.Prelude.{OnlyReads, frame_in, HonestlyIn, off, Gives, read_failed, IsObjectFault};
-ghost use Rattle.bplist_objects.specs.Prelude.{shape_rules, size_said, IsVisited, IsSafeVisit, Honestly, AreBelow};
-ghost use Rattle.bplist_objects.specs.Prelude.{IsFirstNotBelow};
+ghost use Rattle.bplist_objects.specs.Prelude.{OnlyReads, frame_in, HonestlyIn, off, Gives, read_failed};
+ghost use Rattle.bplist_objects.specs.Prelude.{IsObjectFault, shape_rules, IsVisited, IsSafeVisit};
+ghost use Rattle.bplist_objects.specs.Prelude.{Honestly, AreBelow, IsFirstNotBelow};
 
 use crate::fault::{ObjectFault, broken};
 use crate::frame::ObjectNo;
 use crate::framed::Framed;
 use crate::head::{Head, ends_before_table, head_by_marker, marker_at};
+use crate::marker::size_said;
 use crate::numbers::{BLOCK_BYTES, FEW, FEW_BYTES, Width, part_of};
 use crate::rule::Rule;
 use bplist_octets::{ReadFault, Source, first_high, sized};
@@ -31,41 +32,6 @@ pub enum Visit {
     Done(u64),
     /// The head of any other object. Its body is not checked yet.
     Body(Head),
-}
-
-/// For each marker, the size in bytes of an object that begins with it, if the marker gives the size and no rule is
-/// about the body, and 0 otherwise. Each row has the markers of one high half. The last has those of the high halves
-/// from 7 on.
-static SIZES: [u8; 256] = [
-    // Null, False and True.
-    1, 0, 0, 0, 0, 0, 0, 0, 1, 1, 0, 0, 0, 0, 0, 0,
-    // Int.
-    2, 3, 5, 9, 17, 0, 0, 0, 0, 0, 0, 0, 0, 0, 0, 0,
-    // Real.
-    0, 0, 5, 9, 0, 0, 0, 0, 0, 0, 0, 0, 0, 0, 0, 0,
-    // Date.
-    0, 0, 0, 9, 0, 0, 0, 0, 0, 0, 0, 0, 0, 0, 0, 0,
-    // Bytes. If the low half is 15, the count follows the marker.
-    1, 2, 3, 4, 5, 6, 7, 8, 9, 10, 11, 12, 13, 14, 15, 0,
-    // Ascii: rule 18 is about its body.
-    0, 0, 0, 0, 0, 0, 0, 0, 0, 0, 0, 0, 0, 0, 0, 0,
-    // Wide.
-    1, 3, 5, 7, 9, 11, 13, 15, 17, 19, 21, 23, 25, 27, 29, 0,
-    // No kind, or Uid, Array, Set and Dict: rules 19 and 20 are about their bodies.
-    0, 0, 0, 0, 0, 0, 0, 0, 0, 0, 0, 0, 0, 0, 0, 0, 0, 0, 0, 0, 0, 0, 0, 0, 0, 0, 0, 0, 0, 0, 0, 0,
-    0, 0, 0, 0, 0, 0, 0, 0, 0, 0, 0, 0, 0, 0, 0, 0, 0, 0, 0, 0, 0, 0, 0, 0, 0, 0, 0, 0, 0, 0, 0, 0,
-    0, 0, 0, 0, 0, 0, 0, 0, 0, 0, 0, 0, 0, 0, 0, 0, 0, 0, 0, 0, 0, 0, 0, 0, 0, 0, 0, 0, 0, 0, 0, 0,
-    0, 0, 0, 0, 0, 0, 0, 0, 0, 0, 0, 0, 0, 0, 0, 0, 0, 0, 0, 0, 0, 0, 0, 0, 0, 0, 0, 0, 0, 0, 0, 0,
-    0, 0, 0, 0, 0, 0, 0, 0, 0, 0, 0, 0, 0, 0, 0, 0,
-];
-
-/// Returns the size in bytes of an object with this marker, if the marker gives it and no rule is about the body.
-#[inline(always)]
-fn size_said(marker: u8) -> Option<u8>
-    ensures { result ≡ size_said marker }
-{
-    let size = SIZES[marker as usize];
-    if size == 0 { None } else { Some(size) }
 }
 
 /// Reads the marker of object `n` at `place`, and its count if its body has yet to be checked.

@@ -1,8 +1,8 @@
 use Rattle.std.proofs.Common.{refl, arith}
-use Rattle.bplist_objects.specs.declared.scan.TheConstants.{SIZES}
+use Rattle.bplist_objects.specs.declared.marker.TheConstants.{SIZES}
 use Rattle.bplist_objects.specs.Markers.{kind_at}
 use Rattle.bplist_objects.proofs.VisitLaws.{none_there, some_there}
-use Rattle.bplist_objects.proofs.scan.size_said.Goals as goal
+use Rattle.bplist_objects.proofs.marker.size_said.Goals as goal
 
 pub returns-then-size-eq0 : goal.returns-then-size-eq0
 unfolding kind_at
