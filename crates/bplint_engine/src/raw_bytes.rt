@@ -10,7 +10,7 @@ ghost use Rattle.bplint_engine.specs.Prelude.{Gives, Holds, Value, IsVouchedBy, 
 ghost use Rattle.bplint_engine.specs.Raw.{IsRawOf, IsSafeRaw, raw_word, IsPairedRaw, raw_in};
 ghost use Rattle.bplist_octets.specs.Octets.{part};
 ghost use Rattle.bplist_cert.specs.CheckedFile.{HonestlyChecked};
-ghost use Rattle.bplist_cursor.specs.Causes.{GivesRead};
+ghost use Rattle.bplist_cursor.specs.Causes.{GivesRead, read_failed as part_unread};
 ghost use Rattle.bplint_engine.specs.Streams.{IsCut, Puts, SendsAll};
 ghost use Rattle.bplist_objects.specs.declared.head.Kind.TheVariants.{Bytes};
 
@@ -119,7 +119,7 @@ pub(crate) fn read_characters<S: Source>(
     requires head { IsSafeBody (length checked.old.source.octets) head.now }
     requires within { from < head.now.count }
     requires room { 2 ≤ length buffer.old }
-    ensures reads { OnlyReadsFile (read_failed result) checked.old checked.new }
+    ensures reads { OnlyReadsFile (part_unread result) checked.old checked.new }
     ensures some { IfOk result (λ n. (0 < n) × (n ≤ length buffer.new) × (from + n ≤ head.now.count)) }
     ensures exact { GivesRead (λ n. HonestlyChecked checked.old (λ f _. IsCut (units_of f head.now) (from + n)
         × (take n buffer.new ≡ part (units_of f head.now) from n))) result }
