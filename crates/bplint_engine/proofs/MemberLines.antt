@@ -18,7 +18,7 @@ use Rattle.bplint_engine.specs.declared.ls.Members.{Members}
 use Rattle.bplint_engine.specs.declared.ls.Members.TheVariants.{Array, Set, Dict}
 use Rattle.bplint_lines.specs.Faults.{IsExcused}
 use Rattle.bplint_engine.proofs.LowerFaults.{unread_fault}
-use Rattle.bplint_engine.specs.Ls.{IsContainer, IsHeadFor, IsLeaf, first_lines, line_of_member, line_of_pair, listed, member_line, named_line}
+use Rattle.bplint_engine.specs.Ls.{IsContainer, IsHeadFor, IsLeaf, first_lines, item_name, line_of_member, line_of_pair, listed, member_line, named_line}
 use Rattle.bplint_lines.specs.MemberNames.{bracketed, index_name, key_name}
 use Rattle.bplint_lines.specs.OutputLines.{face_line}
 
@@ -63,6 +63,13 @@ set_member n i (set vs) is l =
     let there = item_there vs n i is l in
     (there.0, there.1, λ path. ap (line_of_member (bracketed i)) there.1)
 set_member n i _ is l = absurd is
+
+-- a member of an array or set, and its line
+pub item_member : (members : Members) (n i : ℕ) (w : Value) → IsContainer members n w → (members ≡ Dict → ⊥) → i < n
+    → (m : Value) × (member_of w i ≡ Some m) × ((path : List ℕ) → member_line path w i ≡ named_line (item_name members path i) m)
+item_member Array n i w is item l = array_member n i w is l
+item_member Set n i w is item l = set_member n i w is l
+item_member Dict n i w is item l = absurd (item refl)
 
 -- a pair of a dictionary, and its line
 pub dict_member : (n i : ℕ) (w : Value) → IsContainer Dict n w → i < n

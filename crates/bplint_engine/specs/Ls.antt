@@ -36,6 +36,11 @@ IsHeadFor checked head w =
 abbrev pub named_line : List ℕ → Value → List ℕ
 named_line name w = name ++ codes "\t" ++ found_line (Ok w)
 
+-- the name of member i of an array or set
+abbrev pub item_name : Members → List ℕ → ℕ → List ℕ
+item_name Array path i = index_name path i
+item_name _ path i = bracketed i
+
 -- the line of a member, or no bytes if there is no member
 abbrev pub line_of_member : List ℕ → Option Value → List ℕ
 line_of_member name None = []

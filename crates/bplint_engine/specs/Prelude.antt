@@ -2,7 +2,7 @@
 pub use Rattle.bplist_octets.specs.Meaning.{OnlyReads}
 pub use Rattle.bplist_objects.specs.Holds.{Holds}
 pub use Rattle.bplist_objects.specs.Safe.{IsSafeFrame, IsSafeHead}
-pub use Rattle.bplist_objects.specs.Value.{Value}
+pub use Rattle.bplist_objects.specs.Value.{Value, leaf, text}
 pub use Rattle.bplist_cert.specs.CertifiedFile.{IsVouchedFor}
 pub use Rattle.bplist_cert.specs.Encoding.{octets_of}
 pub use Rattle.bplist_cert.specs.Lists.{IsCertificate, Lists}
@@ -26,7 +26,7 @@ pub use Rattle.bplint_engine.specs.Get.{LinesSay, answer_fault, found_line, repl
 pub use Rattle.bplint_engine.specs.Hexadecimal.{spelled}
 pub use Rattle.bplint_engine.specs.Least.{IsLeastFor}
 pub use Rattle.bplint_engine.specs.Lint.{LintSays}
-pub use Rattle.bplint_engine.specs.Ls.{IsContainer, IsHeadFor, IsLeaf, first_lines, listed, member_line}
+pub use Rattle.bplint_engine.specs.Ls.{IsContainer, IsHeadFor, IsLeaf, first_lines, item_name, listed, member_line}
 pub use Rattle.bplint_engine.specs.Output.{Answers, IsRefusal, Sends, is_read}
 pub use Rattle.bplint_engine.specs.PathTexts.{IsWrongAmong, OnPath}
 pub use Rattle.bplint_engine.specs.Print.{NodeSays, PathSays, PrintSays}

@@ -2,11 +2,11 @@
 //! takes the kinds of members and the values of lines from here.
 
 ghost use Rattle.std.specs.Prelude.{◌≡◌, ◌∷◌, [], ◌*◌, ◌^◌, ◌<◌, Ok, IfSome, IsTrue, MatchOption, ◌++◌, OnOk, Some};
-ghost use Rattle.std.specs.Prelude.{codes};
+ghost use Rattle.std.specs.Prelude.{codes, ℕ, IfOk, List};
 ghost use Rattle.bplint_engine.specs.Prelude.{OnlyReads, Holds, Value, IsVouchedBy, OnlyReadsFile, look};
 ghost use Rattle.bplint_engine.specs.Prelude.{face as face_of, HasRoom, Leaves, read_failed, Answers, Gives, said_of};
 ghost use Rattle.bplint_engine.specs.Prelude.{IsContainer, IsLeaf, LinesSay, LintSays, listed, IsSafeHead, member_of};
-ghost use Rattle.bplint_engine.specs.Prelude.{IsHeadFor, first_lines, member_line, face_line};
+ghost use Rattle.bplint_engine.specs.Prelude.{IsHeadFor, first_lines, item_name, member_line, face_line, leaf, text};
 
 use crate::certify::checked_by_lint;
 use crate::get::path_in;
@@ -133,7 +133,7 @@ fn list_path<S: Source>(
     }
 }
 
-/// Returns the lines for the value of a node. `text` is the path text that leads to it.
+/// Returns the lines for the value of a node. `path` is the path text that leads to it.
 fn lines_at<S: Source>(
     alloc: Global,
     checked: &mut Checked<S>,
@@ -147,19 +147,44 @@ fn lines_at<S: Source>(
 {
     let length = checked.len();
     let shown = face(alloc, checked, node)?;
-    let mut lines = Vec::new(alloc);
     let Some((members, count)) = members_of(&shown, length) else {
-        lines.extend_from_slice(path.as_bytes())?;
-        add_value(alloc, &shown, &mut lines)?;
-        return Ok(lines);
+        return Ok(line_of_leaf(alloc, path, &shown)?);
     };
+    let head = node_head(checked, node)?;
     let container = Container {
-        head: node_head(checked, node)?,
+        head,
         members,
         count,
         path,
     };
-    add_members(alloc, checked, &container, &mut lines)?;
+    lines_of_members(alloc, checked, &container)
+}
+
+/// Returns the line of a leaf with this path text and this face.
+fn line_of_leaf(alloc: Global, path: &str, shown: &Face) -> Result<Vec<u8>, AllocError>
+    ensures { IfOk result (λ line. line.items ≡ path.now ++ codes "\t" ++ face_line shown.now ++ codes "\n") }
+{
+    let mut line = Vec::new(alloc);
+    line.extend_from_slice(path.as_bytes())?;
+    add_value(alloc, shown, &mut line)?;
+    Ok(line)
+}
+
+/// Returns the lines of all members of a container, in order.
+fn lines_of_members<S: Source>(
+    alloc: Global,
+    checked: &mut Checked<S>,
+    container: &Container<'_>,
+) -> Result<Vec<u8>, RunFault>
+    requires head { IsSafeHead checked.old.frame container.now.head }
+    requires few { container.now.members ≡ Members.Dict → 2 * container.now.count < 2 ^ 64 }
+    ensures reads { OnlyReadsFile (read_failed result) checked.old checked.new }
+    ensures exact { IsTrue checked.old.source.honest → (w : Value) → IsHeadFor checked.old container.now.head w
+        → IsContainer container.now.members container.now.count w
+        → Gives (λ lines. lines.items ≡ listed container.now.path.now (Ok w)) result }
+{
+    let mut lines = Vec::new(alloc);
+    add_members(alloc, checked, container, &mut lines)?;
     Ok(lines)
 }
 
@@ -215,17 +240,44 @@ fn add_member<S: Source>(
         → Gives (λ _. lines.new.items ≡ lines.old.items ++ member_line container.now.path.now w i) result }
 {
     match container.members {
-        Members::Array => {
-            let shown = member_face(alloc, checked, &container.head, i)?;
-            add_index_name(alloc, container.path, i, lines)?;
-            Ok(add_value(alloc, &shown, lines)?)
-        }
-        Members::Set => {
-            let shown = member_face(alloc, checked, &container.head, i)?;
-            add_index(alloc, i, lines)?;
-            Ok(add_value(alloc, &shown, lines)?)
-        }
         Members::Dict => add_pair(alloc, checked, container, i, lines),
+        _ => add_item(alloc, checked, container, i, lines),
+    }
+}
+
+/// Adds the line of member `i` of an array or set.
+fn add_item<S: Source>(
+    alloc: Global,
+    checked: &mut Checked<S>,
+    container: &Container<'_>,
+    i: u64,
+    lines: &mut Vec<u8>,
+) -> Result<(), RunFault>
+    requires head { IsSafeHead checked.old.frame container.now.head }
+    requires item { container.now.members ≡ Members.Dict → ⊥ }
+    requires within { i < container.now.count }
+    ensures reads { OnlyReadsFile (read_failed result) checked.old checked.new }
+    ensures exact { IsTrue checked.old.source.honest → (w : Value) → IsHeadFor checked.old container.now.head w
+        → IsContainer container.now.members container.now.count w
+        → Gives (λ _. lines.new.items ≡ lines.old.items ++ member_line container.now.path.now w i) result }
+{
+    let shown = member_face(alloc, checked, &container.head, i)?;
+    add_item_name(alloc, container, i, lines)?;
+    Ok(add_value(alloc, &shown, lines)?)
+}
+
+/// Adds the name of member `i` of an array or set.
+fn add_item_name(
+    alloc: Global,
+    container: &Container<'_>,
+    i: u64,
+    lines: &mut Vec<u8>,
+) -> Result<(), AllocError>
+    ensures { OnOk result (lines.new.items ≡ lines.old.items ++ item_name container.now.members container.now.path.now i) }
+{
+    match container.members {
+        Members::Array => add_index_name(alloc, container.path, i, lines),
+        _ => add_index(alloc, i, lines),
     }
 }
 
@@ -246,13 +298,28 @@ fn add_pair<S: Source>(
         → IsContainer container.now.members container.now.count w
         → Gives (λ _. lines.new.items ≡ lines.old.items ++ member_line container.now.path.now w i) result }
 {
-    let key = member_face(alloc, checked, &container.head, 2 * i)?;
-    let Face::Text(units) = &key else {
-        return Err(RunFault::Changed);
-    };
+    let units = member_text(alloc, checked, &container.head, 2 * i)?;
     let shown = member_face(alloc, checked, &container.head, 2 * i + 1)?;
     add_key_name(alloc, container.path, i, units.as_slice(), lines)?;
     Ok(add_value(alloc, &shown, lines)?)
+}
+
+/// Returns the units of member `i` of the object with this head. The member is a text.
+pub(crate) fn member_text<S: Source>(
+    alloc: Global,
+    checked: &mut Checked<S>,
+    head: &Head,
+    i: u64,
+) -> Result<bplist_cursor::List<u16>, RunFault>
+    requires { IsSafeHead checked.old.frame head.now }
+    ensures reads { OnlyReadsFile (read_failed result) checked.old checked.new }
+    ensures exact { IsTrue checked.old.source.honest → (w : Value) (u : List ℕ) → IsHeadFor checked.old head.now w
+        → member_of w i ≡ Some (leaf (text u)) → Gives (λ units. units ≡ u) result }
+{
+    match member_face(alloc, checked, head, i)? {
+        Face::Text(units) => Ok(units),
+        _ => Err(RunFault::Changed),
+    }
 }
 
 /// Returns the face of member `i` of the object with this head.

@@ -13,7 +13,7 @@ ghost use Rattle.bplint_engine.specs.Streams.{Fails, Puts, SendsAll, begun};
 ghost use Rattle.bplint_engine.specs.Tree.{joined_lines, tree_lines};
 ghost use Rattle.bplint_engine.specs.TreeWalks.{AreOpen, GoesOn, IsKept, IsMemberAt, IsOpen, StackLeft};
 
-use crate::ls::{Members, add_value, member_face, members_of};
+use crate::ls::{Members, add_value, member_text, members_of};
 use crate::names::{Name, Names};
 use bplint_lines::RunFault;
 use bplist_cert::Checked;
@@ -259,10 +259,7 @@ fn name_value<S: Source>(
         result }
 {
     let i = opened.next;
-    let key = member_face(listing.alloc, checked, &opened.head, 2 * i)?;
-    let Face::Text(units) = &key else {
-        return Err(RunFault::Changed);
-    };
+    let units = member_text(listing.alloc, checked, &opened.head, 2 * i)?;
     let node = member_node(checked, &opened.head, 2 * i + 1)?;
     let name = listing
         .names
