@@ -13,7 +13,7 @@ use crate::body::head_at;
 use crate::fault::ObjectFault;
 use crate::frame::{Frame, ObjectNo};
 use crate::head::{Head, shape_at};
-use crate::offsets::{offset_of, read_offsets};
+use crate::offsets::read_offsets;
 use crate::refs::read_refs;
 use bplist_octets::{ReadFault, Source};
 
@@ -67,16 +67,6 @@ impl<S: Source> Framed for Plist<'_, S> {
     fn frame(&self) -> Frame {
         self.frame
     }
-}
-
-/// Returns the place of object `n`, as `offset_of` does.
-pub fn offset_in<P: Framed>(src: &mut P, n: ObjectNo) -> Result<u64, ReadFault>
-    requires { n.0 < (frame_in (P.means src.old)).objects }
-    ensures reads { OnlyReads (is_err result) (P.means src.old) (P.means src.new) }
-    ensures value { HonestlyIn (P.means src.old) (λ f F. IfOk result (λ place. place ≡ off f F n.0)) }
-{
-    let frame = src.frame();
-    offset_of(src, &frame, n)
 }
 
 /// Fills `into` with the places of the objects from number `from` on, as `read_offsets` does.

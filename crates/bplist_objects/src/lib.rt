@@ -58,9 +58,7 @@ pub use body::{check_body, head_at, head_of};
 pub use extents::Extents;
 pub use fault::{Failure, Fault, ObjectFault};
 pub use frame::{Frame, ObjectNo, frame_of, trailer_of};
-pub use framed::{
-    Framed, Plist, head_in, offset_in, read_offsets_in, read_refs_in, ref_place, shape_in,
-};
+pub use framed::{Framed, Plist, head_in, read_offsets_in, read_refs_in, ref_place, shape_in};
 pub use head::{Head, Kind, shape_at, shape_of};
 pub use laws::{
     fault_excludes, founded_has_no_circle, keeps_iff_frame, keeps_iff_spells, kept_iff_head,
