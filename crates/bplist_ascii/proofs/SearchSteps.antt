@@ -1,5 +1,5 @@
 -- The search for the first object without a form, step by step.
-use Rattle.std.proofs.Common.{◌≡◌, ◌<◌, ◌≤◌, ◌+◌, ◌%◌, inl, inr, ℕ, zero, suc, List, [], ◌∷◌, ◌++◌, arith, length, slice_index, slice_get, refl, sym, ap, ◌∙◌, subst, IsTrue, Option, Some, None}
+use Rattle.std.proofs.Common.{◌≡◌, ◌<◌, ◌+◌, inl, inr, ℕ, zero, suc, List, [], ◌∷◌, ◌++◌, arith, length, slice_index, slice_get, refl, sym, ap, ◌∙◌, subst, IsTrue, Option, Some, None}
 use Rattle.std.proofs.Props.{props}
 use Rattle.std.specs.Prelude.{option_map, option_and_then, MatchOption}
 use Rattle.std.specs.List.{AllByRecursion}
@@ -25,7 +25,7 @@ use Rattle.bplist_cursor.specs.Found.{IsHeld}
 use Rattle.bplist_cursor.specs.Members.{HoldsMember, member_of, member_reference, named, node_of, members}
 use Rattle.bplist_cursor.proofs.Membership.{in_turn, held_members}
 use Rattle.bplist_ascii.specs.Walks.{IsContainer, IsOfKind}
-use Rattle.bplist_ascii.specs.FormlessSearch.{first_value_of, HaveForms, HasSameFormless}
+use Rattle.bplist_ascii.specs.FormlessSearch.{HaveForms, HasSameFormless}
 use Rattle.bplist_ascii.proofs.WalkSteps.{IsMember, held_some, held_none}
 
 -- a form says whether there is a text
@@ -69,54 +69,17 @@ all_have kinds.Dict (dict ps) i o end texts e = pairs_have i ps end texts (no_ma
 all_have _ _ i o end texts e = absurd o
 
 -- a key has a text
-key_has : (j : ℕ) (ps : Pairs) (w : Value) → j % 2 ≡ 0 → slice_get (in_turn ps) j ≡ Some w → value_text w ≡ None → ⊥
-key_has j no_pairs w even is e = cc is
-key_has zero (pair u v ps) w even is e =
+key_has : (u : List ℕ) (w : Value) → Some (leaf (text u)) ≡ Some w → value_text w ≡ None → ⊥
+key_has u w is e =
     let same : leaf (text u) ≡ w = cc is in
     let none : Some (text_of_units u) ≡ None = ap value_text same ∙ e in
     cc none
-key_has (suc zero) (pair u v ps) w even is e = absurd (omega (arith, even))
-key_has (suc (suc j)) (pair u v ps) w even is e = key_has j ps w (omega (arith, even)) is e
 
--- the search skips keys: the next member has the next number, and in a dictionary the next but one
-abbrev pub Passes : Kind → ℕ → ℕ → Type 0
-Passes kinds.Dict i distance = (i % 2 ≡ 1) × (distance ≡ 2)
-Passes _ i distance = distance ≡ 1
-
-pub passes_start : (k : Kind) → Passes k (first_value_of k).0 (first_value_of k).1
-passes_start kinds.Dict = (refl, refl)
-passes_start _ = refl
-
-pub starts_low : (k : Kind) (n : ℕ) → (first_value_of k).0 ≤ n + 1
-starts_low kinds.Dict n = omega arith
-starts_low _ n = omega arith
-
-pub passes_on : (k : Kind) (i distance : ℕ) → Passes k i distance → Passes k (i + distance) distance
-passes_on kinds.Dict i distance (odd, p) = (omega (arith, odd, p), p)
-passes_on _ i distance p = p
-
-pub passes_few : (k : Kind) (i distance : ℕ) → Passes k i distance → (1 ≤ distance) × (distance ≤ 2)
-passes_few kinds.Dict i distance (odd, p) = (omega (arith, p), omega (arith, p))
-passes_few _ i distance p = (omega (arith, p), omega (arith, p))
-
-pub texts_start : (k : Kind) (v : Value) → IsOfKind k v → HaveForms v (first_value_of k).0
-texts_start kinds.Array (array vs) o j l w is e = absurd (omega (arith, l))
-texts_start kinds.Dict (dict ps) o j l w is e = key_has j ps w (omega (arith, l)) is e
-texts_start _ _ o j l w is e = absurd o
-
-pub texts_more : (k : Kind) (v : Value) (i distance : ℕ) → IsOfKind k v → Passes k i distance → HaveForms v i → ((w : Value) → member_of v i ≡ Some w → value_text w ≡ None → ⊥) → HaveForms v (i + distance)
-texts_more kinds.Array (array vs) i distance o p texts here j l w is e = elim (cases_lt j i) [
+pub texts_more : (v : Value) (i : ℕ) → HaveForms v i → ((w : Value) → member_of v i ≡ Some w → value_text w ≡ None → ⊥) → HaveForms v (i + 1)
+texts_more v i texts here j l w is e = elim (cases_lt j i) [
   | inl below ↦ texts j below w is e
-  | inr above ↦ here w (ap (slice_get (members vs)) (omega (arith, above, l, p)) ∙ is) e
+  | inr above ↦ here w (ap (member_of v) (omega (arith, above, l)) ∙ is) e
 ]
-texts_more kinds.Dict (dict ps) i distance o (odd, p) texts here j l w is e = elim (cases_lt j i) [
-  | inl below ↦ texts j below w is e
-  | inr above ↦ elim (cases_lt i j) [
-    | inl behind ↦ key_has j ps w (omega (arith, behind, l, p, odd)) is e
-    | inr same ↦ here w (ap (slice_get (in_turn ps)) (omega (arith, above, same)) ∙ is) e
-  ]
-]
-texts_more _ _ i distance o p texts here j l w is e = absurd o
 
 module _ (f : List ℕ) (F : Frame) where
   -- what an object holds whose kind is a container's
@@ -177,7 +140,7 @@ module _ (f : List ℕ) (F : Frame) where
   first_of_pairs i [] ms ps node w e is texts none x h = cc e
   first_of_pairs i (k ∷ ks) [] ps node w e is texts none x h = cc e
   first_of_pairs i (k ∷ ks) (m ∷ ms) no_pairs node w e is texts none x h = cc is
-  first_of_pairs zero (k ∷ ks) (m ∷ ms) (pair u v ps) node w e is texts none x h = absurd (key_has 0 (pair u v ps) w refl is none)
+  first_of_pairs zero (k ∷ ks) (m ∷ ms) (pair u v ps) node w e is texts none x h = absurd (key_has u w is none)
   first_of_pairs (suc zero) (k ∷ ks) (m ∷ ms) (pair u v ps) node w e is texts none x h =
       let same : v ≡ w = cc is in
       match_none _ (value_text v) (ap value_text same ∙ none) (at_member m node v w x e is h)
@@ -216,7 +179,7 @@ all_members P (Content.dict ks ms) i node a e = let r = all_parts P ks ms a in a
 
 module _ (checked : CheckedFile) (head : Head) (n : ℕ) (v : Value) (held : IsHeld checked n v)
     (shown : (c : Content) → Spells checked.source.octets checked.frame n c → c ≡ content_at checked.source.octets checked.frame head) (container : IsContainer head.kind) where
-  pub kind_is : IsOfKind head.kind v
+  kind_is : IsOfKind head.kind v
   kind_is = of_kind checked.source.octets checked.frame head.kind head.count head.body n v container shown held.1
 
   member_is : (i : ℕ) (member : Option Node) → IsMember checked head i member → HoldsMember checked.source.octets checked.frame (member_of v i) member

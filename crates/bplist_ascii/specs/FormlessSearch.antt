@@ -1,18 +1,11 @@
 -- The search for the first object whose kind has no form. Source: profile.
 use Rattle.std.specs.Prelude.{◌≡◌, ℕ, ◌<◌, Some, None}
-use Rattle.bplist_objects.specs.declared.head.Kind.{Kind}
-use Rattle.bplist_objects.specs.declared.head.Kind.TheVariants as kinds
 use Rattle.bplist_objects.specs.Value.{Value}
 use Rattle.bplist_cert.specs.CheckedFile.{CheckedFile}
 use Rattle.bplist_cursor.specs.Found.{IsHeld}
 use Rattle.bplist_cursor.specs.Members.{member_of}
 use Rattle.bplist_cursor.specs.OldStyle.{value_text}
 use Rattle.bplist_cursor.specs.Formless.{IsFormless}
-
--- the number of the first member that is not a key, and the distance to the next such member
-abbrev pub first_value_of : Kind → ℕ × ℕ
-first_value_of kinds.Dict = (1, 2)
-first_value_of _ = (0, 1)
 
 -- the members before number i have texts
 abbrev pub HaveForms : Value → ℕ → Type 0

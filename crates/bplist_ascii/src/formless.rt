@@ -4,7 +4,6 @@ ghost use Rattle.std.specs.Prelude.{◌≡◌, ◌↔◌, ◌<◌, ℕ, Some, No
 ghost use Rattle.bplist_ascii.specs.Prelude.{HonestlyChecked, Value, Content, Spells, content_at, Holds, IsSafeHead};
 ghost use Rattle.bplist_ascii.specs.Prelude.{IsVouchedBy, GivesRead, read_failed, OnlyReadsFile, AreMeasures, form_in};
 ghost use Rattle.bplist_ascii.specs.Prelude.{NoForm, value_text, IsFormless, IsHeld, IsContainer, HasSameFormless};
-ghost use Rattle.bplist_ascii.specs.Prelude.{first_value_of};
 
 use bplist_cert::Checked;
 use bplist_cursor::{Form, Measures, Node, Unread, member_by_head, node_head};
@@ -18,17 +17,7 @@ fn has_no_form(measures: &Measures, n: ObjectNo) -> bool
     matches!(measures.form(n), Some(Form::NoForm))
 }
 
-/// Returns the number of the first member that is not a key, and the distance to the next such member.
-fn first_value(kind: Kind) -> (u64, u64)
-    ensures { result ≡ first_value_of kind }
-{
-    match kind {
-        Kind::Dict => (1, 2),
-        _ => (0, 1),
-    }
-}
-
-/// Returns the first member of a container whose value has no text. Skips keys, since every key has a text.
+/// Returns the first member of a container whose value has no text.
 fn first_without_text<S: Source>(
     checked: &mut Checked<S>,
     measures: &Measures,
@@ -44,13 +33,13 @@ fn first_without_text<S: Source>(
         → GivesRead (λ node. HasSameFormless checked.old n v node.object.0 × (slice_index checked.old.certificate.heights node.object.0
         < slice_index checked.old.certificate.heights n)) result) }
 {
-    let (mut i, distance) = first_value(head.kind);
     let _bounds = (checked.frame(), head.end);
+    let mut i = 0u64;
     while let Some(node) = member_by_head(checked, head, i)? {
         if has_no_form(measures, node.object) {
             return Ok(node);
         }
-        i += distance;
+        i += 1;
     }
     Err(Unread::Changed)
 }

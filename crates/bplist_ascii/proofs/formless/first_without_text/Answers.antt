@@ -1,23 +1,15 @@
 use Rattle.std.proofs.Common.{rules, arith, ◌≡◌, refl, sym, ap, ◌∙◌, subst, Some}
 use Rattle.std.proofs.lemmas.Result.{err_from_is_err_and}
-use Rattle.bplist_objects.specs.Safe.{ref_count}
 use Rattle.bplist_cursor.specs.declared.sizes.Form.TheVariants.{NoForm}
 use Rattle.bplist_cursor.specs.OldStyle.{value_text}
 use Rattle.bplist_cursor.specs.Forms.{form_of, form_of_text}
 use Rattle.bplist_cursor.proofs.StepReferences.{content_of_value}
 use Rattle.bplist_ascii.proofs.WalkSteps.{IsMember, none_from}
-use Rattle.bplist_ascii.proofs.SearchSteps.{no_text_of, passes_start, starts_low, passes_on, passes_few, texts_start, texts_more, kind_is, has_text, not_all, leads}
+use Rattle.bplist_ascii.proofs.SearchSteps.{no_text_of, texts_more, has_text, not_all, leads}
 use Rattle.bplist_ascii.proofs.formless.first_without_text.Goals as goal
 
 pub loop-node-init : goal.loop-node-init
-loop-node-init g c =
-    let head = c.args.head.now in
-    rw c.first_value-i.ensures (record {
-      same = refl;
-      passes = passes_start head.kind;
-      near = starts_low head.kind (ref_count head.kind head.count);
-      so_far = λ honest n v held shown. texts_start head.kind v (kind_is c.args.checked.now head n v held shown c.requires.container);
-    })
+loop-node-init g c = record { same = refl; near = omega arith; so_far = λ honest n v held shown j l. absurd (omega (arith, l)) }
 
 pub returns-in_err-node-clause-exact : goal.returns-in_err-node-clause-exact
 returns-in_err-node-clause-exact g c = λ honest n v held none shown.
@@ -41,18 +33,14 @@ returns-then-has_no_form-clause-exact g c = λ honest n v held none shown.
 pub loop-node-preserved : goal.loop-node-preserved
 loop-node-preserved g c = record {
   same = search rules;
-  passes = passes_on c.args.head.now.kind c.loop-node.i c.first_value-i.result.1 c.loop-node.invariant.passes;
-  near =
-      let within = rw c.in-Some.is at c.in_ok-node.ensures.within in
-      let few = passes_few c.args.head.now.kind c.loop-node.i c.first_value-i.result.1 c.loop-node.invariant.passes in
-      omega (arith, within, few.1);
+  near = let within = rw c.in-Some.is at c.in_ok-node.ensures.within in omega (arith, within);
   so_far = λ honest n v held shown.
       let file = c.args.checked.now in
       let head = c.args.head.now in
       let node = c.in-Some.node in
       let member = subst (IsMember file head c.loop-node.i) c.in-Some.is ((rw c.loop-node.invariant.same at c.in_ok-node.ensures.reference) honest) in
       let vouched = rw (c.in-Some.is, c.loop-node.invariant.same) at c.in_ok-node.ensures.vouched in
-      texts_more head.kind v c.loop-node.i c.first_value-i.result.1 (kind_is file head n v held shown c.requires.container) c.loop-node.invariant.passes (c.loop-node.invariant.so_far honest n v held shown)
+      texts_more v c.loop-node.i (c.loop-node.invariant.so_far honest n v held shown)
       (has_text file head n v held shown c.requires.container c.loop-node.i node member
       (λ w h none. let e = c.if-has_no_form.ensures.1 ((c.requires.measured honest).form node.object.0 w vouched h ∙ ap (λ t. Some (form_of_text t)) none) in cc e));
 }
