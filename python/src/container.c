@@ -3,23 +3,67 @@
 
 #include <structmember.h>
 
-PyObject *class_of(State *state, uint32_t kind)
+int references_of(const bplist_body *body, References *out)
+{
+    uint64_t count;
+
+    out->place = body->place;
+    out->count = body->count;
+    out->width = 0;
+    out->is_dict = body->kind == BPLIST_DICT;
+    if (body->count == 0)
+        return 0;
+    /* Only a file that was changed has other lengths. */
+    if (body->count > body->length)
+        return raise_changed();
+    count = reference_count(out);
+    if (body->length % count != 0 || body->length / count > sizeof(uint64_t))
+        return raise_changed();
+    out->width = (uint8_t)(body->length / count);
+    return 0;
+}
+
+int member_at(Container *container, uint64_t i, uint32_t *out)
+{
+    const References *references = &container->references;
+    Handle *plist = container->plist;
+    uint64_t object;
+
+    if (handle_ready(plist) < 0)
+        return -1;
+    if (i >= reference_count(references))
+        return raise_status(BPLIST_NO_MEMBER);
+    if (references->is_dict)
+        i = i / 2 + (i % 2 == 0 ? 0 : references->count);
+    object = reference_at(references, plist->source.file, i);
+    if (object >= plist->objects)
+        return raise_changed();
+    *out = (uint32_t)object;
+    return 0;
+}
+
+/* Returns the class of containers of a kind. */
+static PyObject *class_of(State *state, uint32_t kind)
 {
     if (kind == BPLIST_ARRAY)
         return state->held[ARRAY];
     return state->held[kind == BPLIST_SET ? SET : DICT];
 }
 
-PyObject *container_new(PyObject *class, Handle *plist, uint32_t object, uint64_t count)
+PyObject *container_new(Handle *plist, uint32_t object, const bplist_body *body)
 {
-    Container *self = instance_of(class);
+    References references;
+    Container *self;
 
+    if (references_of(body, &references) < 0)
+        return NULL;
+    self = instance_of(class_of(plist->state, body->kind));
     if (self == NULL)
         return NULL;
     Py_INCREF(plist);
     self->plist = plist;
+    self->references = references;
     self->object = object;
-    self->count = count;
     return (PyObject *)self;
 }
 
@@ -42,7 +86,7 @@ static void container_dealloc(PyObject *object)
 
 static Py_ssize_t container_length(PyObject *object)
 {
-    return (Py_ssize_t)((Container *)object)->count;
+    return (Py_ssize_t)((Container *)object)->references.count;
 }
 
 static PyObject *member_of(PyObject *object, PyObject *number)
@@ -53,7 +97,7 @@ static PyObject *member_of(PyObject *object, PyObject *number)
 
     if (asked == (unsigned long long)-1 && PyErr_Occurred())
         return NULL;
-    if (handle_members(self->plist, self->object, asked, &member, 1) < 0)
+    if (member_at(self, asked, &member) < 0)
         return NULL;
     return handle_value(self->plist, member);
 }

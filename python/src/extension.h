@@ -50,25 +50,36 @@ typedef struct Handle {
     State *state;
     Source source;
     bplist_handle handle;
-    /* The number of objects in the file, and the number of the top. */
+    /* The number of objects in the file, and the number of those that the top reaches, or 0 if it is not known. */
     uint64_t objects;
+    uint64_t reached;
     uint32_t top;
     /* True during a call that has released the GIL. That call holds the lock. */
     int is_busy;
     PyThread_type_lock lock;
 } Handle;
 
-/* A container of a property list. `count` is its number of members, or of pairs for a dictionary. */
+/* The references of a container: from `place` on in the file, each `width` bytes long, big-endian. `count` is its number of
+   members, or of pairs for a dictionary, which has first its keys and then its values. */
+typedef struct References {
+    uint64_t place;
+    uint64_t count;
+    uint8_t width;
+    uint8_t is_dict;
+} References;
+
+/* A container of a property list. */
 typedef struct Container {
     PyObject_HEAD
     Handle *plist;
-    unsigned long long count;
+    References references;
     unsigned int object;
 } Container;
 
 /* module.c */
 
-/* Makes an object of a type. It is all zeros after its head. */
+/* Makes an object of a type, with room for so many items. It is all zeros after its head. */
+void *instance_with(PyObject *type, Py_ssize_t items);
 void *instance_of(PyObject *type);
 
 /* faults.c: exceptions. Functions that raise return -1. */
@@ -116,14 +127,13 @@ PyThreadState *handle_begin(Handle *self);
 void handle_end(Handle *self, PyThreadState *thread);
 /* Measures the value of an object. Releases the GIL. */
 int handle_sizes(Handle *self, uint32_t object, bplist_sizes *out);
-/* Gives the kind of an object, and its body, which is inside the file. */
-int handle_face(Handle *self, uint32_t object, bplist_body *out);
-/* Gives the same for each of these objects. */
+/* Gives the kind of each of these objects, and its body, which is inside the file. The kind is 0 if the top does not reach
+   the object. */
 int handle_faces(Handle *self, const uint32_t *objects, size_t count, bplist_body *out);
-/* Gives the members of a container from number `from` on. Returns their number, 1 to `room`, or -1. */
-Py_ssize_t handle_members(Handle *self, uint32_t object, uint64_t from, uint32_t *objects, size_t room);
 /* Returns a leaf, or a container that is read on access. */
 PyObject *handle_value(Handle *self, uint32_t object);
+/* Returns the same of an object with this body. */
+PyObject *handle_value_of(Handle *self, uint32_t object, const bplist_body *body);
 
 /* methods.c */
 
@@ -137,9 +147,38 @@ static inline int is_container(uint32_t kind)
     return kind >= BPLIST_ARRAY;
 }
 
-/* Returns the class of containers of a kind. */
-PyObject *class_of(State *state, uint32_t kind);
-PyObject *container_new(PyObject *class, Handle *plist, uint32_t object, uint64_t count);
+/* Gives the references of a container with this body. */
+int references_of(const bplist_body *body, References *out);
+
+static inline uint64_t reference_count(const References *references)
+{
+    return references->is_dict ? 2 * references->count : references->count;
+}
+
+/* Gives reference `i` of a container in this file, in the order of the file. */
+static inline uint64_t reference_at(const References *references, const uint8_t *file, uint64_t i)
+{
+    const uint8_t *at = file + references->place + i * references->width;
+    uint64_t object = 0;
+
+    switch (references->width) {
+    case 1:
+        return at[0];
+    case 2:
+        return (uint64_t)at[0] << 8 | at[1];
+    case 4:
+        return (uint64_t)at[0] << 24 | (uint64_t)at[1] << 16 | (uint64_t)at[2] << 8 | at[3];
+    default:
+        for (int k = 0; k < references->width; k++)
+            object = object << 8 | at[k];
+        return object;
+    }
+}
+
+/* Gives the object of member `i` of an open container. In a dictionary member 2j is key j, and member 2j + 1 is value j. */
+int member_at(Container *container, uint64_t i, uint32_t *out);
+/* Returns the container of this body. */
+PyObject *container_new(Handle *plist, uint32_t object, const bplist_body *body);
 
 /* members.c */
 
@@ -156,8 +195,8 @@ PyObject *date_of(State *state, double seconds);
 
 /* leaf.c */
 
-/* Returns the value of a leaf. */
-PyObject *leaf_of(Handle *self, uint32_t object, const bplist_body *body);
+/* Returns the value of a leaf of this file. */
+PyObject *leaf_of(State *state, const Source *source, const bplist_body *body);
 
 /* tree.c */
 

@@ -87,6 +87,7 @@ PyObject *handle_open(State *state, PyObject *class, PyObject *owner, PyObject *
     }
     self->top = verdict.top;
     self->objects = verdict.objects;
+    self->reached = verdict.reached;
     return (PyObject *)self;
 }
 
@@ -116,17 +117,6 @@ static inline int is_inside(const bplist_body *body, const Source *source)
     return body->length <= source->length && body->place <= source->length - body->length;
 }
 
-int handle_face(Handle *self, uint32_t object, bplist_body *out)
-{
-    const Source *source = &self->source;
-
-    if (handle_ready(self) < 0)
-        return -1;
-    if (expect(bplist_face(&self->handle, source->file, source->length, object, out)) < 0)
-        return -1;
-    return is_inside(out, source) ? 0 : raise_changed();
-}
-
 int handle_faces(Handle *self, const uint32_t *objects, size_t count, bplist_body *out)
 {
     const Source *source = &self->source;
@@ -136,35 +126,31 @@ int handle_faces(Handle *self, const uint32_t *objects, size_t count, bplist_bod
         return -1;
     if (expect(bplist_faces(&self->handle, source->file, source->length, objects, count, out, count, &given)) < 0)
         return -1;
-    for (uint64_t i = 0; i < given; i++) {
-        if (out[i].kind == 0)
-            return raise_status(BPLIST_NO_OBJECT);
+    for (uint64_t i = 0; i < given; i++)
         if (!is_inside(&out[i], source))
             return raise_changed();
-    }
     return given == count ? 0 : raise_changed();
 }
 
-Py_ssize_t handle_members(Handle *self, uint32_t object, uint64_t from, uint32_t *objects, size_t room)
+PyObject *handle_value_of(Handle *self, uint32_t object, const bplist_body *body)
 {
-    uint64_t count = 0;
-    bplist_status status;
-
-    if (handle_ready(self) < 0)
-        return -1;
-    status = bplist_members(&self->handle, self->source.file, self->source.length, object, from, objects, room, &count);
-    if (expect(status) < 0)
-        return -1;
-    return count > 0 ? (Py_ssize_t)count : raise_changed();
+    if (is_container(body->kind))
+        return container_new(self, object, body);
+    return leaf_of(self->state, &self->source, body);
 }
 
 PyObject *handle_value(Handle *self, uint32_t object)
 {
+    const Source *source = &self->source;
     bplist_body body;
 
-    if (handle_face(self, object, &body) < 0)
+    if (handle_ready(self) < 0)
         return NULL;
-    if (is_container(body.kind))
-        return container_new(class_of(self->state, body.kind), self, object, body.count);
-    return leaf_of(self, object, &body);
+    if (expect(bplist_face(&self->handle, source->file, source->length, object, &body)) < 0)
+        return NULL;
+    if (!is_inside(&body, source)) {
+        raise_changed();
+        return NULL;
+    }
+    return handle_value_of(self, object, &body);
 }

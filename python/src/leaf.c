@@ -45,11 +45,11 @@ static double real_of(const uint8_t *bytes, uint64_t length)
     return real;
 }
 
-/* Makes the integer of two halves in two's complement. */
-static PyObject *joined(bplist_integer halves)
+/* Makes an integer of 16 bytes in two's complement. */
+static PyObject *long_of(const uint8_t *bytes)
 {
-    PyObject *high = PyLong_FromLongLong((long long)halves.high);
-    PyObject *low = PyLong_FromUnsignedLongLong(halves.low);
+    PyObject *high = PyLong_FromLongLong((long long)number_of(bytes, 8));
+    PyObject *low = PyLong_FromUnsignedLongLong(number_of(bytes + 8, 8));
     PyObject *bits = PyLong_FromLong(64);
     PyObject *shifted = high && low && bits ? PyNumber_Lshift(high, bits) : NULL;
     PyObject *number = shifted ? PyNumber_Or(shifted, low) : NULL;
@@ -62,17 +62,9 @@ static PyObject *joined(bplist_integer halves)
 }
 
 /* Makes an integer. One of 1, 2 or 4 bytes is unsigned, one of 8 or 16 bytes is signed. */
-static PyObject *integer_of(Handle *self, uint32_t object, const uint8_t *bytes, uint64_t length)
+static PyObject *integer_of(const uint8_t *bytes, uint64_t length)
 {
-    bplist_integer number;
-
-    if (length <= sizeof number.low) {
-        number.low = number_of(bytes, length);
-        return PyLong_FromLongLong((long long)number.low);
-    }
-    if (expect(bplist_int(&self->handle, self->source.file, self->source.length, object, &number)) < 0)
-        return NULL;
-    return joined(number);
+    return length == 16 ? long_of(bytes) : PyLong_FromLongLong((long long)number_of(bytes, length));
 }
 
 /* Makes a UID without calling its __init__, which takes longer than everything else. Its __new__ makes room for the
@@ -136,9 +128,9 @@ static PyObject *wide_of(PyObject *owner, const uint8_t *bytes, size_t units)
     return text;
 }
 
-PyObject *leaf_of(Handle *self, uint32_t object, const bplist_body *body)
+PyObject *leaf_of(State *state, const Source *source, const bplist_body *body)
 {
-    const uint8_t *bytes = self->source.file + body->place;
+    const uint8_t *bytes = source->file + body->place;
     Py_ssize_t length = (Py_ssize_t)body->length;
 
     switch (body->kind) {
@@ -149,19 +141,19 @@ PyObject *leaf_of(Handle *self, uint32_t object, const bplist_body *body)
     case BPLIST_TRUE:
         Py_RETURN_TRUE;
     case BPLIST_INT:
-        return integer_of(self, object, bytes, body->length);
+        return integer_of(bytes, body->length);
     case BPLIST_UID:
-        return uid_of(self->state, bytes, body->length);
+        return uid_of(state, bytes, body->length);
     case BPLIST_REAL:
         return PyFloat_FromDouble(real_of(bytes, body->length));
     case BPLIST_DATE:
-        return date_of(self->state, real_of(bytes, body->length));
+        return date_of(state, real_of(bytes, body->length));
     case BPLIST_DATA:
         return PyBytes_FromStringAndSize((const char *)bytes, length);
     case BPLIST_ASCII:
         return PyUnicode_DecodeASCII((const char *)bytes, length, NULL);
     case BPLIST_WIDE:
-        return wide_of(self->source.owner, bytes, (size_t)length / 2);
+        return wide_of(source->owner, bytes, (size_t)length / 2);
     default:
         raise_changed();
         return NULL;

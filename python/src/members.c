@@ -1,37 +1,44 @@
 /* Iterators over the members of a container. */
 #include "extension.h"
 
-/* The number of references that one read takes. */
+/* The largest number of members that are read at once. */
 #define BLOCK 32
 
 typedef struct Members {
-    PyObject_HEAD
+    PyObject_VAR_HEAD
     /* NULL at the end. */
     Container *container;
-    /* The number of the next member, and that of the end. */
+    /* The number of the first member after the block, and that of the end. */
     uint64_t next;
     uint64_t end;
     /* The distance from a member to the one after it. */
     uint64_t step;
-    /* True if a member and the one after it are given as a pair. */
+    /* True if two members are given as a pair. */
     int is_paired;
-    /* The objects of the `read` members from number `from` on. */
-    uint64_t from;
-    uint64_t read;
-    uint32_t objects[BLOCK];
+    /* How many members the block has, and how many of them were given. */
+    size_t read;
+    size_t given;
+    /* The block: the bodies of the members. Their objects follow it, as uint32_t. Each has room for Py_SIZE members. */
+    bplist_body bodies[];
 } Members;
+
+static inline uint32_t *objects_of(Members *self)
+{
+    return (uint32_t *)(self->bodies + Py_SIZE(self));
+}
 
 static PyObject *members_new(Container *container, uint64_t first, uint64_t step, int is_paired)
 {
     State *state = container->plist->state;
-    Members *self = instance_of(state->held[MEMBERS]);
+    uint64_t count = reference_count(&container->references);
+    Members *self = instance_with(state->held[MEMBERS], count < BLOCK ? (Py_ssize_t)count : BLOCK);
 
     if (self == NULL)
         return NULL;
     Py_INCREF(container);
     self->container = container;
     self->next = first;
-    self->end = Py_IS_TYPE(container, (PyTypeObject *)state->held[DICT]) ? 2 * container->count : container->count;
+    self->end = count;
     self->step = step;
     self->is_paired = is_paired;
     return (PyObject *)self;
@@ -49,28 +56,46 @@ PyObject *members_from(PyObject *container, PyObject *arguments)
 PyObject *members_pairs(PyObject *container, PyObject *none)
 {
     (void)none;
-    return members_new((Container *)container, 0, 2, 1);
+    return members_new((Container *)container, 0, 1, 1);
 }
 
-/* The value of member `i`. */
-static PyObject *members_value(Members *self, Container *container, uint64_t i)
+/* Reads the next block. */
+static int members_read(Members *self, Container *container)
 {
-    if (i < self->from || i - self->from >= self->read) {
-        Py_ssize_t read = handle_members(container->plist, container->object, i, self->objects, BLOCK);
+    uint32_t *objects = objects_of(self);
+    size_t room = (size_t)Py_SIZE(self), count = 0;
+    uint64_t next = self->next;
 
-        if (read < 0)
-            return NULL;
-        self->from = i;
-        self->read = (uint64_t)read;
-    }
-    return handle_value(container->plist, self->objects[i - self->from]);
+    for (; count < room && next < self->end; next += self->step)
+        if (member_at(container, next, &objects[count++]) < 0)
+            return -1;
+    self->read = self->given = 0;
+    if (handle_faces(container->plist, objects, count, self->bodies) < 0)
+        return -1;
+    self->read = count;
+    self->next = next;
+    return 0;
 }
 
-static PyObject *members_pair(Members *self, Container *container, uint64_t i)
+static PyObject *members_value(Members *self, Container *container)
+{
+    bplist_body body;
+
+    /* Only this lets other threads run before the member is taken. */
+    if (handle_ready(container->plist) < 0)
+        return NULL;
+    if (self->given == self->read && (self->next >= self->end || members_read(self, container) < 0))
+        return NULL;
+    /* Making the value may run any code, which may go on with this iterator. */
+    body = self->bodies[self->given];
+    return handle_value_of(container->plist, objects_of(self)[self->given++], &body);
+}
+
+static PyObject *members_pair(Members *self, Container *container)
 {
     PyObject *pair = NULL;
-    PyObject *key = members_value(self, container, i);
-    PyObject *value = key ? members_value(self, container, i + 1) : NULL;
+    PyObject *key = members_value(self, container);
+    PyObject *value = key ? members_value(self, container) : NULL;
 
     if (value)
         pair = PyTuple_Pack(2, key, value);
@@ -83,17 +108,15 @@ static PyObject *members_next(PyObject *object)
 {
     Members *self = (Members *)object;
     Container *container = self->container;
-    uint64_t i = self->next;
     PyObject *given;
 
-    if (i >= self->end) {
+    if (self->given == self->read && self->next >= self->end) {
         Py_CLEAR(self->container);
         return NULL;
     }
-    /* Reading a member may run any code, which may end this iterator. */
+    /* Making a value may run any code, which may end this iterator. */
     Py_INCREF(container);
-    self->next = i + self->step;
-    given = self->is_paired ? members_pair(self, container, i) : members_value(self, container, i);
+    given = self->is_paired ? members_pair(self, container) : members_value(self, container);
     Py_DECREF(container);
     return given;
 }
@@ -133,6 +156,7 @@ static PyType_Slot slots[] = {
 PyType_Spec members_spec = {
     .name = "bplist._bplist.Members",
     .basicsize = sizeof(Members),
+    .itemsize = sizeof(bplist_body) + sizeof(uint32_t),
     .flags = Py_TPFLAGS_DEFAULT | Py_TPFLAGS_HAVE_GC | Py_TPFLAGS_DISALLOW_INSTANTIATION,
     .slots = slots,
 };

@@ -1,11 +1,16 @@
 /* The module bplist._bplist. */
 #include "extension.h"
 
-void *instance_of(PyObject *type)
+void *instance_with(PyObject *type, Py_ssize_t items)
 {
     allocfunc alloc = (allocfunc)PyType_GetSlot((PyTypeObject *)type, Py_tp_alloc);
 
-    return alloc((PyTypeObject *)type, 0);
+    return alloc((PyTypeObject *)type, items);
+}
+
+void *instance_of(PyObject *type)
+{
+    return instance_with(type, 0);
 }
 
 static PyObject *lint(PyObject *module, PyObject *owner)

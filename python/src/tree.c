@@ -1,41 +1,82 @@
-/* Builds trees like those of plistlib: dict, list and leaves. */
+/* Builds trees like those of plistlib: dict, list and leaves.
+
+   Objects are made in blocks, each object once. A container is made without members, and waits on a stack until its members
+   are made. After each block, containers are filled from the top of the stack down, as far as their members are made. Writers
+   number the members of a container shortly after it, so its members are then still in the processor's cache. At the end all
+   objects are made, and what still waits is filled. So each order of the objects gives the same tree. */
 #include "extension.h"
 
-/* The number of members that one read takes. It is even, because pairs have two. */
+/* The number of objects that one call of the library takes. */
 #define BLOCK 128
+/* Of an object that will be made, as it is a member of a container that is made. */
+#define WANTED ((PyObject *)1)
 
-/* A list or a dict that still needs its members. */
-typedef struct Empty {
+/* A list or a dict that needs members. */
+typedef struct Waiting {
+    References references;
     uint32_t object;
-    int is_dict;
-    /* The number of its members: two for each pair. */
-    uint64_t end;
-} Empty;
+    /* The number of members, or of pairs, that it has. */
+    uint64_t done;
+} Waiting;
+
+/* A stack of items of one size. */
+typedef struct Stack {
+    void *items;
+    size_t height;
+    size_t room;
+} Stack;
 
 typedef struct Tree {
     Handle *handle;
+    /* The bytes of the file, which the tree keeps alive. */
+    Source source;
     /* The root of the tree, and the largest number of nodes that the tree may have. */
     uint32_t object;
     uint64_t limit;
-    /* The number of nodes so far. If a container occurs twice, the library gives the number for the whole tree. */
+    /* The number of nodes so far, where no container occurs twice. */
     uint64_t nodes;
-    int is_measured;
-    /* By object number: what was built for the object, with a reference to it, or NULL. */
+    /* The number of containers, and how often one is the member of another. */
+    uint64_t containers;
+    uint64_t occurrences;
+    /* By object number: what was made for the object, with a reference to it, or WANTED, or NULL. */
     PyObject **made;
-    /* The stack of containers that need their members. */
-    Empty *empty;
-    size_t height;
-    size_t room;
+    /* True if all reachable objects belong to the tree. They are made in the order of their numbers, and `next` is the next. */
+    int is_whole;
+    uint64_t next;
+    /* Otherwise the wanted objects, as uint32_t. */
+    Stack wanted;
+    /* Of Waiting. */
+    Stack waiting;
 } Tree;
 
-/* Raises if the tree has too many nodes. Asks the library, once. */
+static inline int is_made(const PyObject *made)
+{
+    return made != NULL && made != WANTED;
+}
+
+/* Makes room for `more` items of this size. */
+static int stack_reserve(Stack *stack, size_t more, size_t size)
+{
+    size_t room = 2 * stack->room + more;
+    void *moved;
+
+    if (more <= stack->room - stack->height)
+        return 0;
+    moved = PyMem_Realloc(stack->items, room * size);
+    if (moved == NULL) {
+        PyErr_NoMemory();
+        return -1;
+    }
+    stack->items = moved;
+    stack->room = room;
+    return 0;
+}
+
+/* Raises if the tree has too many nodes, by the number that the library gives. */
 static int tree_measure(Tree *tree)
 {
     bplist_sizes sizes;
 
-    if (tree->is_measured)
-        return 0;
-    tree->is_measured = 1;
     if (handle_sizes(tree->handle, tree->object, &sizes) < 0)
         return -1;
     if (sizes.nodes <= tree->limit)
@@ -43,191 +84,245 @@ static int tree_measure(Tree *tree)
     return raise_fault("TooLarge", "(KK)", (unsigned long long)sizes.nodes, (unsigned long long)tree->limit);
 }
 
-static int tree_push(Tree *tree, const Empty *container)
+/* Wants these members, unless they are made or wanted. */
+static int want(Tree *tree, const References *references)
 {
-    if (tree->height == tree->room) {
-        size_t room = tree->room ? 2 * tree->room : 64;
-        Empty *moved = PyMem_Realloc(tree->empty, room * sizeof *moved);
+    uint64_t count = reference_count(references);
 
-        if (moved == NULL) {
-            PyErr_NoMemory();
-            return -1;
+    if (stack_reserve(&tree->wanted, (size_t)count, sizeof(uint32_t)) < 0)
+        return -1;
+    /* The first is then the top of the stack, since memory is read faster forwards. */
+    for (uint64_t i = count; i-- > 0;) {
+        uint64_t object = reference_at(references, tree->source.file, i);
+
+        if (object >= tree->handle->objects)
+            return raise_changed();
+        if (tree->made[object] == NULL) {
+            tree->made[object] = WANTED;
+            ((uint32_t *)tree->wanted.items)[tree->wanted.height++] = (uint32_t)object;
         }
-        tree->empty = moved;
-        tree->room = room;
     }
-    tree->empty[tree->height++] = *container;
+    return 0;
+}
+
+/* Lets a container wait for its members. */
+static int await(Tree *tree, uint32_t object, const bplist_body *body)
+{
+    Waiting container = {.object = object, .done = 0};
+
+    if (references_of(body, &container.references) < 0)
+        return -1;
+    tree->nodes += reference_count(&container.references);
+    if (tree->nodes > tree->limit && tree_measure(tree) < 0)
+        return -1;
+    if (!tree->is_whole && want(tree, &container.references) < 0)
+        return -1;
+    if (stack_reserve(&tree->waiting, 1, sizeof container) < 0)
+        return -1;
+    ((Waiting *)tree->waiting.items)[tree->waiting.height++] = container;
     return 0;
 }
 
 /* Makes the empty container of `body`, which is filled later. */
-static PyObject *tree_empty(Tree *tree, uint32_t object, const bplist_body *body)
+static PyObject *empty_of(Tree *tree, uint32_t object, const bplist_body *body)
 {
-    int is_dict = body->kind == BPLIST_DICT;
-    Empty container = {object, is_dict, is_dict ? 2 * body->count : body->count};
-    PyObject *value;
-
-    if (body->count > tree->handle->source.length) {
-        raise_changed();
+    tree->containers++;
+    if (body->count > 0 && await(tree, object, body) < 0)
         return NULL;
+    return body->kind == BPLIST_DICT ? PyDict_New() : PyList_New((Py_ssize_t)body->count);
+}
+
+/* Writes the numbers of the next objects to make. Returns how many. */
+static size_t next_block(Tree *tree, uint32_t *objects)
+{
+    size_t count = 0;
+
+    if (tree->is_whole) {
+        while (count < BLOCK && tree->next < tree->handle->objects)
+            objects[count++] = (uint32_t)tree->next++;
+        return count;
     }
-    value = is_dict ? PyDict_New() : PyList_New((Py_ssize_t)body->count);
-    if (value && body->count > 0 && tree_push(tree, &container) < 0)
-        Py_CLEAR(value);
-    return value;
+    while (count < BLOCK && tree->wanted.height > 0)
+        objects[count++] = ((uint32_t *)tree->wanted.items)[--tree->wanted.height];
+    return count;
 }
 
-/* Takes note that a value occurs again. If it is a container, the tree has more nodes than were counted. */
-static int tree_again(Tree *tree, PyObject *made)
+/* Makes the next objects. Returns how many, or -1. */
+static int make_block(Tree *tree)
 {
-    if (tree->is_measured || !(PyList_CheckExact(made) || PyDict_CheckExact(made)))
-        return 0;
-    return tree_measure(tree);
-}
-
-/* Makes the values of objects, and containers without their members. An object may occur twice. */
-static int tree_make(Tree *tree, const uint32_t *objects, size_t count)
-{
+    uint32_t objects[BLOCK];
     bplist_body bodies[BLOCK];
+    size_t count = next_block(tree, objects);
 
+    if (count == 0)
+        return 0;
     if (handle_faces(tree->handle, objects, count, bodies) < 0)
         return -1;
     for (size_t i = 0; i < count; i++) {
         const bplist_body *body = &bodies[i];
-        PyObject **made = &tree->made[objects[i]];
+        PyObject *value;
 
-        if (*made) {
-            if (tree_again(tree, *made) < 0)
-                return -1;
-            continue;
+        if (body->kind == 0) {
+            /* The top does not reach this object. */
+            if (tree->is_whole)
+                continue;
+            return raise_status(BPLIST_NO_OBJECT);
         }
-        /* Making a leaf may have run any code, which may have closed the property list. */
-        if (handle_ready(tree->handle) < 0)
+        value = is_container(body->kind) ? empty_of(tree, objects[i], body) : leaf_of(tree->handle->state, &tree->source, body);
+        if (value == NULL)
             return -1;
-        if (is_container(body->kind))
-            *made = tree_empty(tree, objects[i], body);
-        else
-            *made = leaf_of(tree->handle, objects[i], body);
-        if (*made == NULL)
+        tree->made[objects[i]] = value;
+    }
+    return (int)count;
+}
+
+/* Returns what was made for reference `i` of a container, a borrowed reference. Returns NULL if nothing is made yet, and NULL
+   with an exception set if there is no such object. */
+static inline PyObject *made_at(const Tree *tree, const References *references, uint64_t i)
+{
+    uint64_t object = reference_at(references, tree->source.file, i);
+
+    if (object >= tree->handle->objects) {
+        raise_changed();
+        return NULL;
+    }
+    return is_made(tree->made[object]) ? tree->made[object] : NULL;
+}
+
+/* Takes note of the first `done` members or pairs of a container. */
+static int filled(Waiting *waiting, uint64_t done)
+{
+    waiting->done = done;
+    return done < waiting->references.count && PyErr_Occurred() ? -1 : 0;
+}
+
+/* Fills a dict as far as its keys and values are made. */
+static int fill_dict(Tree *tree, Waiting *waiting)
+{
+    const References references = waiting->references;
+    PyObject *dict = tree->made[waiting->object];
+    uint64_t i;
+
+    for (i = waiting->done; i < references.count; i++) {
+        PyObject *key = made_at(tree, &references, i);
+        PyObject *value = key ? made_at(tree, &references, references.count + i) : NULL;
+
+        if (value == NULL)
+            break;
+        if (PyDict_SetItem(dict, key, value) < 0)
             return -1;
+        tree->occurrences += PyDict_CheckExact(value) || PyList_CheckExact(value);
+    }
+    return filled(waiting, i);
+}
+
+/* Fills a list as far as its members are made. */
+static int fill_list(Tree *tree, Waiting *waiting)
+{
+    const References references = waiting->references;
+    PyObject *list = tree->made[waiting->object];
+    uint64_t i;
+
+    for (i = waiting->done; i < references.count; i++) {
+        PyObject *value = made_at(tree, &references, i);
+
+        if (value == NULL)
+            break;
+        tree->occurrences += PyDict_CheckExact(value) || PyList_CheckExact(value);
+        Py_INCREF(value);
+        if (PyList_SetItem(list, (Py_ssize_t)i, value) < 0)
+            return -1;
+    }
+    return filled(waiting, i);
+}
+
+/* Fills containers from the top of the stack down, until one lacks a member. */
+static int fill(Tree *tree)
+{
+    while (tree->waiting.height > 0) {
+        Waiting *top = (Waiting *)tree->waiting.items + tree->waiting.height - 1;
+
+        if ((top->references.is_dict ? fill_dict(tree, top) : fill_list(tree, top)) < 0)
+            return -1;
+        if (top->done < top->references.count)
+            return 0;
+        tree->waiting.height--;
     }
     return 0;
 }
 
-/* Makes the values that at most BLOCK objects still lack. */
-static int tree_make_new(Tree *tree, const uint32_t *objects, size_t count)
+/* Builds the tree of an object. */
+static PyObject *tree_build(Tree *tree)
 {
-    uint32_t left[BLOCK];
-    size_t many = 0;
+    PyObject *root;
+    int made;
 
-    for (size_t i = 0; i < count; i++) {
-        if (objects[i] >= tree->handle->objects)
-            return raise_changed();
-        if (tree->made[objects[i]] == NULL)
-            left[many++] = objects[i];
-        else if (tree_again(tree, tree->made[objects[i]]) < 0)
-            return -1;
+    if (tree->nodes > tree->limit && tree_measure(tree) < 0)
+        return NULL;
+    do {
+        made = make_block(tree);
+        if (made < 0 || fill(tree) < 0)
+            return NULL;
+    } while (made > 0);
+    root = tree->made[tree->object];
+    if (tree->waiting.height > 0 || !is_made(root)) {
+        raise_changed();
+        return NULL;
     }
-    return many > 0 ? tree_make(tree, left, many) : 0;
+    /* Each container but the root is a member of one. If one occurs twice, the tree has more nodes than were counted. */
+    if (tree->occurrences + 1 > tree->containers && tree->containers > 0 && tree_measure(tree) < 0)
+        return NULL;
+    Py_INCREF(root);
+    return root;
 }
 
-/* Puts members, whose values are made, into a list or a dict. The first of them has number `from`. */
-static int fill_block(Tree *tree, const Empty *container, uint64_t from, const uint32_t *objects, Py_ssize_t read)
+static int tree_begin(Tree *tree)
 {
-    PyObject *value = tree->made[container->object];
+    uint64_t reached = tree->handle->reached;
 
-    if (container->is_dict) {
-        for (Py_ssize_t i = 0; i < read; i += 2)
-            if (PyDict_SetItem(value, tree->made[objects[i]], tree->made[objects[i + 1]]) < 0)
-                return -1;
-        return 0;
+    if (handle_ready(tree->handle) < 0)
+        return -1;
+    tree->made = PyMem_Calloc(tree->handle->objects, sizeof *tree->made);
+    if (tree->made == NULL) {
+        PyErr_NoMemory();
+        return -1;
     }
-    for (Py_ssize_t i = 0; i < read; i++) {
-        PyObject *member = tree->made[objects[i]];
-
-        Py_INCREF(member);
-        if (PyList_SetItem(value, (Py_ssize_t)from + i, member) < 0)
+    tree->is_whole = tree->object == tree->handle->top && reached > 0 && reached <= tree->limit;
+    if (!tree->is_whole) {
+        if (stack_reserve(&tree->wanted, 1, sizeof(uint32_t)) < 0)
             return -1;
+        *(uint32_t *)tree->wanted.items = tree->object;
+        tree->wanted.height = 1;
     }
+    tree->source = tree->handle->source;
+    Py_INCREF(tree->source.owner);
     return 0;
-}
-
-static int fill(Tree *tree, const Empty *container)
-{
-    uint32_t objects[BLOCK];
-
-    for (uint64_t from = 0; from < container->end;) {
-        Py_ssize_t read = handle_members(tree->handle, container->object, from, objects, BLOCK);
-
-        if (read < 0)
-            return -1;
-        if ((uint64_t)read > container->end - from || (container->is_dict && read % 2 != 0))
-            return raise_changed();
-        tree->nodes += (uint64_t)read;
-        if (tree->nodes > tree->limit && tree_measure(tree) < 0)
-            return -1;
-        if (tree_make_new(tree, objects, (size_t)read) < 0 || fill_block(tree, container, from, objects, read) < 0)
-            return -1;
-        from += (uint64_t)read;
-    }
-    return 0;
-}
-
-/* Reverses the order of the containers above a height of the stack. The one that comes first in the file is then filled
-   first, which is faster, because memory is read and written forwards. */
-static void tree_turn(Tree *tree, size_t height)
-{
-    for (size_t above = tree->height; height + 1 < above; height++) {
-        Empty first = tree->empty[height];
-
-        tree->empty[height] = tree->empty[--above];
-        tree->empty[above] = first;
-    }
 }
 
 /* Frees what the tree holds, except the references that its values hold themselves. */
-static void tree_free(Tree *tree)
+static void tree_end(Tree *tree)
 {
-    for (uint64_t i = 0; i < tree->handle->objects; i++)
-        Py_XDECREF(tree->made[i]);
+    for (uint64_t i = 0; tree->made && i < tree->handle->objects; i++)
+        if (is_made(tree->made[i]))
+            Py_DECREF(tree->made[i]);
     PyMem_Free(tree->made);
-    PyMem_Free(tree->empty);
-}
-
-/* Builds the tree of an object: makes its root, and then fills container by container. */
-static PyObject *tree_build(Tree *tree)
-{
-    PyObject *top;
-
-    if (tree_make_new(tree, &tree->object, 1) < 0)
-        return NULL;
-    while (tree->height > 0) {
-        Empty container = tree->empty[--tree->height];
-        size_t height = tree->height;
-
-        if (fill(tree, &container) < 0)
-            return NULL;
-        tree_turn(tree, height);
-    }
-    top = tree->made[tree->object];
-    Py_INCREF(top);
-    return top;
+    PyMem_Free(tree->wanted.items);
+    PyMem_Free(tree->waiting.items);
+    Py_XDECREF(tree->source.owner);
 }
 
 PyObject *tree_of(Handle *self, uint32_t object, uint64_t limit)
 {
-    Tree tree = {.handle = self, .object = object, .limit = limit, .nodes = 1, .is_measured = 0};
-    PyObject *top;
+    Tree tree = {.handle = self, .object = object, .limit = limit, .nodes = 1};
+    PyObject *root = NULL;
     int is_collecting;
 
-    tree.made = PyMem_Calloc(self->objects, sizeof *tree.made);
-    if (tree.made == NULL)
-        return PyErr_NoMemory();
     /* No part of the tree is garbage yet, and the collector would look at it again and again. */
     is_collecting = PyGC_Disable();
-    top = tree_build(&tree);
+    if (tree_begin(&tree) == 0)
+        root = tree_build(&tree);
     if (is_collecting)
         PyGC_Enable();
-    tree_free(&tree);
-    return top;
+    tree_end(&tree);
+    return root;
 }
