@@ -15,6 +15,7 @@ pub mod UnchangedChecked
 pub mod OneFault
 pub mod KeyRepeats
 pub mod KeyPairs
+pub mod KeyRanks
 pub mod RepeatedKeys
 pub mod DecidedKeys
 pub mod DecidedObjects

@@ -3,6 +3,7 @@ pub mod MergeSteps
 pub mod SortedHalves
 pub mod NumberSteps
 pub mod AgreedUnits
+pub mod TextOctets
 pub mod Folds
 pub mod WeightSteps
 pub mod ListedObjects

@@ -122,10 +122,12 @@ pub struct Run {
 #[derive(Drop)]
 pub struct RunCache {
     pub slots: [Run; SLOTS],
+    /// How many units comparisons have read and found to be the same. At the greatest `u64` it stays.
+    pub compared: u64,
 }
 
 /// Returns the size in bytes of a unit of a text of this kind.
-fn size_of(kind: Kind) -> u64
+pub(crate) fn size_of(kind: Kind) -> u64
     requires { IsTextKind kind }
     ensures unit { result ≡ item_size 1 kind }
     ensures some { 1 ≤ result }
@@ -171,6 +173,7 @@ impl RunCache {
         };
         RunCache {
             slots: [none; SLOTS],
+            compared: 0,
         }
     }
 
