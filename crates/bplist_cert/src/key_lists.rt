@@ -115,10 +115,7 @@ impl KeyFindings {
     {
         match seen.keys {
             None => check_key_repeats(alloc, src, seen, self.named.take()),
-            Some(keys) => {
-                learn_ranks(alloc, src, seen, &mut self.lists)?;
-                Ok(check_key_orders(src, seen, keys, &mut self.lists)?)
-            }
+            Some(keys) => Ok(check_key_orders(alloc, src, seen, keys, &mut self.lists)?),
         }
     }
 }
@@ -299,9 +296,9 @@ fn learn_ranks<P: Offsets>(
     Ok(())
 }
 
-/// Checks that the keys of the vouched dictionaries seen so far are texts, and that the key lists have them in order.
-/// If all vouched objects were seen and the walk found all lists good, there is nothing left to check.
-pub(crate) fn check_key_orders<P: Offsets>(
+/// Checks the key lists of the vouched dictionaries seen so far, in the order of the dictionaries' numbers, unless the
+/// walk has already shown that they are good.
+fn check_dict_orders<P: Offsets>(
     src: &mut P,
     seen: &VouchedPrefix,
     keys: &KeyLists,
@@ -328,4 +325,24 @@ pub(crate) fn check_key_orders<P: Offsets>(
         }
     }
     Ok(())
+}
+
+/// Checks that the keys of the vouched dictionaries seen so far are texts, and that the key lists have them in order.
+/// If all vouched objects were seen and the walk found all lists good, there is nothing left to check.
+pub(crate) fn check_key_orders<P: Offsets>(
+    alloc: Global,
+    src: &mut P,
+    seen: &VouchedPrefix,
+    keys: &KeyLists,
+    look: &mut KeyListFindings,
+) -> Result<(), ObjectFault>
+    requires { length seen.now.heights.now ≡ (frame_in (P.means src.old)).objects }
+    ensures reads { OnlyReads (read_failed result) (P.means src.old) (P.means src.new) }
+    ensures exact { HonestlyIn (P.means src.old) (λ f F. KeepBeforeKeysBelow f F seen.now.heights.now seen.now.bound
+        → HaveGoodLists f F seen.now.heights.now keys.now seen.now.bound look.old
+        → Gives (λ _. HaveGoodKeys f F seen.now.heights.now (Some keys.now) seen.now.bound)
+        (IsFirstKeysFault f F (lists seen.now.heights.now (Some keys.now)) seen.now.bound) result) }
+{
+    learn_ranks(alloc, src, seen, look)?;
+    check_dict_orders(src, seen, keys, look)
 }
