@@ -1,5 +1,5 @@
 -- Ranks of keys as numbers in order.
-use Rattle.std.proofs.Common.{◌≡◌, ℕ, ◌<◌, List, Bool, slice_index, Option, Some, arith}
+use Rattle.std.proofs.Common.{ℕ, ◌<◌, List, Bool, slice_index, Some, arith}
 use Rattle.bplist_objects.specs.declared.frame.Frame.{Frame}
 use Rattle.bplist_keys.specs.declared.ranks.KeyNumbers.{KeyNumbers}
 use Rattle.bplist_keys.specs.Ranks.{AreRanks}
