@@ -1,4 +1,4 @@
-use Rattle.std.proofs.Common.{◌≡◌, Ok, Err, None, subst, sym}
+use Rattle.std.proofs.Common.{◌≡◌, Err, None, subst, sym}
 use Rattle.std.specs.Prelude.{MatchResult}
 use Rattle.std.proofs.lemmas.Result.{err_from_is_err_and}
 use Rattle.bplist_cursor.specs.Leads.{LeadTo}

@@ -1,4 +1,4 @@
-use Rattle.std.proofs.Common.{◌≡◌, None, ◌∷◌, [], ℕ, List, Err}
+use Rattle.std.proofs.Common.{◌≡◌, None, ◌∷◌, [], ℕ, List}
 use Rattle.std.proofs.lemmas.Grind.{merely}
 use Rattle.bplist_objects.specs.Value.{Value}
 use Rattle.bplint_lines.specs.Answers.{Answer}
