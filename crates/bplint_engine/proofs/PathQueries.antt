@@ -55,3 +55,9 @@ pub text_refused : (texts : List (String Global)) (i : ℕ) (queries : List Quer
     → OnPath (IsWrongAmong (bytes_of texts)) (path_fault fault)
 text_refused texts i queries text (Text place) within is asked wrong = first_wrong texts i asked.0 text place within is asked.1 wrong
 text_refused texts i queries text Memory within is asked wrong = tt
+
+-- of one text, the list is that text
+pub only_text : (texts : List (String Global)) (text : String Global) → length texts ≡ 1 → text ≡ get_or texts 0 text → string_bytes text ∷ [] ≡ bytes_of texts
+only_text [] text one is = absurd (omega (arith, one))
+only_text (t ∷ []) text one is = ap (λ x. string_bytes x ∷ []) is
+only_text (t ∷ u ∷ ts) text one is = absurd (omega (arith, one))

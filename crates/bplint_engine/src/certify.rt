@@ -51,26 +51,13 @@ fn sorted_output<S: Source>(alloc: Global, src: S, hex: bool) -> (Result<Output,
         Err(refusal) => return (Err(RunFault::from(refusal)), src),
     };
     match check(alloc, src, found.certificate) {
-        Ok(checked) => upgraded_output(alloc, checked, hex),
+        Ok(mut checked) => {
+            let made = output_with_keys(alloc, &mut checked, hex);
+            (made, checked.into_parts().0)
+        }
         // The linter accepted the file and made this certificate. A broken rule now means that the file changed.
         Err((refusal, src, _)) => (Err(RunFault::from(UpgradeFault::from(refusal))), src),
     }
-}
-
-/// Adds key lists to the certificate of a checked file. Returns its bytes, and the source.
-fn upgraded_output<S: Source>(
-    alloc: Global,
-    checked: Checked<S>,
-    hex: bool,
-) -> (Result<Output, RunFault>, S)
-    ensures source { OnlyReads (read_failed result.0) checked.source (S.means result.1) }
-    ensures exact { IsTrue checked.source.honest → Gives (λ output. (lists : Lists)
-        × IsCertificate lists × ∥ IsUpgraded checked.source.octets checked.frame checked.certificate.heights lists ∥₁
-        × (output.said ≡ Said.All) × (output.bytes.items ≡ written hex (octets_of lists))) result.0 }
-{
-    let mut checked = checked;
-    let made = output_with_keys(alloc, &mut checked, hex);
-    (made, checked.into_parts().0)
 }
 
 /// Adds key lists to the certificate of a checked file. Returns its bytes.

@@ -2,7 +2,7 @@
 //! take them.
 
 ghost use Rattle.std.specs.Prelude.{◌≡◌, ◌++◌, ℕ, List, Err, IfOk, IsTrue, MatchResult, OnOk, map, string_bytes, ◌∷◌};
-ghost use Rattle.std.specs.Prelude.{[], length};
+ghost use Rattle.std.specs.Prelude.{[]};
 ghost use Rattle.std.specs.List.{flat_map, list_any, AllZip};
 ghost use Rattle.bplint_engine.specs.Prelude.{OnlyReads, Holds, Value, OnlyReadsFile, reply, answer_read, answer_fault};
 ghost use Rattle.bplint_engine.specs.Prelude.{read_failed, Answers, Gives, CheckSays, IsDecoded, LinesSay, found_line};
@@ -52,25 +52,8 @@ fn lines_told(alloc: Global, told: Result<Vec<Reply>, AnswerFault>) -> Result<Ou
     Ok(lines_of(alloc, &replies)?)
 }
 
-/// Answers the queries. Returns their lines, and the source.
-pub(crate) fn answer_queries<S: Source>(
-    alloc: Global,
-    checked: Checked<S>,
-    queries: &[Query],
-) -> (Result<Output, RunFault>, S)
-    ensures source { OnlyReads (read_failed result.0) checked.source (S.means result.1) }
-    ensures exact { IsTrue checked.source.honest → Gives (λ output. (v : Value)
-        → Holds checked.source.octets checked.frame checked.frame.top.0 v
-        → (output.said ≡ spec.replies_said (map (reply v) queries.now))
-        × (output.bytes.items ≡ flat_map reply_line (map (reply v) queries.now))) result.0 }
-{
-    let mut checked = checked;
-    let made = lines_for(alloc, &mut checked, queries);
-    (made, checked.into_parts().0)
-}
-
 /// Answers the queries. Returns their lines.
-fn lines_for<S: Source>(
+pub(crate) fn lines_for<S: Source>(
     alloc: Global,
     checked: &mut Checked<S>,
     queries: &[Query],
@@ -148,16 +131,6 @@ pub(crate) fn queries_of(alloc: Global, texts: &[String]) -> Result<Vec<Query>, 
         queries.push(Query::Get(path))?;
     }
     Ok(queries)
-}
-
-/// Parses the only path text.
-pub(crate) fn path_of(alloc: Global, texts: &[String]) -> Result<Path, RunFault>
-    requires { length texts.now ≡ 1 }
-    ensures { MatchResult result
-        (λ path. AllZip IsPathOf (map (λ text. string_bytes text) texts.now) (path ∷ []))
-        (OnPath (IsWrongAmong (map (λ text. string_bytes text) texts.now))) }
-{
-    path_in(alloc, texts[0].as_str())
 }
 
 /// Parses a path text.

@@ -85,27 +85,12 @@ fn list_output<S: Source>(alloc: Global, src: S, text: &str) -> (Result<Output, 
         Err(fault) => return (Err(fault), src),
     };
     match checked_by_lint(alloc, src) {
-        Ok(checked) => list_checked(alloc, checked, &path, text),
+        Ok(mut checked) => {
+            let made = list_path(alloc, &mut checked, &path, text);
+            (made, checked.into_parts().0)
+        }
         Err((fault, src)) => (Err(fault), src),
     }
-}
-
-/// Returns the lines for what a checked file has under the path with this text, and the source.
-fn list_checked<S: Source>(
-    alloc: Global,
-    checked: Checked<S>,
-    path: &Path,
-    text: &str,
-) -> (Result<Output, RunFault>, S)
-    ensures source { OnlyReads (read_failed result.0) checked.source (S.means result.1) }
-    ensures exact { IsTrue checked.source.honest → (v : Value)
-        → Holds checked.source.octets checked.frame checked.frame.top.0 v
-        → Gives (λ output. (output.said ≡ said_of (look 0 v path.now ∷ []))
-        × (output.bytes.items ≡ listed text.now (look 0 v path.now))) result.0 }
-{
-    let mut checked = checked;
-    let made = list_path(alloc, &mut checked, path, text);
-    (made, checked.into_parts().0)
 }
 
 /// Returns the lines for what a checked file has under the path with this text.

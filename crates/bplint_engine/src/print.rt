@@ -7,7 +7,7 @@ ghost use Rattle.bplint_engine.specs.Prelude.{Leaves, LeavesBy, read_failed, mis
 ghost use Rattle.bplint_engine.specs.Prelude.{NodeSays, PathSays, PrintSays};
 
 use crate::certify::check_decoded;
-use crate::get::path_of;
+use crate::get::path_in;
 use crate::output::{Output, send_output};
 use bplint_lines::{RunFault, Said, add_missing};
 use bplist_ascii::print_into;
@@ -33,7 +33,7 @@ pub(crate) fn print_answer<S: Source, W: Write>(
         → Leaves (PrintSays limit (CheckSays (S.means src).octets cert) (S.means src).octets
         (map (λ text. string_bytes text) texts.now)) limit (W.contents out.old) (W.contents out.new) result.0 }
 {
-    let path = match path_of(alloc, texts) {
+    let path = match path_in(alloc, texts[0].as_str()) {
         Ok(path) => path,
         Err(fault) => return (Err(fault), src),
     };

@@ -51,27 +51,12 @@ pub fn show_raw_on<S: Source, W: Write>(
         Err(fault) => return (Err(RawFault::Run(fault)), src),
     };
     match checked_by_lint(alloc, src) {
-        Ok(checked) => raw_checked(alloc, checked, &path, out),
+        Ok(mut checked) => {
+            let answer = raw_path(alloc, &mut checked, &path, out);
+            (answer, checked.into_parts().0)
+        }
         Err((fault, src)) => (Err(RawFault::Run(fault)), src),
     }
-}
-
-/// Writes the raw bytes of what a checked file has under a path. Returns the source too.
-fn raw_checked<S: Source, W: Write>(
-    alloc: Global,
-    checked: Checked<S>,
-    path: &Path,
-    out: &mut W,
-) -> (Result<Said, RawFault>, S)
-    ensures source { OnlyReads (raw_read_failed result.0) checked.source (S.means result.1) }
-    ensures exact { IsTrue checked.source.honest → (v : Value)
-        → Holds checked.source.octets checked.frame checked.frame.top.0 v
-        → LeavesRawBy (PathShowsRaw path.now v) (LeadsToRawless checked.source.octets checked.frame path.now v)
-        (W.contents out.old) (W.contents out.new) result.0 }
-{
-    let mut checked = checked;
-    let answer = raw_path(alloc, &mut checked, path, out);
-    (answer, checked.into_parts().0)
 }
 
 /// Writes the raw bytes of what a checked file has under a path.

@@ -5,7 +5,7 @@ ghost use Rattle.bplint_engine.specs.Prelude.{OnlyReads, Leaves, read_failed, An
 ghost use Rattle.bplint_engine.specs.Prelude.{found_line};
 
 use crate::certify::checked_by_lint;
-use crate::get::{answer_queries, path_in, queries_of};
+use crate::get::{lines_for, path_in, queries_of};
 use crate::output::{Output, send_made};
 use crate::print::print_checked;
 use bplint_lines::{RunFault, Said};
@@ -43,7 +43,10 @@ fn show_output<S: Source>(alloc: Global, src: S, texts: &[String]) -> (Result<Ou
         Err(fault) => return (Err(fault), src),
     };
     match checked_by_lint(alloc, src) {
-        Ok(checked) => answer_queries(alloc, checked, &queries),
+        Ok(mut checked) => {
+            let made = lines_for(alloc, &mut checked, &queries);
+            (made, checked.into_parts().0)
+        }
         Err((fault, src)) => (Err(fault), src),
     }
 }

@@ -1,9 +1,8 @@
 //! The command `ls --recursive`: lists a value and everything inside it, in a file that has no certificate.
 
 ghost use Rattle.std.specs.Prelude.{◌≡◌, IsTrue};
-ghost use Rattle.bplint_engine.specs.Prelude.{Gives, OnlyReads, Holds, Value, IsVouchedBy, OnlyReadsFile, LintSays};
+ghost use Rattle.bplint_engine.specs.Prelude.{OnlyReads, Holds, Value, IsVouchedBy, OnlyReadsFile, LintSays};
 ghost use Rattle.bplint_engine.specs.Prelude.{read_failed};
-ghost use Rattle.bplist_cursor.specs.Nodes.{cap, nodes};
 ghost use Rattle.bplint_lines.specs.Answers.{LeavesSomeBy};
 ghost use Rattle.bplint_engine.specs.Tree.{ListsAll, NodeLists, PathLists};
 
@@ -51,16 +50,15 @@ pub fn list_all_on<S: Source, W: Write>(
         Err(fault) => return (Err(fault), src),
     };
     match checked_by_lint(alloc, src) {
-        Ok(checked) => tree_checked(
-            alloc,
-            checked,
-            &Branch {
+        Ok(mut checked) => {
+            let branch = Branch {
                 text: path,
                 path: steps,
                 limit,
-            },
-            out,
-        ),
+            };
+            let answer = tree_path(alloc, &mut checked, &branch, out);
+            (answer, checked.into_parts().0)
+        }
         Err((fault, src)) => (Err(fault), src),
     }
 }
@@ -74,24 +72,6 @@ struct Branch<'a> {
     path: Path,
     /// The largest number of nodes that the value may have.
     limit: u64,
-}
-
-/// Lists what a checked file has under a path. Returns the source too.
-fn tree_checked<S: Source, W: Write>(
-    alloc: Global,
-    checked: Checked<S>,
-    branch: &Branch<'_>,
-    out: &mut W,
-) -> (Result<Said, RunFault>, S)
-    ensures source { OnlyReads (read_failed result.0) checked.source (S.means result.1) }
-    ensures exact { IsTrue checked.source.honest → (v : Value)
-        → Holds checked.source.octets checked.frame checked.frame.top.0 v
-        → LeavesSomeBy (PathLists branch.now.limit branch.now.text.now branch.now.path v)
-        (W.contents out.old) (W.contents out.new) result.0 }
-{
-    let mut checked = checked;
-    let answer = tree_path(alloc, &mut checked, branch, out);
-    (answer, checked.into_parts().0)
 }
 
 /// Lists what a checked file has under a path.
@@ -126,21 +106,11 @@ fn tree_node<S: Source, W: Write>(
         → (w : Value) → Holds checked.old.source.octets checked.old.frame node.object.0 w
         → LeavesSomeBy (NodeLists branch.now.limit branch.now.text.now w) (W.contents out.old) (W.contents out.new) result }
 {
-    let nodes = nodes_at(alloc, checked, node)?;
+    let nodes = count_nodes(alloc, checked, node)?;
     if nodes > branch.limit || nodes == u64::MAX {
         return Err(RunFault::TooLong);
     }
     let listing = Listing::new(alloc, branch.text, nodes)?;
     write_tree(checked, node, listing, out)?;
     Ok(Said::All)
-}
-
-/// Returns the number of nodes of a node's value, or 18446744073709551615 if there are more.
-fn nodes_at<S: Source>(alloc: Global, checked: &mut Checked<S>, node: Node) -> Result<u64, RunFault>
-    ensures reads { OnlyReadsFile (read_failed result) checked.old checked.new }
-    ensures exact { IsTrue checked.old.source.honest → IsVouchedBy checked.old.certificate.heights node.object.0
-        → (w : Value) → Holds checked.old.source.octets checked.old.frame node.object.0 w
-        → Gives (λ count. count ≡ cap (nodes w)) result }
-{
-    Ok(count_nodes(alloc, checked, node)?)
 }

@@ -13,7 +13,7 @@ returns-in-Err-clause-exact g c =
 pub returns-in-Ok-checked_by_lint-clause-exact : goal.returns-in-Ok-checked_by_lint-clause-exact
 returns-in-Ok-checked_by_lint-clause-exact g c =
     λ honest. let f = (g.S.Source.means c.args.src).octets in
-    let told = rw c.in-Ok-checked_by_lint.ensures.handed at c.list_checked.ensures.exact in
+    let told = rw c.in-Ok-checked_by_lint.ensures.handed at c.list_path-made.ensures.exact in
     let least = c.in-Ok-checked_by_lint.ensures.exact honest in
     list_says (LintSays f) f c.args.text.now _ _ _ c.in-Ok.ensures (lint_yes f _ _ least) (lint_there f _ _ least) (told honest)
 

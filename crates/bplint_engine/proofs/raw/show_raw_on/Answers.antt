@@ -23,7 +23,7 @@ returns-in-Err-clause-exact g c = λ honest.
 pub returns-in-Ok-checked_by_lint-clause-exact : goal.returns-in-Ok-checked_by_lint-clause-exact
 returns-in-Ok-checked_by_lint-clause-exact g c = λ honest.
     let f = (g.S.Source.means c.args.src).octets in
-    let left = rw c.in-Ok-checked_by_lint.ensures.handed at c.raw_checked.ensures.exact in
+    let left = rw c.in-Ok-checked_by_lint.ensures.handed at c.raw_path-answer.ensures.exact in
     let least = c.in-Ok-checked_by_lint.ensures.exact honest in
     merely (raw_says (LintSays f) f c.args.path.now _ _ _ _ _ c.in-Ok.ensures (lint_yes f _ _ least) (lint_there f _ _ least) (left honest))
 

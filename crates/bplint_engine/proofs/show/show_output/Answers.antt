@@ -14,7 +14,7 @@ returns-in-Err-clause-exact g c =
 pub returns-in-Ok-checked_by_lint-clause-exact : goal.returns-in-Ok-checked_by_lint-clause-exact
 returns-in-Ok-checked_by_lint-clause-exact g c =
     λ honest. let f = (g.S.Source.means c.args.src).octets in
-    let told = rw (c.in-Ok-checked_by_lint.ensures.handed, c.deref.ensures.value) at c.answer_queries.ensures.exact in
+    let told = rw (c.in-Ok-checked_by_lint.ensures.handed, c.deref.ensures.value) at c.lines_for-made.ensures.exact in
     let least = c.in-Ok-checked_by_lint.ensures.exact honest in
     queries_say (LintSays f) f (bytes_of c.args.texts.now) _ _ _ _ c.in-Ok.ensures.1 c.in-Ok.ensures.2
     (lint_yes f _ _ least) (merely (lint_there f _ _ least)) (told honest)
