@@ -1,43 +1,15 @@
 //! Follows a path from the top of a checked file.
 
-ghost use Rattle.std.specs.Prelude.{⊤, ◌≡◌, ◌≢◌, ◌<◌, IsTrue, IsOk, IfOk, OnOk, Err, Vec};
-ghost use Rattle.bplist_cursor.specs.Prelude.{HonestlyChecked, Value, Holds, GivesRead, GivesCursor, read_failed};
+ghost use Rattle.std.specs.Prelude.{⊤, ◌≡◌, ◌≢◌, IsTrue, IsOk, IfOk, Err};
+ghost use Rattle.bplist_cursor.specs.Prelude.{HonestlyChecked, Value, Holds, GivesCursor};
 ghost use Rattle.bplist_cursor.specs.Prelude.{cursor_read, OnlyReadsFile, halvings, RisesAtMost, IsFound, Memory};
-ghost use Rattle.bplist_cursor.specs.Found.{units_of};
 
-use crate::faults::{CursorFault, Unread};
+use crate::faults::CursorFault;
 use crate::node::{Found, Node};
 use crate::path::Path;
 use crate::steps::{Step, step_at};
 use bplist_cert::Checked;
 use bplist_octets::{SliceSource, Source};
-
-/// Returns what these steps lead to from the top.
-fn lead<S: Source>(
-    checked: &mut Checked<S>,
-    steps: &[Vec<u16>],
-    comparisons: &mut u64,
-) -> Result<Found, Unread>
-    ensures reads { OnlyReadsFile (read_failed result) checked.old checked.new }
-    ensures exact { HonestlyChecked checked.old (λ f F. (v : Value) → Holds f F F.top.0 v
-        → GivesRead (IsFound checked.old checked.old.frame.top.0 v (units_of steps.now)) result) }
-    ensures bound { OnOk result (HonestlyChecked checked.old (λ f F. (v : Value) → Holds f F F.top.0 v
-        → RisesAtMost checked.old comparisons.old comparisons.new (halvings v (units_of steps.now)))) }
-{
-    let mut object = checked.frame().top;
-    for k in 0..steps.len() {
-        match step_at(checked, object, &steps[k], comparisons)? {
-            Step::On(next) => object = next,
-            Step::Not(why) => {
-                return Ok(Found::Missing {
-                    step: k as u64,
-                    why,
-                });
-            }
-        }
-    }
-    Ok(Found::At(Node { object }))
-}
 
 /// Returns what a path leads to, and how many comparisons of keys that took, counted up to the greatest `u64`.
 ///
@@ -57,10 +29,19 @@ pub fn locate_counted<S: Source>(
     ensures found { IsTrue checked.old.source.honest → checked.new.source.failures ≡ 0 → IsOk result }
     ensures memory { result ≢ Err Memory }
 {
-    let _frame = checked.frame();
+    let steps = path.steps();
+    let mut object = checked.frame().top;
     let mut comparisons = 0u64;
-    let found = lead(checked, path.steps(), &mut comparisons)?;
-    Ok((found, comparisons))
+    for k in 0..steps.len() {
+        match step_at(checked, object, &steps[k], &mut comparisons)? {
+            Step::On(next) => object = next,
+            Step::Not(why) => {
+                let step = k as u64;
+                return Ok((Found::Missing { step, why }, comparisons));
+            }
+        }
+    }
+    Ok((Found::At(Node { object }), comparisons))
 }
 
 /// Returns the node that a path leads to, or the first step that can't be taken.
