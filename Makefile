@@ -1,6 +1,6 @@
 ## bplint: `rt` of the kit proves and builds, python3 runs the tests on what is built.
 ##
-##   make build          proves and builds the program, crates/bplint/out/bplint; more than half an hour the first time
+##   make build          proves and builds the program, crates/bplint/out/bplint; about 40 minutes the first time
 ##   make look FILE=F    lints F with the program unproved, in a minute and a half
 ##   make lib            proves and builds the C library, into crates/bplist_c/out
 ##   make wheel          the Python package for pip, with the library in it, into dist/
@@ -55,26 +55,14 @@ FOLDERS = $(sort $(patsubst %/,%,$(dir $(INSTALLED) $(MADE))))
 # The jobs that prove one crate. Four are quicker by the clock, but take half as much processor time again, because each
 # reads the modules below for itself.
 JOBS = 1
+# rt sees by itself what has to be proved and built again. Before it builds more than one library it makes a quick pass
+# over all sources, which a call for each library spares.
+libraries = for crate in $(1); do (cd crates/$$crate && rt lib --jobs $(JOBS)) || exit; done
+BELOW = $(addprefix bplist_,octets objects keys cert lint cursor ascii)
 
-# rt sees by itself what has to be proved and built again.
 build:
-	$(MAKE) --no-print-directory -j2 library-bplint_map library-bplint_engine
+	$(call libraries,$(BELOW) bplint_lines bplint_map bplint_engine)
 	cd crates/bplint && rt run --jobs $(JOBS) -- --version
-
-# Libraries in the order of crates.txt. Before rt builds more than one of them it makes a quick pass over all sources,
-# which a call for each library spares.
-LIBRARIES = $(addprefix library-bplist_,octets objects keys cert lint cursor ascii) $(addprefix library-bplint_,lines map engine)
-.PHONY: $(LIBRARIES)
-$(LIBRARIES): library-%:
-	cd crates/$* && rt lib --jobs $(JOBS)
-
-library-bplist_objects: library-bplist_octets
-library-bplist_keys: library-bplist_objects
-library-bplist_cert: library-bplist_keys
-library-bplist_lint library-bplist_cursor: library-bplist_cert
-library-bplist_ascii: library-bplist_cursor
-library-bplint_lines: library-bplist_lint library-bplist_ascii
-library-bplint_map library-bplint_engine: library-bplint_lines
 
 help:
 	@sed -n 's/^## \{0,1\}//p' $(firstword $(MAKEFILE_LIST))
@@ -84,8 +72,7 @@ look:
 	@file=$$(realpath '$(FILE)') && cd crates/bplint && rt try --data Info.plist="$$file" -- lint Info.plist
 
 lib:
-	$(MAKE) --no-print-directory -j2 library-bplist_lint library-bplist_ascii
-	cd crates/bplist_c && rt lib --jobs $(JOBS)
+	$(call libraries,$(BELOW) bplist_c)
 	$(MAKE) link-lib
 
 # From what is proved and built.
