@@ -50,9 +50,8 @@ typedef struct Handle {
     State *state;
     Source source;
     bplist_handle handle;
-    /* The number of objects in the file, and the number of those that the top reaches, or 0 if it is not known. */
+    /* The number of objects in the file, and the number of the top. */
     uint64_t objects;
-    uint64_t reached;
     uint32_t top;
     /* True during a call that has released the GIL. That call holds the lock. */
     int is_busy;

@@ -87,7 +87,6 @@ PyObject *handle_open(State *state, PyObject *class, PyObject *owner, PyObject *
     }
     self->top = verdict.top;
     self->objects = verdict.objects;
-    self->reached = verdict.reached;
     return (PyObject *)self;
 }
 
