@@ -2,29 +2,36 @@
 //!
 //! Two texts have the same class if and only if their units are the same. The classes of all named texts are found once
 //! for all dictionaries, so a repeated key is a repeated class.
+//!
+//! References, offset table and objects are far apart in a file. A source with one window reads each of them forward if
+//! they are read in blocks, but not if each key reads all three in turn. So `read_ahead` reads a block of references,
+//! and then the places of the objects that they name.
 
 ghost use Rattle.std.specs.Prelude.{◌≡◌, ◌↔◌, IsTrue, ◌+◌, ◌*◌, ◌<◌, length, IfOk, IfSome, MatchOption, Some, is_err};
-ghost use Rattle.std.specs.Prelude.{None};
+ghost use Rattle.std.specs.Prelude.{None, OnOk, ◌≤◌};
 ghost use Rattle.bplist_cert.specs.Prelude.{OnlyReads, frame_in, HonestlyIn, IsSafeHead, Gives, read_failed, KeyKind};
 ghost use Rattle.bplist_cert.specs.Prelude.{Dict, Head as head_record, IsText, KeysAreTexts, IsKeylessFault, AreLow};
 ghost use Rattle.bplist_cert.specs.Prelude.{IsOffsetOf, AreOffsetsOf, ReferToTexts, IsFirstOther, HasHead};
 ghost use Rattle.bplist_cert.specs.Prelude.{Head as head, HaveNamedKeys, AreClassed, IsStamped, IsNew, AreClasses};
 ghost use Rattle.bplist_cert.specs.Prelude.{failed_to_read, lists, KeepBeforeKeysBelow, IsVouchedBy, HasGoodKeys};
-ghost use Rattle.bplist_cert.specs.Prelude.{HaveGoodKeys, BreaksKeys, IsFirstKeysFault, Judges, refused_read};
+ghost use Rattle.bplist_cert.specs.Prelude.{HaveGoodKeys, BreaksKeys, IsFirstKeysFault, Judges, refused_read, ref_count};
+ghost use Rattle.bplist_cert.specs.Prelude.{AreRefs};
 
 use crate::caches::LowBytesCache;
 use crate::heights::height_at;
 use crate::key_lists::VouchedPrefix;
 use crate::key_names::seen_keys;
-use crate::key_order::{BLOCK, read_ahead};
 use crate::refusal::Refusal;
 use bplist_keys::{ClassTable, KeyDefect, KeyNumbers, NamedKeys, classes_of, ranks_of, text_head};
 use bplist_objects::{
     Failure, Framed, Head, Kind, ObjectFault, ObjectNo, OffsetTable, Offsets, object_shape,
-    offsets_of,
+    offsets_of, read_refs,
 };
 use bplist_octets::ReadFault;
 use std::alloc::Global;
+
+/// The most keys that are read ahead.
+const BLOCK: usize = 256;
 
 /// A table of all places is worth its memory if at least one object in this many is a key.
 const OBJECTS_FOR_A_KEY: u32 = 16;
@@ -90,6 +97,34 @@ fn first_other<P: Framed>(
         }
     }
     Ok(None)
+}
+
+/// Fills `refs` with the references from number `from` on, and `found` with the places of the objects that they name,
+/// or 0 for a number that names no object. Copies the frame once for all of them.
+fn read_ahead<P: Offsets>(
+    src: &mut P,
+    head: &Head,
+    from: u64,
+    refs: &mut [u64],
+    found: &mut [u64],
+) -> Result<(), ReadFault>
+    requires head { IsSafeHead (frame_in (P.means src.old)) head.now }
+    requires within { from + length refs.old ≤ ref_count head.now.kind head.now.count }
+    requires many { length found.old ≡ length refs.old }
+    ensures reads { OnlyReads (is_err result) (P.means src.old) (P.means src.new) }
+    ensures refs { OnOk result (HonestlyIn (P.means src.old) (λ f F. AreRefs f F head.now from refs.new)) }
+    ensures found { OnOk result (HonestlyIn (P.means src.old) (λ f F. AreOffsetsOf f F refs.new found.new (length refs.new))) }
+{
+    let frame = src.frame();
+    read_refs(src, &frame, head, from, refs)?;
+    for k in 0..refs.len() {
+        if let Some(m) = frame.object(refs[k]) {
+            found[k] = src.offset(m.0)?;
+        } else {
+            found[k] = 0;
+        }
+    }
+    Ok(())
 }
 
 /// Checks rule 21 for dictionary `n`, which has this head. The fault is that of the first key that is not a text, at

@@ -29,7 +29,7 @@
 //! | key_lists | what the walk finds out about keys, and rules 21 and 32 for version 2 | |
 //! | key_names | the objects that are named as keys | [`vouched_keys`] |
 //! | key_rules | rule 21, and rules 21 and 22 for version 1 | |
-//! | key_order | rule 32 for one dictionary, and key references read ahead | |
+//! | key_order | rule 32 for one dictionary | |
 //! | caches | caches of key pairs in order and of stretches of ASCII bytes | |
 //! | laws | laws about the definitions in specs/ | [`one_certificate`], [`yes_or_fault`] and others |
 #![tactic(auto)]

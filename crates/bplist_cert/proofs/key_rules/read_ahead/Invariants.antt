@@ -1,7 +1,7 @@
 use Rattle.std.proofs.Common.{◌≡◌}
 use Rattle.bplist_objects.specs.Framed.{HonestlyIn}
 use Rattle.bplist_cert.specs.KeyOffsets.{AreOffsetsOf}
-use Rattle.bplist_cert.proofs.key_order.read_ahead.Given as goal
+use Rattle.bplist_cert.proofs.key_rules.read_ahead.Given as goal
 
 -- the source is as it was, and what was found so far are the places of the objects
 abbrev pub invariant-loop-k : goal.invariant-loop-k
