@@ -52,17 +52,16 @@ FOLDERS = $(sort $(patsubst %/,%,$(dir $(INSTALLED) $(MADE))))
 
 .PHONY: build help look lib link-lib wheel test-wheel dist install uninstall check gate test edits bench clean
 
-# The jobs that prove one crate. Four are quicker by the clock, but take half as much processor time again, because each
-# reads the modules below for itself.
-JOBS = 1
 # rt sees by itself what has to be proved and built again. Before it builds more than one library it makes a quick pass
-# over all sources, which a call for each library spares.
-libraries = for crate in $(1); do (cd crates/$$crate && rt lib --jobs $(JOBS)) || exit; done
+# over all sources, which a call for each library spares. JOBS is how many processes prove one crate: without it rt chooses,
+# by what is free. JOBS=1 takes the least processor time, since each process reads the modules below for itself.
+libraries = for crate in $(1); do (cd crates/$$crate && rt lib $(jobs)) || exit; done
+jobs = $(if $(JOBS),--jobs $(JOBS))
 BELOW = $(addprefix bplist_,octets objects keys cert lint cursor ascii)
 
 build:
 	$(call libraries,$(BELOW) bplint_lines bplint_map bplint_engine)
-	cd crates/bplint && rt run --jobs $(JOBS) -- --version
+	cd crates/bplint && rt run $(jobs) -- --version
 
 help:
 	@sed -n 's/^## \{0,1\}//p' $(firstword $(MAKEFILE_LIST))
