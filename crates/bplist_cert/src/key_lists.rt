@@ -2,7 +2,8 @@
 //!
 //! For version 1 the walk collects the objects that are named as keys, and `key_rules` checks them. For version 2 it
 //! checks the key lists, rules 21 and 32. If it sees all objects and finds all lists good, nothing is left to check.
-//! Otherwise each dictionary is checked, in the order of their numbers, so that the fault is the first.
+//! Otherwise each dictionary is checked, in the order of their numbers, so that the fault is the first. If comparisons of
+//! keys have read too much, the walk gives up the lists, and the keys are ranked before the dictionaries are checked.
 
 ghost use Rattle.std.specs.Prelude.{◌≡◌, ◌+◌, ◌≤◌, ℕ, List, None, IfOk, IfErr, length, ◌<◌, Some, IsTrue, false, is_err};
 ghost use Rattle.bplist_cert.specs.Prelude.{OnlyReads, Gives, Never, read_failed, frame_in, HonestlyIn, Frame as frame};
