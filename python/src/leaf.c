@@ -24,6 +24,8 @@ static uint64_t number_of(const uint8_t *bytes, uint64_t length)
         memcpy(&four, bytes, sizeof four);
         return be32toh(four);
     }
+    if (length == 1)
+        return bytes[0];
     for (uint64_t i = 0; i < length; i++)
         number = number << 8 | bytes[i];
     return number;

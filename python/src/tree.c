@@ -5,6 +5,8 @@
    objects of a block are made, these containers get their members, which are then still in the processor's cache. */
 #include "extension.h"
 
+#include <string.h>
+
 /* The largest number of objects in a block. It is even, because pairs have two. */
 #define BLOCK 128
 /* What is made for an object that is in the block, but is not made yet. */
@@ -73,8 +75,8 @@ static inline int ask_for(Tree *tree, Block *block, const References *references
     return 0;
 }
 
-/* Asks for members of one container, as many as the block has room for. */
-static int ask_members(Tree *tree, Block *block, Waiting *waiting)
+/* Asks for members of one container, as many as the block has room for. The compiler makes a loop for each kind. */
+static inline int ask_members(Tree *tree, Block *block, Waiting *waiting, int is_dict)
 {
     const References references = waiting->references;
     uint64_t i;
@@ -82,7 +84,7 @@ static int ask_members(Tree *tree, Block *block, Waiting *waiting)
     for (i = waiting->asked; i < references.count && block->count + 2 <= BLOCK; i++) {
         if (ask_for(tree, block, &references, i) < 0)
             return -1;
-        if (references.is_dict && ask_for(tree, block, &references, references.count + i) < 0)
+        if (is_dict && ask_for(tree, block, &references, references.count + i) < 0)
             return -1;
     }
     waiting->asked = i;
@@ -96,7 +98,7 @@ static int ask(Tree *tree, Block *block)
     for (tree->asked = tree->height; tree->asked > 0; tree->asked--) {
         Waiting *waiting = &tree->waiting[tree->asked - 1];
 
-        if (ask_members(tree, block, waiting) < 0)
+        if ((waiting->references.is_dict ? ask_members(tree, block, waiting, 1) : ask_members(tree, block, waiting, 0)) < 0)
             return -1;
         if (waiting->asked < waiting->references.count)
             return 0;
@@ -148,20 +150,20 @@ static inline PyObject *made_at(const Tree *tree, const References *references, 
     return NULL;
 }
 
-/* Gives a container the members that were asked for and are made. */
-static int fill(Tree *tree, Waiting *waiting)
+/* Gives a container the members that were asked for and are made. The compiler makes a loop for each kind. */
+static inline int fill(Tree *tree, Waiting *waiting, int is_dict)
 {
     const References references = waiting->references;
     uint64_t end = waiting->asked;
 
     for (uint64_t i = waiting->filled; i < end; i++) {
-        PyObject *value = made_at(tree, &references, references.is_dict ? references.count + i : i);
-        PyObject *key = references.is_dict ? made_at(tree, &references, i) : Py_None;
+        PyObject *value = made_at(tree, &references, is_dict ? references.count + i : i);
+        PyObject *key = is_dict ? made_at(tree, &references, i) : Py_None;
 
         if (value == NULL || key == NULL)
             return -1;
         tree->occurrences += PyDict_CheckExact(value) || PyList_CheckExact(value);
-        if (references.is_dict) {
+        if (is_dict) {
             if (PyDict_SetItem(waiting->value, key, value) < 0)
                 return -1;
         } else {
@@ -179,9 +181,12 @@ static int fill_asked(Tree *tree)
 {
     size_t first = tree->asked > 0 ? tree->asked - 1 : 0;
 
-    for (size_t k = tree->height; k-- > first;)
-        if (fill(tree, &tree->waiting[k]) < 0)
+    for (size_t k = tree->height; k-- > first;) {
+        Waiting *waiting = &tree->waiting[k];
+
+        if ((waiting->references.is_dict ? fill(tree, waiting, 1) : fill(tree, waiting, 0)) < 0)
             return -1;
+    }
     tree->height = tree->asked;
     return 0;
 }
@@ -255,6 +260,21 @@ static void tree_free(Tree *tree)
     Py_DECREF(tree->source.owner);
 }
 
+/* Makes the table of what is made. The tree of the top needs almost all of it, so all of its memory is written to at once:
+   a page that is first read and then written to costs two page faults. */
+static PyObject **table_of(const Handle *self, uint32_t object)
+{
+    size_t size = self->objects * sizeof(PyObject *);
+    PyObject **table;
+
+    if (object != self->top)
+        return PyMem_Calloc(1, size);
+    table = PyMem_Malloc(size);
+    if (table)
+        memset(table, 0, size);
+    return table;
+}
+
 PyObject *tree_of(Handle *self, uint32_t object, uint64_t limit)
 {
     Tree tree = {.handle = self, .object = object, .limit = limit, .nodes = 1};
@@ -263,7 +283,7 @@ PyObject *tree_of(Handle *self, uint32_t object, uint64_t limit)
 
     if (handle_ready(self) < 0)
         return NULL;
-    tree.made = PyMem_Calloc(self->objects, sizeof *tree.made);
+    tree.made = table_of(self, object);
     if (tree.made == NULL)
         return PyErr_NoMemory();
     tree.source = self->source;
