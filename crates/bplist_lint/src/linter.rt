@@ -11,7 +11,7 @@ ghost use Rattle.bplist_lint.specs.Prelude.{IsLinted, IsLintedWithKind, HasNoHei
 use crate::answer::{Lint, LintRefusal, ObjectNos};
 use crate::circle::circle;
 use crate::graph::{Objects, View};
-use crate::heights::least_heights;
+use crate::heights::{least_heights, unmarked};
 use crate::key_rules::check_keys;
 use crate::reach::{Marked, mark_reached};
 use crate::tally::check_reached;
@@ -174,7 +174,7 @@ fn lint_reached<P: Offsets>(
         let lint = heights_or_circle(alloc, src, reached)?;
         return Ok(lint);
     }
-    if reached.containers() > places.len() / 4 {
+    if unmarked(&reached.childless) > places.len() / 4 {
         drop(places);
         let lint = heights_or_circle(alloc, src, reached)?;
         return Ok(lint);

@@ -8,7 +8,6 @@ ghost use Rattle.bplist_lint.specs.Prelude.{IsRoomy, IsSteady, IsSteadyWalk, Not
 ghost use Rattle.bplist_lint.specs.Prelude.{AreNamed, of_object, stop_failed, Read as is_read};
 ghost use Rattle.bplist_lint.specs.declared.walk.Stop.TheVariants.{Memory as is_memory};
 
-use crate::heights::unmarked;
 use crate::tally::Tally;
 use bplist_keys::NamedKeys;
 use bplist_objects::{
@@ -97,15 +96,6 @@ pub struct Reached {
     pub childless: Vec<bool>,
     /// The sums over the reached objects.
     pub tally: Tally,
-}
-
-impl Reached {
-    /// Returns how many objects may have references, which is all that are not marked in `childless`.
-    pub fn containers(&self) -> usize
-        ensures { result ≡ count_by not self.now.childless.items }
-    {
-        unmarked(&self.childless)
-    }
 }
 
 /// The most references that are read at once.

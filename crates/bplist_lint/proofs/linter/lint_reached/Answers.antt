@@ -46,8 +46,8 @@ returns-in_err-lint-3-clause-exact g c = λ honest.
     let same = c.new-table.ensures.means ∙ c.in_ok-reached.ensures.reads in
     rw (p.1, p.2) (circle_passed _ _ same c.in_err-lint-3.field-0.0 c.in_err-lint-3.ensures.exact honest)
 
-pub heights_or_circle-requires-then-containers-len-clause-sifted : goal.heights_or_circle-requires-then-containers-len-clause-sifted
-heights_or_circle-requires-then-containers-len-clause-sifted g c = rw c.in_ok-reached.ensures.reads (λ honest.
+pub heights_or_circle-requires-then-unmarked-len-clause-sifted : goal.heights_or_circle-requires-then-unmarked-len-clause-sifted
+heights_or_circle-requires-then-unmarked-len-clause-sifted g c = rw c.in_ok-reached.ensures.reads (λ honest.
     let known = c.in_ok-reached.ensures.exact honest in record { walked = known.0; keys = rw c.in_default.is at known.1 })
 
 pub heights_or_circle-requires-2-clause-sifted : goal.heights_or_circle-requires-2-clause-sifted
