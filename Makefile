@@ -1,6 +1,6 @@
 ## bplint: `rt` of the kit proves and builds, python3 runs the tests on what is built.
 ##
-##   make build          proves and builds the program, crates/bplint/out/bplint; about 40 minutes the first time
+##   make build          proves and builds the program, crates/bplint/out/bplint; half an hour the first time
 ##   make look FILE=F    lints F with the program unproved, in a minute and a half
 ##   make lib            proves and builds the C library, into crates/bplist_c/out
 ##   make wheel          the Python package for pip, with the library in it, into dist/
