@@ -17,12 +17,15 @@ use crate::numbers::{BLOCK_BYTES, FEW, FEW_BYTES, Width, part_of};
 use crate::rule::Rule;
 use bplist_octets::{ReadFault, Source, first_high, sized};
 
-/// The largest number of bytes of a text in one read.
+/// The largest number of bytes of a text in one read, if the text is not long.
 const TEXT_PART: usize = 256;
 
 /// A text of up to this many bytes goes through a small buffer. Most texts are no longer, and a buffer is cleared
 /// before use.
 const SHORT_TEXT: usize = 64;
+
+/// A text of more bytes than this is read in parts of this many bytes, so that few reads are needed.
+const LONG_TEXT: usize = 32_768;
 
 /// What a visit finds.
 #[derive(Clone, Copy, Debug, PartialEq, Eq, Drop)]
@@ -156,6 +159,7 @@ pub(crate) fn first_not_below<S: Source>(
 
 /// Returns the index in the text of the first byte of a part that is 128 or more. The part begins at byte `done` of the
 /// text.
+#[inline(always)]
 fn search_part<S: Source>(
     src: &mut S,
     place: u64,
@@ -176,6 +180,48 @@ fn search_part<S: Source>(
         Some(i) => Ok(Some(done + i as u64)),
         None => Ok(None),
     }
+}
+
+/// The same as `first_high_in`, in parts of `PART` bytes.
+#[inline(always)]
+fn first_high_by_parts<const PART: usize, S: Source>(
+    src: &mut S,
+    place: u64,
+    count: u64,
+) -> Result<Option<u64>, ReadFault>
+    requires some { 1 ≤ PART }
+    requires fits { PART ≤ 32768 }
+    requires within { place + count ≤ length (S.means src.old).octets }
+    ensures reads { OnlyReads (is_err result) (S.means src.old) (S.means src.new) }
+    ensures found { IfOk result (λ found. Honestly (S.means src.old)
+        (λ f. MatchOption found (AreBelow f place 1 count 128) (IsFirstNotBelow f place 1 count 128))) }
+    ensures inside { IfOk result (λ found. IfSome found (λ i. i < count)) }
+{
+    let _len = src.len();
+    let mut buffer = [0u8; PART];
+    let mut done = 0u64;
+    while done < count {
+        let now = (count - done).min(PART as u64);
+        let part = &mut buffer[..now as usize];
+        if let Some(i) = search_part(src, place, count, done, part)? {
+            return Ok(Some(i));
+        }
+        done += now;
+    }
+    Ok(None)
+}
+
+/// The same as `first_high_in`, for a long text.
+// Not inlined, because a function pays at entry for the size of its buffers.
+#[inline(never)]
+fn first_high_long<S: Source>(src: &mut S, place: u64, count: u64) -> Result<Option<u64>, ReadFault>
+    requires within { place + count ≤ length (S.means src.old).octets }
+    ensures reads { OnlyReads (is_err result) (S.means src.old) (S.means src.new) }
+    ensures found { IfOk result (λ found. Honestly (S.means src.old)
+        (λ f. MatchOption found (AreBelow f place 1 count 128) (IsFirstNotBelow f place 1 count 128))) }
+    ensures inside { IfOk result (λ found. IfSome found (λ i. i < count)) }
+{
+    first_high_by_parts::<LONG_TEXT, S>(src, place, count)
 }
 
 /// Returns the index of the first of the `count` bytes from `place` on that is 128 or more, or None if there is none.
@@ -200,15 +246,8 @@ pub fn first_high_in<S: Source>(
             Some(_) => search_part(src, place, count, 0, &mut buffer[..count as usize]),
         };
     }
-    let mut buffer = [0u8; TEXT_PART];
-    let mut done = 0u64;
-    while done < count {
-        let now = (count - done).min(TEXT_PART as u64);
-        let part = &mut buffer[..now as usize];
-        if let Some(i) = search_part(src, place, count, done, part)? {
-            return Ok(Some(i));
-        }
-        done += now;
+    if count <= LONG_TEXT as u64 {
+        return first_high_by_parts::<TEXT_PART, S>(src, place, count);
     }
-    Ok(None)
+    first_high_long(src, place, count)
 }

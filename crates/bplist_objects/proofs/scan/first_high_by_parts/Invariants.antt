@@ -1,6 +1,6 @@
 use Rattle.std.proofs.Common.{◌≡◌, ◌≤◌, ◌-◌, IsTrue}
 use Rattle.bplist_objects.specs.Scan.{AreBelow}
-use Rattle.bplist_objects.proofs.scan.first_high_in.Given as goal
+use Rattle.bplist_objects.proofs.scan.first_high_by_parts.Given as goal
 
 -- the source is unchanged, and the bytes so far are below 128
 abbrev pub invariant-loop-done : goal.invariant-loop-done
