@@ -41,7 +41,8 @@ LEFT_OUT = {
     "an empty CERT": "version_of, count_in, fits, read_words",
     "objects of other kinds": "wide_in, int_of, leaf_bytes, uid_of, long_count, index_of, add_integer, add_number, "
     "add_hexadecimal, add_text_of_bytes",
-    "larger files, bodies and answers": "is_rest_low, read_past, read_at:> LONGEST, put:!self.has_room, pass_on",
+    "larger files, bodies and answers": "is_rest_low, first_high_by_parts, first_high_long, read_past, read_at:> LONGEST, "
+    "put:!self.has_room, pass_on",
     "keys whose fingerprints are equal or descend": "compare_texts, merge",
     "ranks, which `upgrade` needs": "weigh:Weight::Prefix, notes_by:Weight::Prefix",
     "a certificate without key lists": "walk_keys",
