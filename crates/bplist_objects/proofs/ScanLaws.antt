@@ -38,12 +38,6 @@ nth_number-part f block place size now e k h =
     ap (λ b. num (part b (0 + k * size) size)) e
     ∙ ap num (part-part f place (now * size) (0 + k * size) size (place + k * size) (let r = row_fits k size now size h (omega arith) in omega arith) (omega arith))
 
--- the numbers of a block that was read are those of the source
-pub numbers_read : {T : Type 0} (means : T → ℕ) (f block : List ℕ) (place bytes : ℕ) (into : List T)
-    → block ≡ part f place (length into * bytes) → MeanNumbers means block 0 bytes into → MeanNumbers means f place bytes into
-numbers_read means f block place bytes into filled here k d l =
-    here k d l ∙ nth_number-part f block place bytes (length into) filled k l
-
 -- numbers that are appended to those before them
 pub numbers_grown : {T : Type 0} (means : T → ℕ) (f : List ℕ) (into ys rest : List T) (place size done k : ℕ) (d : T) → done ≤ length into
     → ((j : ℕ) (e : T) → j < done → means (get_or into j e) ≡ nth_number f place size j) → MeanNumbers means f (place + done * size) size ys → k < done + length ys

@@ -9,7 +9,7 @@ ghost use Rattle.bplist_objects.specs.Prelude.{IsSafeBody, Int, Uid, last_count,
 
 use crate::head::Head;
 use crate::marker::item_size;
-use crate::numbers::{Width, read_few, read_many, wide_in};
+use crate::numbers::{Width, read_many, wide_in};
 use bplist_octets::{ReadFault, Source, sized, wide};
 use std::cmp::Ordering;
 
@@ -18,9 +18,6 @@ const BLOCK: usize = 128;
 
 /// The largest number of bytes in one read.
 const BLOCK_BYTES: usize = 256;
-
-/// Up to this many units take at most 64 bytes.
-const SHORT: usize = 32;
 
 /// The largest number of units of a key in one read.
 const KEY_BLOCK: usize = 32;
@@ -112,9 +109,6 @@ pub fn read_units<S: Source>(
 {
     let bytes = item_size(head.kind, 1);
     let place = head.body + from * bytes as u64;
-    if into.len() <= SHORT {
-        return read_few(src, place, Width { bytes }, into);
-    }
     read_many::<BLOCK, BLOCK_BYTES, u16, S>(src, place, Width { bytes }, into)
 }
 

@@ -1,6 +1,6 @@
 //! Numbers of one to sixteen bytes at a place of a source, one by one or in blocks.
 
-ghost use Rattle.std.specs.Prelude.{◌≡◌, ℕ, ◌+◌, ◌*◌, ◌≤◌, ◌<◌, length, take, IfOk, OnOk, is_err, slice_index};
+ghost use Rattle.std.specs.Prelude.{◌≡◌, ℕ, ◌+◌, ◌*◌, ◌≤◌, ◌<◌, length, IfOk, OnOk, is_err, slice_index};
 ghost use Rattle.bplist_objects.specs.Prelude.{part, num, OnlyReads, Honestly, num_at, AreNumbers, MeanNumbers};
 
 use bplist_octets::{ReadFault, Source, sized, wide};
@@ -123,67 +123,8 @@ fn spell_block<T: Spelled>(block: &[u8], width: Width, into: &mut [T])
     }
 }
 
-/// Fills `into` with the numbers that a block of bytes spells. Each usual width has a loop of its own, compiled for that
+/// Fills `into` with one read of the source, through `block`. Each usual width has a loop of its own, compiled for that
 /// width.
-#[inline(always)]
-fn spell<T: Spelled>(block: &[u8], width: Width, into: &mut [T])
-    requires most { width.bytes ≤ T.most }
-    requires room { length block.now ≡ length into.old * width.bytes }
-    ensures { MeanNumbers T.means block.now 0 width.bytes into.new }
-{
-    match width.bytes {
-        1 => spell_block(block, Width { bytes: 1 }, into),
-        2 => spell_block(block, Width { bytes: 2 }, into),
-        4 => spell_block(block, Width { bytes: 4 }, into),
-        _ => spell_block(block, width, into),
-    }
-}
-
-/// Reads `count` bytes from `place` on into the front of the buffer. Behind them the buffer may hold anything.
-///
-/// It reads the whole buffer if the source has as many bytes there, because a copy of constant length compiles to no
-/// call.
-#[inline(always)]
-fn read_front<S: Source>(
-    src: &mut S,
-    place: u64,
-    count: usize,
-    buffer: &mut [u8; FEWEST_BYTES],
-) -> Result<(), ReadFault>
-    requires few { count ≤ 64 }
-    requires within { place + count ≤ length (S.means src.old).octets }
-    ensures reads { OnlyReads (is_err result) (S.means src.old) (S.means src.new) }
-    ensures filled { OnOk result (Honestly (S.means src.old) (λ f. take count buffer.new ≡ part f place count)) }
-{
-    if src.len() - place >= FEWEST_BYTES as u64 {
-        return src.read_at(place, buffer);
-    }
-    src.read_at(place, &mut buffer[..count])?;
-    Ok(())
-}
-
-/// Fills `into` with numbers that take at most 64 bytes.
-#[inline(always)]
-pub(crate) fn read_few<T: Spelled, S: Source>(
-    src: &mut S,
-    place: u64,
-    width: Width,
-    into: &mut [T],
-) -> Result<(), ReadFault>
-    requires most { width.bytes ≤ T.most }
-    requires few { length into.old * width.bytes ≤ 64 }
-    requires within { place + length into.old * width.bytes ≤ length (S.means src.old).octets }
-    ensures reads { OnlyReads (is_err result) (S.means src.old) (S.means src.new) }
-    ensures numbers { OnOk result (Honestly (S.means src.old) (λ f. MeanNumbers T.means f place width.bytes into.new)) }
-{
-    let size = into.len() * width.bytes as usize;
-    let mut buffer = [0u8; FEWEST_BYTES];
-    read_front(src, place, size, &mut buffer)?;
-    spell(&buffer[..size], width, into);
-    Ok(())
-}
-
-/// Fills `into` with one read of the source, through `block`.
 #[inline(always)]
 fn read_block<T: Spelled, S: Source>(
     src: &mut S,
@@ -199,7 +140,12 @@ fn read_block<T: Spelled, S: Source>(
     ensures numbers { OnOk result (Honestly (S.means src.old) (λ f. MeanNumbers T.means f place width.bytes into.new)) }
 {
     src.read_at(place, block)?;
-    spell(block, width, into);
+    match width.bytes {
+        1 => spell_block(block, Width { bytes: 1 }, into),
+        2 => spell_block(block, Width { bytes: 2 }, into),
+        4 => spell_block(block, Width { bytes: 4 }, into),
+        _ => spell_block(block, width, into),
+    }
     Ok(())
 }
 
@@ -252,7 +198,8 @@ pub(crate) fn numbers_in<S: Source>(
     }
     let size = count * width.bytes as usize;
     if size <= FEWEST_BYTES {
-        return read_few(src, place, width, into);
+        let mut buffer = [0u8; FEWEST_BYTES];
+        return read_block(src, place, width, &mut buffer[..size], into);
     }
     let mut buffer = [0u8; FEW_BYTES];
     read_block(src, place, width, &mut buffer[..size], into)

@@ -17,13 +17,3 @@ returns-clause-units g c =
     on_ok c.read_many.result
     (λ numbers honest. units_part f head.kind head.count head.body c.args.from (length c.args.into.now) c.read_many.new.into c.requires.kind within c.requires.within c.read_many.auto.into (λ k l. numbers honest k 0 l))
     here
-
-pub returns-then-into-le-SHORT-clause-units : goal.returns-then-into-le-SHORT-clause-units
-returns-then-into-le-SHORT-clause-units g c =
-    let f = (g.S.Source.means c.args.src.now).octets in
-    let head = c.args.head.now in
-    let within : head.body + head.count * item_size 1 head.kind ≤ length f = omega arith in
-    let here = rw c.item_size-bytes.ensures at c.read_few.ensures.numbers in
-    on_ok c.read_few.result
-    (λ numbers honest. units_part f head.kind head.count head.body c.args.from (length c.args.into.now) c.read_few.new.into c.requires.kind within c.requires.within c.read_few.auto.into (λ k l. numbers honest k 0 l))
-    here
