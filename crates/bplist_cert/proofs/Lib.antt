@@ -15,7 +15,6 @@ pub mod UnchangedChecked
 pub mod OneFault
 pub mod KeyRepeats
 pub mod KeyPairs
-pub mod KeyRanks
 pub mod RepeatedKeys
 pub mod DecidedKeys
 pub mod DecidedObjects

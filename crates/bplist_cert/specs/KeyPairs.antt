@@ -8,7 +8,6 @@ use Rattle.bplist_objects.specs.declared.head.Head.{Head}
 use Rattle.bplist_objects.specs.Heads.{HasShape}
 use Rattle.bplist_objects.specs.Units.{IsTextKind, compare_units}
 use Rattle.bplist_keys.specs.Runs.{AreRuns}
-use Rattle.bplist_keys.specs.declared.ranks.KeyNumbers.{KeyNumbers}
 use Rattle.bplist_cert.specs.declared.key_order.ReadKey.{ReadKey}
 use Rattle.bplist_cert.specs.declared.caches.OrderedPairsCache.{OrderedPairsCache}
 use Rattle.bplist_keys.specs.Texts.{HasTextShape, text_units}
@@ -22,10 +21,6 @@ IsSafeText len head = IsTextKind head.kind × IsSafeBody len head
 -- the key is an object of the file; its head, if it was read, is that of a text inside the file
 abbrev pub IsSafeKey : Meaning → ReadKey → Type 0
 IsSafeKey m key = (key.object < (frame_in m).objects) × IfSome key.head (IsSafeText (length m.octets))
-
--- the number of object m, or 0 if none is known
-abbrev pub key_number : Option KeyNumbers → ℕ → ℕ
-key_number numbers m = elim numbers [ None ↦ 0 | Some found ↦ slice_index found.table.items m ]
 
 module _ (f : List ℕ) (F : Frame) where
   -- the head of the key, if it was read, is that of its text
@@ -41,14 +36,9 @@ module _ (f : List ℕ) (F : Frame) where
   ArePairs slots =
       (i a b : ℕ) → b < 4294967296 → 0 < slice_index slots i → slice_index slots i ≡ a * 4294967296 + b → Ascends a b
 
-  -- an object with a smaller number above 0 than another comes before it, and both are texts by marker and count
-  abbrev pub AreNumbersInOrder : Option KeyNumbers → Type 0
-  AreNumbersInOrder numbers =
-      (a b : ℕ) → 0 < key_number numbers a → key_number numbers a < key_number numbers b → Ascends a b
-
-  -- the stored pairs are in order, as are the numbers, and the runs are those of the file
+  -- the stored pairs are in order, and the runs are those of the file
   abbrev pub AreKnown : OrderedPairsCache → Type 0
-  AreKnown pairs = (ArePairs pairs.slots × AreNumbersInOrder pairs.numbers) × AreRuns f pairs.runs.slots
+  AreKnown pairs = ArePairs pairs.slots × AreRuns f pairs.runs.slots
 
   -- key m is a text by marker and count, and comes after the one before it, if there is one
   abbrev pub Follows : Option ReadKey → ℕ → Type 0

@@ -37,7 +37,7 @@ pub use Rattle.bplist_cert.specs.DictKeys.{AreInOrder, ComesAfter, IsKeylessFaul
 pub use Rattle.bplist_cert.specs.Encoding.{Fits, IsCertRefusal, IsOctetsFault, magic, octets_of, words}
 pub use Rattle.bplist_cert.specs.Heights.{AreMet, AreMetBy, IsFirstUnmetBy, IsUnmetFault, Meets, rule_of}
 pub use Rattle.bplist_cert.specs.KeyOffsets.{AreOffsetsOf, ArePlaces, AreRefs, IsFirstOther, IsOffsetOf, ReferToTexts}
-pub use Rattle.bplist_cert.specs.KeyPairs.{AreFewKeys, AreKnown, AreNumbersInOrder, Ascends, Follows, HaveTextShapes, IsReadKey, IsSafeKey, IsSafeText, key_number}
+pub use Rattle.bplist_cert.specs.KeyPairs.{AreFewKeys, AreKnown, Ascends, Follows, HaveTextShapes, IsReadKey, IsSafeKey, IsSafeText}
 pub use Rattle.bplist_cert.specs.KeyRepeats.{BreaksKeys, HasGoodKeys, HaveGoodKeys, HaveNamedKeys, IsFirstKeysFault, IsKeyOf, IsVouchedKey}
 pub use Rattle.bplist_cert.specs.KeysLooks.{AreLearnt, AreSeen, HaveGoodLists, IsListed}
 pub use Rattle.bplist_cert.specs.Lists.{AreWords, HasStarts, IsCertificate, IsWhole, Lists, list_of, lists}

@@ -1,13 +1,11 @@
 //! Caches that save a check from reading the same texts again. One has key pairs known to be in order, so that
-//! dictionaries with the same keys do not compare them again. If there are too many pairs of long keys for that, it also
-//! has the ranks of all keys. The other cache has stretches of the file that have only bytes
+//! dictionaries with the same keys do not compare them again. The other has stretches of the file that have only bytes
 //! below 128, for rule 18: an Ascii text is not read again if many dictionaries name it, or if texts overlap.
 
-ghost use Rattle.std.specs.Prelude.{◌≡◌, ◌+◌, ◌*◌, ℕ, List, IsTrue, ◌↔◌, ◌≤◌, ◌<◌, length, IfOk, is_err, slice_index};
+ghost use Rattle.std.specs.Prelude.{◌≡◌, ◌+◌, ◌*◌, ℕ, List, IsTrue, ◌↔◌, ◌≤◌, ◌<◌, length, IfOk, is_err};
 ghost use Rattle.bplist_cert.specs.Prelude.{Frame as frame, Ascends, AreKnown, OnlyReads, Honestly, IsLow, AreLow};
-ghost use Rattle.bplist_cert.specs.Prelude.{key_number};
 
-use bplist_keys::{KeyNumbers, RunCache};
+use bplist_keys::RunCache;
 use bplist_objects::first_high_in;
 use bplist_octets::{ReadFault, Source};
 
@@ -17,17 +15,13 @@ const PAIR_SLOTS: usize = 2039;
 /// The number of stretches that are kept.
 const STRETCHES: usize = 256;
 
-/// Comparisons are slow if they found this many units for each byte of the file to be the same.
-const SLOW: u64 = 4;
-
 /// Pairs of objects that are texts, the first before the second. The table takes 16 KiB, and a new pair replaces the
 /// one in its slot. A pair is stored as one number, and 0 means none. The cache also has the runs of texts compared so
-/// far, and the ranks of texts, if they are known.
+/// far.
 #[derive(Drop)]
 pub(crate) struct OrderedPairsCache {
     pub slots: [u64; PAIR_SLOTS],
     pub runs: RunCache,
-    pub numbers: Option<KeyNumbers>,
 }
 
 impl OrderedPairsCache {
@@ -38,22 +32,6 @@ impl OrderedPairsCache {
         OrderedPairsCache {
             slots: [0; PAIR_SLOTS],
             runs: RunCache::new(),
-            numbers: None,
-        }
-    }
-
-    /// Returns whether comparisons have read too much of a file of `len` bytes.
-    pub(crate) fn is_slow(&self, len: u64) -> bool {
-        self.runs.compared / SLOW > len
-    }
-
-    /// Returns the rank of object `m`, or 0 if none is known.
-    fn number_of(&self, m: u32) -> u32
-        ensures { result ≡ key_number self.now.numbers m }
-    {
-        match &self.numbers {
-            Some(numbers) => rank_in(&numbers.table, m),
-            None => 0,
         }
     }
 
@@ -61,10 +39,6 @@ impl OrderedPairsCache {
     pub(crate) fn has(&self, a: u32, b: u32) -> bool
         ensures { (f : List ℕ) (F : frame) → AreKnown f F self.now → IsTrue result → Ascends f F a b }
     {
-        let first = self.number_of(a);
-        if first != 0 && first < self.number_of(b) {
-            return true;
-        }
         let pair = pair_of(a, b);
         pair != 0 && self.slots[(pair % PAIR_SLOTS as u64) as usize] == pair
     }
@@ -130,16 +104,6 @@ impl LowBytesCache {
         self.slots[slot] = joined(known, Stretch { from, to });
         Ok(true)
     }
-}
-
-/// Returns the number of object `m` in a table, or 0 if the table has none.
-fn rank_in(table: &[u32], m: u32) -> u32
-    ensures { result ≡ slice_index table.now m }
-{
-    if (m as usize) < table.len() {
-        return table[m as usize];
-    }
-    0
 }
 
 /// Packs two object numbers into one number.

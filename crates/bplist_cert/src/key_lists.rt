@@ -2,28 +2,24 @@
 //!
 //! For version 1 the walk collects the objects that are named as keys, and `key_rules` checks them. For version 2 it
 //! checks the key lists, rules 21 and 32. If it sees all objects and finds all lists good, nothing is left to check.
-//! Otherwise each dictionary is checked, in the order of their numbers, so that the fault is the first. If comparisons of
-//! keys have read too much, the walk gives up the lists, and the keys are ranked before the dictionaries are checked.
+//! Otherwise each dictionary is checked, in the order of their numbers, so that the fault is the first.
 
-ghost use Rattle.std.specs.Prelude.{◌≡◌, ◌+◌, ◌≤◌, ℕ, List, None, IfOk, IfErr, length, ◌<◌, Some, IsTrue, false, is_err};
+ghost use Rattle.std.specs.Prelude.{◌≡◌, ◌+◌, ◌≤◌, ℕ, List, None, IfOk, IfErr, length, ◌<◌, Some, IsTrue, false};
 ghost use Rattle.bplist_cert.specs.Prelude.{OnlyReads, Gives, Never, read_failed, frame_in, HonestlyIn, Frame as frame};
 ghost use Rattle.bplist_cert.specs.Prelude.{Lists, lists, ArePlaces, KeepBeforeKeysBelow, HaveGoodKeys};
 ghost use Rattle.bplist_cert.specs.Prelude.{IsFirstKeysFault, Judges, MayRefuse, refused_read, AreSeen, off, KeepsAll};
 ghost use Rattle.bplist_cert.specs.Prelude.{KeepsByObject, object_rules, Head as head, Dict, HasGoodKeys, BreaksKeys};
-ghost use Rattle.bplist_cert.specs.Prelude.{AreNumbersInOrder, AreKnown, IsListed, HaveGoodLists, AreLearnt, IsVouchedBy};
+ghost use Rattle.bplist_cert.specs.Prelude.{AreKnown, IsListed, HaveGoodLists, AreLearnt, IsVouchedBy};
 
 use crate::caches::{LowBytesCache, OrderedPairsCache};
 use crate::certificate::KeyLists;
 use crate::heights::{block_of, height_at};
-use crate::key_names::{name_key_block, seen_keys};
+use crate::key_names::name_key_block;
 use crate::key_order::order_fault;
 use crate::key_rules::{Dictionary, check_key_repeats, check_texts};
 use crate::refusal::Refusal;
-use bplist_keys::{KeyNumbers, NamedKeys, ranks_of};
-use bplist_objects::{
-    Failure, Framed, Kind, ObjectFault, ObjectNo, Offsets, object_shape, shape_in,
-};
-use bplist_octets::ReadFault;
+use bplist_keys::NamedKeys;
+use bplist_objects::{Framed, Kind, ObjectFault, ObjectNo, Offsets, object_shape, shape_in};
 use std::alloc::{AllocError, Global};
 
 /// The vouched objects with numbers below `bound`, all of which keep the rules before those of keys, and the key lists.
@@ -116,7 +112,7 @@ impl KeyFindings {
     {
         match seen.keys {
             None => check_key_repeats(alloc, src, seen, self.named.take()),
-            Some(keys) => Ok(check_key_orders(alloc, src, seen, keys, &mut self.lists)?),
+            Some(keys) => Ok(check_key_orders(src, seen, keys, &mut self.lists)?),
         }
     }
 }
@@ -153,9 +149,8 @@ fn may_be_wrong(height: u32, start: u32, positions: usize) -> bool
     start as usize > positions
 }
 
-/// Returns whether object `n`, which is at `place`, has a good key list, or is not a dictionary. If comparisons have
-/// read too much, it returns false, so that all lists are checked after the walk, with ranks. Not inlined, so that the
-/// loop over leaves stays in registers.
+/// Returns whether object `n`, which is at `place`, has a good key list, or is not a dictionary. Not inlined, so that
+/// the loop over leaves stays in registers.
 #[inline(never)]
 fn is_listed<P: Offsets>(
     src: &mut P,
@@ -170,9 +165,6 @@ fn is_listed<P: Offsets>(
         → KeepsAll (KeepsByObject f F n) object_rules
         → Gives (λ good. AreKnown f F pairs.new × (IsTrue good → IsListed f F keys.now n)) Never result) }
 {
-    if pairs.is_slow(src.len()) {
-        return Ok(false);
-    }
     let head = shape_in(src, ObjectNo(n), place)?;
     match head.kind {
         Kind::Dict => {
@@ -256,50 +248,9 @@ fn check_dict_order<P: Offsets>(
     }
 }
 
-/// Returns the ranks of the keys that the vouched dictionaries seen so far name, or None if memory is refused.
-fn key_ranks<P: Offsets>(
-    alloc: Global,
-    src: &mut P,
-    seen: &VouchedPrefix,
-) -> Result<Option<KeyNumbers>, ReadFault>
-    requires { length seen.now.heights.now ≡ (frame_in (P.means src.old)).objects }
-    ensures reads { OnlyReads (is_err result) (P.means src.old) (P.means src.new) }
-    ensures exact { HonestlyIn (P.means src.old) (λ f F. IfOk result (AreNumbersInOrder f F)) }
-{
-    let named = match seen_keys(alloc, src, seen.heights, seen.bound, None) {
-        Ok(named) => named,
-        Err(Refusal::Read(fault)) => return Err(fault),
-        Err(Refusal::Fault(_)) => return Ok(None),
-        Err(Refusal::Memory) => return Ok(None),
-    };
-    match ranks_of(alloc, src, named) {
-        Ok(numbers) => Ok(Some(numbers)),
-        Err(Failure::Read(fault)) => Err(fault),
-        Err(Failure::Memory) => Ok(None),
-    }
-}
-
-/// Learns the ranks of the keys if comparisons have read too much of the file.
-fn learn_ranks<P: Offsets>(
-    alloc: Global,
-    src: &mut P,
-    seen: &VouchedPrefix,
-    look: &mut KeyListFindings,
-) -> Result<(), ReadFault>
-    requires { length seen.now.heights.now ≡ (frame_in (P.means src.old)).objects }
-    ensures reads { OnlyReads (is_err result) (P.means src.old) (P.means src.new) }
-    ensures same { look.new.good ≡ look.old.good }
-    ensures exact { HonestlyIn (P.means src.old) (λ f F. AreLearnt f F look.old → IfOk result (λ _. AreLearnt f F look.new)) }
-{
-    if !look.good && look.pairs.is_slow(src.len()) {
-        look.pairs.numbers = key_ranks(alloc, src, seen)?;
-    }
-    Ok(())
-}
-
-/// Checks the key lists of the vouched dictionaries seen so far, in the order of the dictionaries' numbers, unless the
-/// walk has already shown that they are good.
-fn check_dict_orders<P: Offsets>(
+/// Checks that the keys of the vouched dictionaries seen so far are texts, and that the key lists have them in order.
+/// If all vouched objects were seen and the walk found all lists good, there is nothing left to check.
+pub(crate) fn check_key_orders<P: Offsets>(
     src: &mut P,
     seen: &VouchedPrefix,
     keys: &KeyLists,
@@ -326,24 +277,4 @@ fn check_dict_orders<P: Offsets>(
         }
     }
     Ok(())
-}
-
-/// Checks that the keys of the vouched dictionaries seen so far are texts, and that the key lists have them in order.
-/// If all vouched objects were seen and the walk found all lists good, there is nothing left to check.
-pub(crate) fn check_key_orders<P: Offsets>(
-    alloc: Global,
-    src: &mut P,
-    seen: &VouchedPrefix,
-    keys: &KeyLists,
-    look: &mut KeyListFindings,
-) -> Result<(), ObjectFault>
-    requires { length seen.now.heights.now ≡ (frame_in (P.means src.old)).objects }
-    ensures reads { OnlyReads (read_failed result) (P.means src.old) (P.means src.new) }
-    ensures exact { HonestlyIn (P.means src.old) (λ f F. KeepBeforeKeysBelow f F seen.now.heights.now seen.now.bound
-        → HaveGoodLists f F seen.now.heights.now keys.now seen.now.bound look.old
-        → Gives (λ _. HaveGoodKeys f F seen.now.heights.now (Some keys.now) seen.now.bound)
-        (IsFirstKeysFault f F (lists seen.now.heights.now (Some keys.now)) seen.now.bound) result) }
-{
-    learn_ranks(alloc, src, seen, look)?;
-    check_dict_orders(src, seen, keys, look)
 }

@@ -122,8 +122,6 @@ pub struct Run {
 #[derive(Drop)]
 pub struct RunCache {
     pub slots: [Run; SLOTS],
-    /// How many units comparisons have read and found to be the same. At the greatest `u64` it stays.
-    pub compared: u64,
 }
 
 /// Returns the size in bytes of a unit of a text of this kind.
@@ -173,7 +171,6 @@ impl RunCache {
         };
         RunCache {
             slots: [none; SLOTS],
-            compared: 0,
         }
     }
 

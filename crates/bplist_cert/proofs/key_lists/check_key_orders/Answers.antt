@@ -1,9 +1,91 @@
-use Rattle.std.proofs.Common.{sym, ◌∙◌}
+use Rattle.std.proofs.Common.{◌≡◌, ◌≤◌, Some, length, slice_index, refl, ap, sym, subst, ◌∙◌, inl, inr, arith}
+use Rattle.std.proofs.lemmas.Bool.{cases_eq}
+use Rattle.std.proofs.lemmas.Result.{err_from_is_err_and}
+use Rattle.bplist_objects.specs.declared.frame.Frame.{Frame}
+use Rattle.bplist_objects.specs.Framed.{frame_in}
+use Rattle.bplist_cert.specs.Lists.{Keyed, IsWhole}
+use Rattle.bplist_cert.specs.Valid.{IsVouchedBy}
+use Rattle.bplist_cert.specs.Looks.{KeepBeforeKeysBelow}
+use Rattle.bplist_cert.specs.KeyRepeats.{HasGoodKeys, BreaksKeys}
+use Rattle.bplist_cert.proofs.KeyPairs.{low_list, listed_good}
+use Rattle.bplist_cert.proofs.CheckSteps.{given_weaker}
 use Rattle.bplist_cert.proofs.key_lists.check_key_orders.Goals as goal
+use Rattle.bplist_cert.proofs.key_lists.check_key_orders.Goals.{then-may_be_wrong+in_ok-check_dict_order, else-may_be_wrong}
+
+pub loop-n-init : goal.loop-n-init
+loop-n-init g c = record {
+  reads = refl;
+  exact = λ honest seen lists. (lists.learnt, λ k low. absurd (omega (arith, low)));
+}
+
+pub returns-then-seen-frame-clause-exact : goal.returns-then-seen-frame-clause-exact
+returns-then-seen-frame-clause-exact g c = λ honest seen lists n low vouched.
+    let f = (g.P.Source.means c.args.src.now).octets in
+    let F : Frame = frame_in (g.P.Source.means c.args.src.now) in
+    let heights = c.args.seen.now.heights.now in
+    let whole : c.args.seen.now.bound ≡ F.objects = c.if-seen-frame.true ∙ ap (λ (x : Frame). x.objects) c.frame.ensures.frame in
+    listed_good f F (c.frame.ensures.framed.framed honest) heights (subst (KeepBeforeKeysBelow f F heights) whole seen) c.args.keys.now n (omega (arith, low, whole)) vouched
+    (lists.good c.if-look.true n low vouched)
+
+pub returns-in_err-check_dict_order-clause-exact : goal.returns-in_err-check_dict_order-clause-exact
+returns-in_err-check_dict_order-clause-exact g c = λ honest seen lists.
+    let f = (g.P.Source.means c.args.src.now).octets in
+    let F : Frame = frame_in (g.P.Source.means c.args.src.now) in
+    let v = c.loop-n.invariant in
+    let n = c.loop-n.n in
+    let before = v.exact honest seen lists in
+    let here : IsVouchedBy c.args.seen.now.heights.now n = omega (arith, c.height_at-height.ensures, c.may_be_wrong.ensures.vouched c.if-may_be_wrong.true) in
+    let given = (rw v.reads at c.in_err-check_dict_order.ensures.exact) honest c.loop-n-test.true here seen before.0 in
+    let p = err_from_is_err_and c.from_residual.result c.from_residual.ensures.1 in
+    rw (p.1, p.2) (given_weaker _ _ c.in_err-check_dict_order.field-0.0 (λ fault h. record {
+      object = n;
+      within = c.loop-n-test.true;
+      vouched = here;
+      breaks = subst (λ count. BreaksKeys f F count (Some c.args.keys.now) n fault) (sym c.requires) h;
+      before = before.1;
+    }) given)
+
+pub loop-n-preserved : goal.loop-n-preserved
+loop-n-preserved g c =
+    let f = (g.P.Source.means c.args.src.now).octets in
+    let F : Frame = frame_in (g.P.Source.means c.args.src.now) in
+    let heights = c.args.seen.now.heights.now in
+    let v = c.loop-n.invariant in
+    let n = c.loop-n.n in
+    elim c.if-may_be_wrong.branch [
+      | then-may_be_wrong+in_ok-check_dict_order w ↦ record {
+        reads = rw w.src-is (w.in_ok-check_dict_order.ensures.reads ∙ v.reads);
+        exact = λ honest seen lists.
+            let before = v.exact honest seen lists in
+            let here : IsVouchedBy heights n = omega (arith, c.height_at-height.ensures, c.may_be_wrong.ensures.vouched w.if-may_be_wrong.true) in
+            let good = (rw v.reads at w.in_ok-check_dict_order.ensures.exact) honest c.loop-n-test.true here seen before.0 in (
+              rw w.look-is good.0,
+              λ m low vouched. elim (cases_eq m n) [
+                | inl e ↦ subst (HasGoodKeys f F (Some c.args.keys.now)) (sym e) good.1
+                | inr d ↦ before.1 m (omega (arith, low, d)) vouched
+              ],
+            );
+      }
+      | else-may_be_wrong w ↦ record {
+        reads = rw w.src-is v.reads;
+        exact = λ honest seen lists.
+            let before = v.exact honest seen lists in (
+              rw w.look-is before.0,
+              λ m low vouched. elim (cases_eq m n) [
+                | inl e ↦
+                    let here = subst (IsVouchedBy heights) e vouched in
+                    let starts = c.deref.ensures.value ∙ ap (λ (x : Keyed). x.starts) c.keys.view_is in
+                    let positions = ap (λ (x : Keyed). length x.positions) c.keys.view_is in
+                    let none = c.may_be_wrong.ensures.none w.if-may_be_wrong.false (omega (arith, c.height_at-height.ensures, here)) in
+                    let low_height : slice_index heights n ≤ 1 = omega (arith, c.height_at-height.ensures, none.0) in
+                    let whole : IsWhole c.args.keys.now n 0 = omega (arith, c.height_at.ensures ∙ ap (λ xs. slice_index xs n) starts, none.1, c.len.ensures, positions) in
+                    subst (HasGoodKeys f F (Some c.args.keys.now)) (sym e) (low_list f F heights n (seen n c.loop-n-test.true here) c.args.keys.now low_height whole)
+                | inr d ↦ before.1 m (omega (arith, low, d)) vouched
+              ],
+            );
+      }
+    ]
 
 pub returns-clause-exact : goal.returns-clause-exact
-returns-clause-exact g c = λ honest seen lists.
-    (rw c.in_ok-learn_ranks.ensures.reads at c.check_dict_orders.ensures.exact) honest seen (record {
-      learnt = c.in_ok-learn_ranks.ensures.exact honest lists.learnt;
-      good = λ yes. lists.good (sym c.learn_ranks.ensures.same ∙ yes);
-    })
+returns-clause-exact g c = λ honest seen lists n low vouched.
+    (c.loop-n.invariant.exact honest seen lists).1 n (omega (arith, low, c.loop-n-test.false)) vouched

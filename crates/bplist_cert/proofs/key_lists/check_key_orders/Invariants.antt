@@ -3,7 +3,7 @@ use Rattle.bplist_objects.specs.Framed.{HonestlyIn}
 use Rattle.bplist_cert.specs.Looks.{KeepBeforeKeysBelow}
 use Rattle.bplist_cert.specs.KeyRepeats.{HaveGoodKeys}
 use Rattle.bplist_cert.specs.KeysLooks.{AreLearnt, HaveGoodLists}
-use Rattle.bplist_cert.proofs.key_lists.check_dict_orders.Given as goal
+use Rattle.bplist_cert.proofs.key_lists.check_key_orders.Given as goal
 
 -- the keys of the vouched dictionaries so far are good
 abbrev pub invariant-loop-n : goal.invariant-loop-n
