@@ -53,9 +53,6 @@ EACH_OF = {
     "keys_of_one_fingerprint": {"check FILE, version 2": 140, "get FILE": 140},
     "keys_of_our_fingerprint": {"check-1": 24, "upgrade": 24, "check FILE, version 2": 140, "get FILE": 140},
     "keys_over_keys_vouched": {"check FILE, version 1": 40, "check FILE, version 2": 40},
-    # Comparisons read two texts for each unit that they find the same, up to four for each byte, before the keys are ranked.
-    "pairs_of_keys": {"check-2": 20, "check FILE, version 2": 40, "get FILE": 40},
-    "pairs_in_one_slot": {"check-2": 14, "check FILE, version 2": 16, "get FILE": 16},
 }
 
 BESIDE = 4096
@@ -67,6 +64,8 @@ SECONDS = 120
 
 # By family. What stands here and grows no faster is said, so that it can be taken out.
 KNOWN = {
+    "pairs_of_keys": ["check-2", "check FILE, version 2", "get FILE"],
+    "pairs_in_one_slot": ["check-2", "check FILE, version 2", "get FILE"],
     "keys_of_our_fingerprint": ["lint", "lint FILE", "certify --sorted FILE", "check FILE, version 1"],
     "keys_over_regions": ["check FILE, version 1", "check FILE, version 2"],
 }
