@@ -1,6 +1,5 @@
 -- The order of the units of two texts of one kind is that of their bytes.
 use Rattle.std.proofs.Common.{◌≡◌, ℕ, zero, suc, ◌+◌, ◌*◌, ◌<◌, ◌≤◌, List, [], ◌∷◌, length, slice_index, refl, sym, ap, ap₂, ◌∙◌, arith, Ordering, Less, Equal, Greater, nat_cmp}
-use Rattle.std.proofs.Math.Nat.{mul-le-mul_right}
 use Rattle.std.specs.Cmp.{nat_cmp_is}
 use Rattle.std.specs.Ordering.{ordering_then, MatchOrdering}
 use Rattle.std.proofs.lemmas.Cmp.{ranked}
@@ -86,12 +85,6 @@ block_units f block kind count at from n size t s h w e =
     let spelled : block ≡ part f (at + from * item_size 1 kind) (n * item_size 1 kind) = e ∙ ap (λ z. part f (at + from * z) (n * z)) s in
     let len = ap length spelled ∙ length-part f (at + from * item_size 1 kind) (n * item_size 1 kind) fits in
     (len, units_spelled f block kind count at from n t h w len spelled)
-
--- an item of a text that is inside the source is inside too
-pub item_within : (body count at size unit len : ℕ) → size ≡ unit → body + count * unit ≤ len → at ≤ count → at * size ≤ len
-item_within body count at size unit len s h l =
-    let all : at * unit ≤ count * unit = mul-le-mul_right unit l in
-    rw s (omega (arith, all, h))
 
 -- items of a text take at most two bytes each
 pub block_small : (kind : Kind) (now size most : ℕ) → IsTextKind kind → size ≡ item_size 1 kind → now ≤ most → now * size ≤ most * 2
