@@ -15,6 +15,7 @@ pub mod ShapeLaws
 pub mod BodyLaws
 pub mod Broken
 pub mod References
+pub mod BlockSteps
 pub mod Integers
 pub mod Units
 pub mod UnitOrder

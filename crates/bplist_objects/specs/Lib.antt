@@ -23,6 +23,7 @@ pub mod Words
 pub mod Spelled
 pub mod SmallFiles
 pub mod Framed
+pub mod RefBlocks
 pub mod Visits
 pub mod Prelude
 pub mod RuleTexts

@@ -49,6 +49,7 @@ mod marker;
 mod numbers;
 mod offset_reader;
 mod offsets;
+mod ref_blocks;
 mod refs;
 mod rule;
 mod rule_texts;
@@ -71,6 +72,7 @@ pub use offset_reader::OffsetReader;
 pub use offsets::{
     OffsetTable, Offsets, check_offsets, object_shape, offset_of, offsets_of, read_offsets,
 };
+pub use ref_blocks::RefBlocks;
 pub use refs::{read_refs, ref_at, refs_of};
 pub use rule::{Rule, rule_name, rule_number, rule_of_number};
 pub use rule_texts::texts_of;

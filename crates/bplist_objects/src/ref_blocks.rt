@@ -1,0 +1,119 @@
+//! The references of an object, block by block.
+
+ghost use Rattle.std.specs.Prelude.{◌≡◌, ◌≤◌, ◌<◌, ◌+◌, ℕ, IfOk, OnOk, IsTrue, is_err, false, length, slice_index, take};
+ghost use Rattle.bplist_objects.specs.Safe.{IsSafeHead, ref_count};
+ghost use Rattle.bplist_objects.specs.Framed.{HonestlyIn, frame_in};
+ghost use Rattle.bplist_objects.specs.Scan.{ref};
+ghost use Rattle.bplist_octets.specs.Meaning.{OnlyReads};
+ghost use Rattle.bplist_objects.specs.declared.head.Kind.TheVariants.{Dict};
+
+use crate::framed::{Framed, read_refs_in};
+use crate::head::Head;
+use crate::refs::refs_of;
+use bplist_octets::ReadFault;
+
+/// The most references in one block. It is small because most objects have few, and the block is cleared for each.
+const BLOCK: usize = 32;
+
+/// Reads the references of an object, block by block.
+#[derive(Drop)]
+pub struct RefBlocks {
+    head: Head,
+    /// How many of the object's references are to be read.
+    bound: u64,
+    /// The number of the first reference of the block.
+    pub first: u64,
+    /// The number of the reference after the block.
+    next: u64,
+    block: [u64; BLOCK],
+    ghost ahead: { first ≤ next },
+    ghost within: { next ≤ bound },
+    ghost room: { next ≤ first + 32 },
+    ghost there: { bound ≤ ref_count head.kind head.count },
+}
+
+/// Reads the `count` references from number `from` on into the first places of `into`.
+#[inline(always)]
+fn read_front<P: Framed>(
+    src: &mut P,
+    head: &Head,
+    from: u64,
+    into: &mut [u64],
+    count: usize,
+) -> Result<(), ReadFault>
+    requires head { IsSafeHead (frame_in (P.means src.old)) head.now }
+    requires within { from + count ≤ ref_count head.now.kind head.now.count }
+    requires room { count ≤ length into.old }
+    ensures reads { OnlyReads (is_err result) (P.means src.old) (P.means src.new) }
+    ensures numbers { HonestlyIn (P.means src.old) (λ f F. OnOk result ((k : ℕ) → k < count
+        → slice_index (take count into.new) k ≡ ref f F head.now (from + k))) }
+{
+    read_refs_in(src, head, from, &mut into[..count])
+}
+
+impl RefBlocks {
+    ghost use Rattle.bplist_objects.specs.RefBlocks.{AreOf, IsBlock, block_of};
+
+    /// Returns the references of an object with this head. None of them is read yet.
+    #[inline(always)]
+    pub fn of<P: Framed>(src: &P, head: &Head) -> RefBlocks
+        requires { IsSafeHead (frame_in (P.means src.now)) head.now }
+        ensures of { AreOf head.now (ref_count head.now.kind head.now.count) result }
+        ensures start { result.next ≡ 0 }
+    {
+        let _frame = src.frame();
+        RefBlocks {
+            head: *head,
+            bound: refs_of(head),
+            first: 0,
+            next: 0,
+            block: [0; BLOCK],
+        }
+    }
+
+    /// Returns the references to the keys of a dictionary with this head. None of them is read yet.
+    #[inline(always)]
+    pub fn keys_of(head: &Head) -> RefBlocks
+        requires { head.now.kind ≡ Dict }
+        ensures of { AreOf head.now head.now.count result }
+        ensures start { result.next ≡ 0 }
+    {
+        RefBlocks {
+            head: *head,
+            bound: head.count,
+            first: 0,
+            next: 0,
+            block: [0; BLOCK],
+        }
+    }
+
+    /// Reads the next block. Returns false if there are no more references.
+    #[inline(always)]
+    pub fn read<P: Framed>(&mut self, src: &mut P) -> Result<bool, ReadFault>
+        requires { IsSafeHead (frame_in (P.means src.old)) self.old.head }
+        ensures reads { OnlyReads (is_err result) (P.means src.old) (P.means src.new) }
+        ensures same { AreOf self.old.head self.old.bound self.new }
+        ensures next { IfOk result (λ more. IsTrue more
+            → IsBlock (P.means src.old) self.old.head self.old.next self.new.next (block_of self.new)) }
+        ensures first { IfOk result (λ more. IsTrue more → self.new.first ≡ self.old.next) }
+        ensures end { IfOk result (λ more. more ≡ false → (self.new ≡ self.old) × (self.old.next ≡ self.old.bound)) }
+    {
+        if self.next == self.bound {
+            return Ok(false);
+        }
+        let head = self.head;
+        let count = (self.bound - self.next).min(BLOCK as u64);
+        read_front(src, &head, self.next, &mut self.block, count as usize)?;
+        self.first = self.next;
+        self.next += count;
+        Ok(true)
+    }
+
+    /// Returns the references of the block that was read last.
+    #[inline(always)]
+    pub fn block(&self) -> &[u64]
+        ensures { result.now ≡ block_of self.now }
+    {
+        &self.block[..(self.next - self.first) as usize]
+    }
+}
