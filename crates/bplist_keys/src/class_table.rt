@@ -7,9 +7,8 @@ ghost use Rattle.bplist_objects.specs.Safe.{IsSafeHead};
 ghost use Rattle.bplist_objects.specs.declared.head.Kind.TheVariants.{Dict};
 ghost use Rattle.bplist_objects.specs.Scan.{ref};
 
-use crate::named_keys::BLOCK;
 use crate::ranks::KeyNumbers;
-use bplist_objects::{Fault, Framed, Head, ObjectNo, Rule, read_refs_in, ref_place};
+use bplist_objects::{Fault, Framed, Head, ObjectNo, RefBlocks, Rule, ref_place};
 use bplist_octets::ReadFault;
 use std::alloc::{AllocError, Global};
 
@@ -162,18 +161,12 @@ impl ClassTable {
             × AreApart (ref f F head.now) self.old.classes.table.items head.now.count)
             (IsKeyDefect (ref f F head.now) self.old.classes.table.items head.now.count))) }
     {
-        let count = head.count;
-        let mut buffer = [0u64; BLOCK];
+        let mut keys = RefBlocks::keys_of(head);
         let mut again: Option<u64> = None;
-        let mut done = 0u64;
-        while done < count {
-            let now = (count - done).min(BLOCK as u64) as usize;
-            let numbers = &mut buffer[..now];
-            read_refs_in(src, head, done, numbers)?;
-            if let Some(i) = self.look_up_block(n, numbers, done, &mut again) {
+        while keys.read(src)? {
+            if let Some(i) = self.look_up_block(n, keys.block(), keys.first, &mut again) {
                 return Ok(Some(KeyDefect::NotText(i)));
             }
-            done += now as u64;
         }
         match again {
             Some(j) => Ok(Some(KeyDefect::Repeated(j))),

@@ -6,13 +6,9 @@ ghost use Rattle.std.specs.Int.{from_bool};
 ghost use Rattle.bplist_keys.specs.Prelude.{OnlyReads, frame_in, HonestlyIn, IsSafeHead, Dict, ref, IsMarked};
 ghost use Rattle.bplist_keys.specs.Prelude.{IsNamedBy};
 
-use bplist_objects::{Framed, Head, read_refs_in};
+use bplist_objects::{Framed, Head, RefBlocks};
 use bplist_octets::ReadFault;
 use std::alloc::{AllocError, Global};
-
-/// The largest number of references in one read. It is small because most dictionaries are, and the buffer is cleared
-/// for each.
-pub(crate) const BLOCK: usize = 32;
 
 /// Returns a number for each mark: 1 if it is set, otherwise 0. Allocates once.
 pub fn numbers_of(alloc: Global, marks: &[bool]) -> Result<Vec<u32>, AllocError>
@@ -81,34 +77,6 @@ impl NamedKeys {
     }
 }
 
-/// Marks a block of a dictionary's keys, from number `from` on. A reference that is no object's number is ignored.
-/// Returns the number of the key after the block.
-fn name_block<P: Framed>(
-    src: &mut P,
-    head: &Head,
-    from: u64,
-    named: &mut NamedKeys,
-) -> Result<u64, ReadFault>
-    requires head { IsSafeHead (frame_in (P.means src.old)) head.now }
-    requires dict { head.now.kind ≡ Dict }
-    requires more { from < head.now.count }
-    ensures reads { OnlyReads (is_err result) (P.means src.old) (P.means src.new) }
-    ensures all { length named.new.marks.items ≡ length named.old.marks.items }
-    ensures next { IfOk result (λ next. (from < next) × (next ≤ head.now.count)) }
-    ensures keeps { (m : ℕ) → IsMarked named.old.marks.items m → IsMarked named.new.marks.items m }
-    ensures named { HonestlyIn (P.means src.old) (λ f F. IfOk result (λ next. (k : ℕ) → from ≤ k → k < next
-        → ref f F head.now k < length named.old.marks.items → IsMarked named.new.marks.items (ref f F head.now k))) }
-    ensures only { HonestlyIn (P.means src.old) (λ f F. IfOk result (λ next. (m : ℕ) → IsMarked named.new.marks.items m
-        → IsMarked named.old.marks.items m ⊎ IsNamedBy f F head.now next m)) }
-{
-    let count = (head.count - from).min(BLOCK as u64);
-    let mut buffer = [0u64; BLOCK];
-    let numbers = &mut buffer[..count as usize];
-    read_refs_in(src, head, from, numbers)?;
-    named.insert_all(numbers);
-    Ok(from + count)
-}
-
 /// Marks the keys of the dictionary with this head, and nothing else. A reference that is no object's number is
 /// ignored. An error is a failed read, after which some of the keys may be marked.
 pub fn name_keys<P: Framed>(
@@ -126,9 +94,9 @@ pub fn name_keys<P: Framed>(
     ensures only { HonestlyIn (P.means src.old) (λ f F. OnOk result ((m : ℕ) → IsMarked named.new.marks.items m
         → IsMarked named.old.marks.items m ⊎ IsNamedBy f F head.now head.now.count m)) }
 {
-    let mut done = 0u64;
-    while done < head.count {
-        done = name_block(src, head, done, named)?;
+    let mut keys = RefBlocks::keys_of(head);
+    while keys.read(src)? {
+        named.insert_all(keys.block());
     }
     Ok(())
 }
