@@ -16,12 +16,8 @@ ghost use Rattle.bplist_lint.specs.Prelude.{IsNew, Head as head_record, IsReache
 use crate::answer::UpgradeFault;
 use bplist_cert::Refusal;
 use bplist_keys::{ClassTable, KeyNumbers, NamedKeys, classes_of};
-use bplist_objects::{Failure, Framed, Head, Kind, ObjectNo, Offsets, object_shape, read_refs_in};
+use bplist_objects::{Failure, Framed, Head, Kind, ObjectNo, Offsets, RefBlocks, object_shape};
 use std::alloc::{AllocError, Global};
-
-/// The most references that are read at once. It is small because most dictionaries are, and the block is set up for
-/// each of them.
-const BLOCK: usize = 32;
 
 /// A key of a dictionary: the rank of its text, or 0 if it has none, and its number among the keys in written order.
 #[derive(Clone, Copy, Debug, PartialEq, Eq, PartialOrd, Ord)]
@@ -115,13 +111,9 @@ fn rank_keys<P: Framed>(
         OnOk result (AreRanked (λ k. slice_index ranks.now (ref f F head.now k)) keys.new.items)) }
 {
     keys.clear();
-    while (keys.len() as u64) < head.count {
-        let from = keys.len() as u64;
-        let count = (head.count - from).min(BLOCK as u64);
-        let mut buffer = [0u64; BLOCK];
-        let numbers = &mut buffer[..count as usize];
-        read_refs_in(src, head, from, numbers)?;
-        push_keys(ranks, numbers, keys)?;
+    let mut refs = RefBlocks::keys_of(head);
+    while refs.read(src)? {
+        push_keys(ranks, refs.block(), keys)?;
     }
     Ok(())
 }

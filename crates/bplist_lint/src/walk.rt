@@ -11,8 +11,8 @@ ghost use Rattle.bplist_lint.specs.declared.walk.Stop.TheVariants.{Memory as is_
 use crate::tally::Tally;
 use bplist_keys::NamedKeys;
 use bplist_objects::{
-    Failure, Frame, Framed, Head, Kind, ObjectFault, ObjectNo, Offsets, Visit, check_body,
-    read_refs_in, refs_of, visit_in,
+    Failure, Frame, Framed, Head, Kind, ObjectFault, ObjectNo, Offsets, RefBlocks, Visit,
+    check_body, refs_of, visit_in,
 };
 use bplist_octets::ReadFault;
 use std::alloc::{AllocError, AllocFailed, Global};
@@ -98,9 +98,6 @@ pub struct Reached {
     pub tally: Tally,
 }
 
-/// The most references that are read at once.
-const BLOCK: usize = 32;
-
 /// Marks the objects with these numbers. Puts an object on the stack if it was not marked before and the walk does not
 /// come to it later.
 fn mark_block(frame: &Frame, numbers: &[u64], worklist: &mut Worklist) -> Result<(), Stop>
@@ -164,16 +161,11 @@ fn mark_body<P: Framed>(
         × (head.now.kind ≡ Dict → (k : ℕ) → k < head.now.count → IsMarked named.new.marks.items (ref f F head.now k)))) }
 {
     let frame = src.frame();
-    let count = refs_of(head);
-    let mut numbers = [0; BLOCK];
-    let mut done = 0;
-    while done < count {
-        let now = (count - done).min(BLOCK as u64);
-        let block = &mut numbers[..now as usize];
-        read_refs_in(src, head, done, block)?;
+    let mut refs = RefBlocks::of(src, head);
+    while refs.read(src)? {
+        let block = refs.block();
         mark_block(&frame, block, worklist)?;
-        named.insert_all(&block[..keys_among(head, done, block.len())]);
-        done += now;
+        named.insert_all(&block[..keys_among(head, refs.first, block.len())]);
     }
     Ok(())
 }

@@ -1,21 +1,27 @@
-use Rattle.std.proofs.Common.{◌≡◌, length, arith, ◌∙◌}
-use Rattle.std.proofs.lemmas.Grind.{common_steps}
+use Rattle.std.proofs.Common.{◌∙◌, arith}
 use Rattle.bplist_objects.specs.declared.frame.Frame.{Frame}
 use Rattle.bplist_objects.specs.Framed.{frame_in}
 use Rattle.bplist_objects.specs.Scan.{ref}
+use Rattle.bplist_objects.proofs.BlockSteps.{still_of, block_is}
 use Rattle.bplist_lint.proofs.key_rules.rank_keys.Goals as goal
 
-pub loop-keys-preserved : goal.loop-keys-preserved
-loop-keys-preserved g c =
-    let i = c.loop-keys.invariant in
-    let from : c.len-from.result ≡ length c.loop-keys.keys.items = omega (arith, c.loop-keys.keys.ok.0, c.len-from.ensures) in
+pub push_keys-requires : goal.push_keys-requires
+push_keys-requires g c =
+    let i = c.loop-refs.invariant in
+    let block = block_is i.same i.of c.block.ensures (c.in_ok-read.ensures.next c.if-branch.true) in
+    let of = still_of i.of c.in_ok-read.ensures.same in
+    omega (arith, i.so_far, block.long, of.same_bound, c.read.new.self.within, c.requires.few)
+
+pub loop-refs-preserved : goal.loop-refs-preserved
+loop-refs-preserved g c =
+    let i = c.loop-refs.invariant in
+    let block = block_is i.same i.of c.block.ensures (c.in_ok-read.ensures.next c.if-branch.true) in
     record {
-      same = c.in_ok-read_refs_in.ensures.reads ∙ i.same;
-      within =
-          let long : length c.read_refs_in.new.into ≡ c.min-count.result = grind (arith, common_steps) in
-          omega (arith, c.in_ok-push_keys.ensures.more, long, c.min-count.ensures, from, i.within);
+      same = c.in_ok-read.ensures.reads ∙ i.same;
+      of = still_of i.of c.in_ok-read.ensures.same;
+      so_far = omega (arith, c.in_ok-push_keys.ensures.more, i.so_far, block.long);
       ranked = λ honest.
           let f = (g.P.Source.means c.args.src.now).octets in
           let F : Frame = frame_in (g.P.Source.means c.args.src.now) in
-          c.in_ok-push_keys.ensures.ranked (ref f F c.args.head.now) (λ k low. (rw (from, i.same) at c.in_ok-read_refs_in.ensures.numbers) honest k low) (i.ranked honest);
+          c.in_ok-push_keys.ensures.ranked (ref f F c.args.head.now) (λ k low. rw i.so_far (block.numbers honest k low)) (i.ranked honest);
     }
