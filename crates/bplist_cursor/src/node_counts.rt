@@ -14,12 +14,9 @@ ghost use Rattle.bplist_cursor.specs.declared.faults.CursorFault.TheVariants.{Ch
 use crate::faults::{CursorFault, Unread};
 use crate::node::{Node, checked_head};
 use bplist_cert::Checked;
-use bplist_objects::{Head, ObjectNo, read_refs_in, refs_of};
+use bplist_objects::{Head, ObjectNo, RefBlocks};
 use bplist_octets::Source;
 use std::alloc::Global;
-
-/// The most references that are read at once.
-const BLOCK: usize = 128;
 
 /// Returns the objects that are higher than this, by number.
 fn higher_than<S: Source>(
@@ -91,17 +88,10 @@ fn count_refs<S: Source>(
     ensures exact { HonestlyChecked checked.old (λ f F. GivesRead
         (λ total. total ≡ cap (1 + sum_by (slice_index counts.now) (refs (content_at f F head.now)))) result) }
 {
-    let _frame = checked.frame();
-    let count = refs_of(head);
-    let mut buffer = [0u64; BLOCK];
+    let mut refs = RefBlocks::of(checked, head);
     let mut total = 1u64;
-    let mut done = 0u64;
-    while done < count {
-        let now = (count - done).min(BLOCK as u64);
-        let block = &mut buffer[..now as usize];
-        read_refs_in(checked, head, done, block)?;
-        total = add_counts(counts, block, total);
-        done += now;
+    while refs.read(checked)? {
+        total = add_counts(counts, refs.block(), total);
     }
     Ok(total)
 }

@@ -20,16 +20,13 @@ use crate::faults::{CursorFault, Unread};
 use crate::node::checked_head;
 use crate::node_counts::in_order;
 use bplist_cert::Checked;
-use bplist_objects::{Head, Kind, ObjectNo, read_refs_in, refs_of};
+use bplist_objects::{Head, Kind, ObjectNo, RefBlocks};
 use bplist_octets::Source;
 use std::alloc::Global;
 use std::marker::Model;
 
 /// The most units that are read at once.
 const UNITS: usize = 128;
-
-/// The most references that are read at once.
-const BLOCK: usize = 128;
 
 /// Whether a value can be written as old-style text, and how long that text is.
 #[derive(Clone, Copy, Debug, PartialEq, Eq)]
@@ -220,20 +217,13 @@ fn add_refs<S: Source>(
     ensures exact { HonestlyChecked checked.old (λ f F. (whole : size)
         → added sizes.now start (refs (content_at f F head.now)) ≡ Some whole → GivesRead (λ s. s ≡ whole) result) }
 {
-    let _frame = checked.frame();
-    let count = refs_of(head);
-    let mut buffer = [0u64; BLOCK];
+    let mut refs = RefBlocks::of(checked, head);
     let mut total = start;
-    let mut done = 0u64;
-    while done < count {
-        let now = (count - done).min(BLOCK as u64);
-        let block = &mut buffer[..now as usize];
-        read_refs_in(checked, head, done, block)?;
-        let Some(more) = add_sizes(sizes, block, total) else {
+    while refs.read(checked)? {
+        let Some(more) = add_sizes(sizes, refs.block(), total) else {
             return Err(Unread::Changed);
         };
         total = more;
-        done += now;
     }
     Ok(total)
 }

@@ -1,51 +1,41 @@
-use Rattle.std.proofs.Common.{rules, ◌≡◌, ℕ, ◌+◌, ◌<◌, ◌≤◌, List, ap, length, slice_index, drop, subst, sum_by, arith}
-use Rattle.std.proofs.lemmas.List.{length-take-le}
-use Rattle.bplist_octets.specs.Meaning.{Meaning}
-use Rattle.bplist_objects.specs.declared.head.Head.{Head}
-use Rattle.bplist_objects.specs.Framed.{HonestlyIn}
-use Rattle.bplist_objects.specs.Scan.{nth_number}
+use Rattle.std.proofs.Common.{rules, ◌≡◌, ◌+◌, ◌≤◌, ap, length, slice_index, drop, subst, sum_by, arith}
 use Rattle.bplist_objects.specs.Heads.{refs, content_at}
 use Rattle.bplist_objects.specs.Safe.{ref_count}
-use Rattle.bplist_objects.proofs.BodyLaws.{refs_fit}
+use Rattle.bplist_objects.proofs.BlockSteps.{still_of, block_is}
 use Rattle.bplist_cert.specs.CheckedFile.{meaning_of}
 use Rattle.bplist_cursor.specs.Nodes.{cap}
 use Rattle.bplist_cursor.proofs.AddSteps.{refs_block}
 use Rattle.bplist_cursor.proofs.CountSteps.{all_counted, block_counted}
 use Rattle.bplist_cursor.proofs.node_counts.count_refs.Goals as goal
 
--- the numbers are the references of an honest source from number `done` on
-abbrev Numbers : Meaning → Head → List ℕ → ℕ → Type 0
-Numbers m head block done = HonestlyIn m (λ f F. (k : ℕ) → k < length block → slice_index block k ≡ nth_number f head.body F.ref_size (done + k))
-
-pub refs_of-count-requires : goal.refs_of-count-requires
-refs_of-count-requires g c =
-    let fit = refs_fit c.args.checked.now.frame.ref_size c.args.head.now.count c.args.head.now.kind c.frame-frame.ensures.checked.safe.safe.ref_low in
-    omega (arith, fit.1, c.requires.body)
-
-pub loop-done-preserved : goal.loop-done-preserved
-loop-done-preserved g c =
+pub loop-refs-preserved : goal.loop-refs-preserved
+loop-refs-preserved g c =
     let f = c.args.checked.now.source.octets in
     let F = c.args.checked.now.frame in
-    let v = c.loop-done.invariant in
-    let head : Head = c.args.head.now in
-    let block = c.read_refs_in.new.into in
-    let all : length block ≡ c.min-now.result = omega (arith, length-take-le c.min-now.result c.loop-done.buffer (omega arith)) in
-    let within : c.loop-done.done + length block ≤ ref_count c.args.head.now.kind c.args.head.now.count = omega (arith, all, c.refs_of-count.ensures, c.min-now.ensures) in
+    let h = c.args.head.now in
+    let v = c.loop-refs.invariant in
+    let from = c.loop-refs.refs.next in
+    let lent = c.block.result.now in
+    let block = block_is (ap meaning_of v.same) v.of c.block.ensures (c.in_ok-read.ensures.next c.if-branch.true) in
+    let of = still_of v.of c.in_ok-read.ensures.same in
+    let within : from + length lent ≤ ref_count h.kind h.count = omega (arith, block.long, of.same_bound, c.read.new.self.within) in
     record {
       same = search rules;
-      reached = omega arith;
+      of = of;
       fits = omega (arith, c.add_counts-total.ensures);
       left = λ honest.
-          let xs = refs (content_at f F c.args.head.now) in
+          let xs = refs (content_at f F h) in
           let at = slice_index c.args.counts.now in
-          let numbers = refs_block f F c.args.head.now c.loop-done.done block within (subst (λ (m : Meaning). Numbers m head block c.loop-done.done) (ap meaning_of v.same) c.in_ok-read_refs_in.ensures.numbers honest) in
-          subst (λ k. cap (c.add_counts-total.result + sum_by at (drop (c.loop-done.done + k) xs)) ≡ cap (1 + sum_by at xs)) all
-          (block_counted c.args.counts.now c.loop-done.total c.add_counts-total.result (cap (1 + sum_by at xs)) xs block c.loop-done.done _ numbers c.add_counts-total.ensures (v.left honest));
+          let numbers = refs_block f F h from lent within (block.numbers honest) in
+          subst (λ k. cap (c.add_counts-total.result + sum_by at (drop k xs)) ≡ cap (1 + sum_by at xs)) block.long
+          (block_counted c.args.counts.now c.loop-refs.total c.add_counts-total.result (cap (1 + sum_by at xs)) xs lent from _ numbers c.add_counts-total.ensures (v.left honest));
     }
 
 pub returns-clause-exact : goal.returns-clause-exact
 returns-clause-exact g c = λ honest.
     let f = c.args.checked.now.source.octets in
     let F = c.args.checked.now.frame in
-    all_counted f F c.args.head.now c.args.counts.now c.loop-done.total (cap (1 + sum_by (slice_index c.args.counts.now) (refs (content_at f F c.args.head.now)))) c.loop-done.done
-    c.loop-done.invariant.fits (omega arith) (c.loop-done.invariant.left honest)
+    let v = c.loop-refs.invariant in
+    let all = c.in_ok-read.ensures.end c.if-branch.false in
+    all_counted f F c.args.head.now c.args.counts.now c.loop-refs.total (cap (1 + sum_by (slice_index c.args.counts.now) (refs (content_at f F c.args.head.now)))) c.loop-refs.refs.next
+    v.fits (omega (arith, all.1, v.of.same_bound)) (v.left honest)
