@@ -1,5 +1,5 @@
 -- References, block by block.
-use Rattle.std.proofs.Common.{◌≡◌, ℕ, ◌+◌, ◌-◌, ◌<◌, List, inl, inr, length, sym, ◌∙◌, subst, arith}
+use Rattle.std.proofs.Common.{◌≡◌, ℕ, ◌+◌, ◌-◌, ◌<◌, List, inl, inr, length, ◌∙◌, subst, arith}
 use Rattle.std.proofs.lemmas.Bool.{cases_lt}
 use Rattle.bplist_octets.specs.Meaning.{Meaning}
 use Rattle.bplist_objects.specs.declared.head.Head.{Head}
@@ -12,12 +12,11 @@ still_of a b = record { same_head = b.same_head ∙ a.same_head; same_bound = b.
 
 -- the block as it is lent is one of that object, over the source as it was
 pub block_is : {m n : Meaning} {head : Head} {bound to : ℕ} {old : RefBlocks} {read lent : List ℕ} → m ≡ n → AreOf head bound old → lent ≡ read
-    → IsBlock m old.head old.next to read → IsBlock n head old.next to lent
-block_is {n = n} {to = to} {old = old} {read = read} same of lent block =
-    subst (IsBlock n _ old.next to) (sym lent) (subst (λ h. IsBlock n h old.next to read) of.same_head (subst (λ m. IsBlock m old.head old.next to read) same block))
+    → IsBlock m old.head old.bound old.next to read → IsBlock n head bound old.next to lent
+block_is same of lent block = rw (← same, ← of.same_head, ← of.same_bound, lent) block
 
 -- what holds up to a block and in the block holds up to its end
-pub each_more : (P : ℕ → Type 0) {m : Meaning} {head : Head} {from to : ℕ} {block : List ℕ} → IsBlock m head from to block
+pub each_more : (P : ℕ → Type 0) {m : Meaning} {head : Head} {bound from to : ℕ} {block : List ℕ} → IsBlock m head bound from to block
     → ((k : ℕ) → k < from → P k) → ((j : ℕ) → j < length block → P (from + j)) → (k : ℕ) → k < to → P k
 each_more P {from = from} is before here k low = elim (cases_lt k from) [
   | inl first ↦ before k first

@@ -94,7 +94,7 @@ impl RefBlocks {
         ensures reads { OnlyReads (is_err result) (P.means src.old) (P.means src.new) }
         ensures same { AreOf self.old.head self.old.bound self.new }
         ensures next { IfOk result (λ more. IsTrue more
-            → IsBlock (P.means src.old) self.old.head self.old.next self.new.next (block_of self.new)) }
+            → IsBlock (P.means src.old) self.old.head self.old.bound self.old.next self.new.next (block_of self.new)) }
         ensures first { IfOk result (λ more. IsTrue more → self.new.first ≡ self.old.next) }
         ensures end { IfOk result (λ more. more ≡ false → (self.new ≡ self.old) × (self.old.next ≡ self.old.bound)) }
     {

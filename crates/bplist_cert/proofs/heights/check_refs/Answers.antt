@@ -12,8 +12,7 @@ returns-in-Some-clause-exact g c = λ honest.
     let F : Frame = frame_in m in
     let v = c.loop-refs.invariant in
     let block = block_is v.same v.of c.block.ensures (c.in_ok-read.ensures.next c.if-branch.true) in
-    let of = still_of v.of c.in_ok-read.ensures.same in
-    let there = unmet_there m.octets F c.args.heights.now c.args.head.now c.args.wanted c.loop-refs.refs.next c.block.result.now (block.numbers honest) (v.met honest) (omega (arith, block.long, of.same_bound, c.read.new.self.within)) c.in-Some.i c.in-Some.ensures in
+    let there = unmet_there m.octets F c.args.heights.now c.args.head.now c.args.wanted c.loop-refs.refs.next c.block.result.now (block.numbers honest) (v.met honest) (omega (arith, block.long, block.within)) c.in-Some.i c.in-Some.ensures in
     let place = rw (c.in_ok-read.ensures.reads, v.same, c.in_ok-read.ensures.first c.if-branch.true) at c.ref_place.ensures in
     (c.rule.ensures, refl, (c.loop-refs.refs.next + c.in-Some.i, there, place))
 

@@ -17,11 +17,10 @@ loop-refs-preserved g c =
     let from = c.loop-refs.refs.next in
     let lent = c.block.result.now in
     let block = block_is (ap meaning_of v.same) v.of c.block.ensures (c.in_ok-read.ensures.next c.if-branch.true) in
-    let of = still_of v.of c.in_ok-read.ensures.same in
-    let within : from + length lent ≤ ref_count h.kind h.count = omega (arith, block.long, of.same_bound, c.read.new.self.within) in
+    let within : from + length lent ≤ ref_count h.kind h.count = omega (arith, block.long, block.within) in
     record {
       same = search rules;
-      of = of;
+      of = still_of v.of c.in_ok-read.ensures.same;
       fits = omega (arith, c.add_counts-total.ensures);
       left = λ honest.
           let xs = refs (content_at f F h) in

@@ -16,8 +16,7 @@ returns-in_default-clause-exact g c = λ honest whole is.
     let from = c.loop-refs.refs.next in
     let lent = c.block.result.now in
     let block = block_is (ap meaning_of v.same) v.of c.block.ensures (c.in_ok-read.ensures.next c.if-branch.true) in
-    let of = still_of v.of c.in_ok-read.ensures.same in
-    let within : from + length lent ≤ ref_count h.kind h.count = omega (arith, block.long, of.same_bound, c.read.new.self.within) in
+    let within : from + length lent ≤ ref_count h.kind h.count = omega (arith, block.long, block.within) in
     let numbers = refs_block f F h from lent within (block.numbers honest) in
     let none = sym c.add_sizes.ensures ∙ none_of c.add_sizes.result c.in_default.not-Some in
     absurd (block_not c.args.sizes.now c.loop-refs.total whole (refs (content_at f F h)) lent from _ numbers none (v.left honest whole is))
@@ -31,11 +30,10 @@ loop-refs-preserved g c =
     let from = c.loop-refs.refs.next in
     let lent = c.block.result.now in
     let block = block_is (ap meaning_of v.same) v.of c.block.ensures (c.in_ok-read.ensures.next c.if-branch.true) in
-    let of = still_of v.of c.in_ok-read.ensures.same in
-    let within : from + length lent ≤ ref_count h.kind h.count = omega (arith, block.long, of.same_bound, c.read.new.self.within) in
+    let within : from + length lent ≤ ref_count h.kind h.count = omega (arith, block.long, block.within) in
     record {
       same = search rules;
-      of = of;
+      of = still_of v.of c.in_ok-read.ensures.same;
       left = λ honest whole is.
           let xs = refs (content_at f F h) in
           let numbers = refs_block f F h from lent within (block.numbers honest) in

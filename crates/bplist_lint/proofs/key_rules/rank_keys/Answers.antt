@@ -9,8 +9,7 @@ pub push_keys-requires : goal.push_keys-requires
 push_keys-requires g c =
     let i = c.loop-refs.invariant in
     let block = block_is i.same i.of c.block.ensures (c.in_ok-read.ensures.next c.if-branch.true) in
-    let of = still_of i.of c.in_ok-read.ensures.same in
-    omega (arith, i.so_far, block.long, of.same_bound, c.read.new.self.within, c.requires.few)
+    omega (arith, i.so_far, block.long, block.within, c.requires.few)
 
 pub loop-refs-preserved : goal.loop-refs-preserved
 loop-refs-preserved g c =

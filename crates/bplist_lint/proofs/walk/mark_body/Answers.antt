@@ -20,13 +20,12 @@ loop-refs-preserved g c =
     let lent = c.block-block.result.now in
     let names = c.insert_all.new.self.marks.items in
     let block = block_is i.reads i.of c.block-block.ensures (c.in_ok-read.ensures.next c.if-branch.true) in
-    let of = still_of i.of c.in_ok-read.ensures.same in
     let marked = c.in_ok-mark_block.ensures in
     let below_block = rw c.frame-frame.ensures.frame at marked.below in
-    let most : from + length lent ≤ ref_count h.kind h.count = omega (arith, block.long, of.same_bound, c.read.new.self.within) in
+    let most : from + length lent ≤ ref_count h.kind h.count = omega (arith, block.long, block.within) in
     record {
       reads = c.in_ok-read.ensures.reads ∙ i.reads;
-      of = of;
+      of = still_of i.of c.in_ok-read.ensures.same;
       steady = rw c.frame-frame.ensures.frame at marked.steady;
       current = marked.current ∙ i.current;
       work = omega (arith, marked.work, i.work);

@@ -12,6 +12,7 @@ returns-clause-next g c = λ _.
     let long : length (take count c.read_front.new.into) ≡ count = length-take-le count c.read_front.new.into (omega arith) in
     record {
       more = omega arith;
+      within = omega arith;
       long = rw is (omega (arith, long));
       numbers = rw is (λ honest k low. c.in_ok-read_front.ensures.numbers honest k (omega (arith, low, long)));
     }
