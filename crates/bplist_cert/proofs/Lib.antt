@@ -14,6 +14,7 @@ pub mod AcceptedCertificates
 pub mod UnchangedChecked
 pub mod OneFault
 pub mod KeyRepeats
+pub mod LongKeys
 pub mod KeyPairs
 pub mod RepeatedKeys
 pub mod DecidedKeys

@@ -45,11 +45,6 @@ AreInOrder f F head list count =
     → IsText f F (ref f F head (slice_index list j)) b
     → compare_units (units_of f a) (units_of f b) ≡ Less)
 
--- whether a key comes after the one before it, if there is one
-abbrev pub ComesAfter : List ℕ → Option Head → Head → Bool → Type 0
-ComesAfter f None key after = after ≡ true
-ComesAfter f (Some last) key after = IsTrue after ↔ (compare_units (units_of f last) (units_of f key) ≡ Less)
-
 -- dictionary n breaks rule 21, by its first key that is not a text
 abbrev pub IsKeylessFault : List ℕ → Frame → ℕ → Head → Fault → Type 0
 IsKeylessFault f F n head fault =

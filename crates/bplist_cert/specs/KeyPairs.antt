@@ -11,6 +11,7 @@ use Rattle.bplist_keys.specs.Runs.{AreRuns}
 use Rattle.bplist_cert.specs.declared.key_order.ReadKey.{ReadKey}
 use Rattle.bplist_cert.specs.declared.caches.OrderedPairsCache.{OrderedPairsCache}
 use Rattle.bplist_keys.specs.Texts.{HasTextShape, text_units}
+use Rattle.bplist_cert.specs.LongKeys.{AreRanked}
 use Rattle.bplist_objects.specs.Safe.{IsSafeBody}
 use Rattle.bplist_objects.specs.Scan.{ref}
 
@@ -36,9 +37,9 @@ module _ (f : List ℕ) (F : Frame) where
   ArePairs slots =
       (i a b : ℕ) → b < 4294967296 → 0 < slice_index slots i → slice_index slots i ≡ a * 4294967296 + b → Ascends a b
 
-  -- the stored pairs are in order, and the runs are those of the file
+  -- the stored pairs are in order, the runs are those of the file, and the long keys are in the order of their ranks
   abbrev pub AreKnown : OrderedPairsCache → Type 0
-  AreKnown pairs = ArePairs pairs.slots × AreRuns f pairs.runs.slots
+  AreKnown pairs = ArePairs pairs.slots × AreRuns f pairs.runs.slots × AreRanked f F pairs.long
 
   -- key m is a text by marker and count, and comes after the one before it, if there is one
   abbrev pub Follows : Option ReadKey → ℕ → Type 0

@@ -1,10 +1,12 @@
 //! Caches that save a check from reading the same texts again. One has key pairs known to be in order, so that
-//! dictionaries with the same keys do not compare them again. The other has stretches of the file that have only bytes
-//! below 128, for rule 18: an Ascii text is not read again if many dictionaries name it, or if texts overlap.
+//! dictionaries with the same keys do not compare them again, and the ranks of long keys. The other has stretches of the
+//! file that have only bytes below 128, for rule 18: an Ascii text is not read again if many dictionaries name it, or if
+//! texts overlap.
 
 ghost use Rattle.std.specs.Prelude.{◌≡◌, ◌+◌, ◌*◌, ℕ, List, IsTrue, ◌↔◌, ◌≤◌, ◌<◌, length, IfOk, is_err};
 ghost use Rattle.bplist_cert.specs.Prelude.{Frame as frame, Ascends, AreKnown, OnlyReads, Honestly, IsLow, AreLow};
 
+use crate::long_keys::LongKeys;
 use bplist_keys::RunCache;
 use bplist_objects::first_high_in;
 use bplist_octets::{ReadFault, Source};
@@ -17,21 +19,23 @@ const STRETCHES: usize = 256;
 
 /// Pairs of objects that are texts, the first before the second. The table takes 16 KiB, and a new pair replaces the
 /// one in its slot. A pair is stored as one number, and 0 means none. The cache also has the runs of texts compared so
-/// far.
+/// far, and the ranks of long keys.
 #[derive(Drop)]
 pub(crate) struct OrderedPairsCache {
     pub slots: [u64; PAIR_SLOTS],
     pub runs: RunCache,
+    pub long: LongKeys,
 }
 
 impl OrderedPairsCache {
-    /// Returns an empty cache.
-    pub(crate) fn new() -> OrderedPairsCache
+    /// Returns an empty cache for a file of `len` bytes.
+    pub(crate) fn new(len: u64) -> OrderedPairsCache
         ensures { (f : List ℕ) (F : frame) → AreKnown f F result }
     {
         OrderedPairsCache {
             slots: [0; PAIR_SLOTS],
             runs: RunCache::new(),
+            long: LongKeys::new(len),
         }
     }
 
@@ -40,7 +44,13 @@ impl OrderedPairsCache {
         ensures { (f : List ℕ) (F : frame) → AreKnown f F self.now → IsTrue result → Ascends f F a b }
     {
         let pair = pair_of(a, b);
-        pair != 0 && self.slots[(pair % PAIR_SLOTS as u64) as usize] == pair
+        if pair != 0 && self.slots[(pair % PAIR_SLOTS as u64) as usize] == pair {
+            return true;
+        }
+        match self.long.known(a, b) {
+            Some(order) => order.is_lt(),
+            None => false,
+        }
     }
 
     /// Records that objects `a` and `b` are texts in this order.

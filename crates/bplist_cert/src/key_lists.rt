@@ -46,7 +46,7 @@ impl KeyListFindings {
         ensures { (f : List ℕ) (F : frame) → AreLearnt f F result }
     {
         KeyListFindings {
-            pairs: OrderedPairsCache::new(),
+            pairs: OrderedPairsCache::new(len),
             low: LowBytesCache::new(len),
             good: true,
         }

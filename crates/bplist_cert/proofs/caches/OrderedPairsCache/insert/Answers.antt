@@ -9,4 +9,5 @@ returns c = λ f F known asc.
       subst (λ p. ArePairs f F (set c.args.self.now.slots slot p)) (sym c.pair_of-pair.ensures)
           (pairs_more f F c.args.self.now.slots slot c.args.a c.args.b (omega arith) c.ranges.b.fits known.0 asc),
       known.1,
+      known.2,
     )
