@@ -1,5 +1,5 @@
 -- What the classes of the keys of a vouched dictionary say about the keys.
-use Rattle.std.proofs.Common.{Bool, not, IsTrue, Option, Some, None, MatchOption, is_some, Result, Ok, Err, ◌≡◌, ℕ, ◌*◌, ◌<◌, ◌≤◌, List, suc, [], ◌∷◌, slice_index, count_by, sym, ap, ◌∙◌, subst, inr, arith}
+use Rattle.std.proofs.Common.{Bool, not, IsTrue, Option, Some, None, MatchOption, is_some, ◌≡◌, ℕ, ◌*◌, ◌<◌, ◌≤◌, List, suc, [], ◌∷◌, slice_index, count_by, sym, ap, ◌∙◌, subst, arith}
 use Rattle.std.proofs.lemmas.Bool.{false≢true}
 use Rattle.bplist_objects.specs.declared.rule.Rule.{Rule}
 use Rattle.bplist_objects.specs.declared.rule.Rule.TheVariants as rules
@@ -28,14 +28,11 @@ use Rattle.bplist_keys.proofs.RankLaws.{none_marked, classes_same}
 use Rattle.bplist_keys.proofs.WeightSteps.{text_units-head}
 use Rattle.bplist_cert.specs.DictKeys.{IsText, KeysAreTexts, KeysDiffer, IsFirstTwice, IsTwiceFault}
 use Rattle.bplist_cert.specs.Lists.{Keyed, lists}
-use Rattle.bplist_cert.specs.CheckRules.{KeepsRule, HasOrder, KeepsLast, IsOrderFault}
-use Rattle.bplist_objects.specs.declared.fault.ObjectFault.{ObjectFault}
-use Rattle.bplist_objects.specs.declared.fault.ObjectFault.TheVariants as errors
-use Rattle.bplist_objects.specs.Answers.{Gives}
+use Rattle.bplist_cert.specs.CheckRules.{KeepsRule, KeepsLast}
 use Rattle.bplist_objects.specs.Scan.{ref}
 use Rattle.bplist_cert.specs.Valid.{IsVouchedBy}
 use Rattle.bplist_cert.specs.Looks.{KeepsBeforeKeys, KeepBeforeKeysBelow}
-use Rattle.bplist_cert.specs.KeyRepeats.{KeysAreSound, HasGoodKeys, BreaksKeys}
+use Rattle.bplist_cert.specs.KeyRepeats.{KeysAreSound, HasGoodKeys}
 use Rattle.bplist_cert.proofs.TextObjects.{text_there}
 
 -- none is found

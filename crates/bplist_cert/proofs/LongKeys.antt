@@ -135,7 +135,7 @@ module _ (f : List ℕ) (F : Frame) where
     ]
 
     -- a text that comes before some ranks has its own rank once those are raised
-    pub ranked_raised : (raised : List ℕ) (m r : ℕ) → top < 4095 → ((k : ℕ) → k < length raised → IsRaised r (slice_index ranks k) (slice_index raised k)) → Are → Before m r
+    pub ranked_raised : (raised : List ℕ) (m r : ℕ) → top < 3071 → ((k : ℕ) → k < length raised → IsRaised r (slice_index ranks k) (slice_index raised k)) → Are → Before m r
         → ((a i : ℕ) → Has objects raised a i → 0 < i → (i ≤ top + 1) × HasTextShape f F a × ((b j : ℕ) → Has objects raised b j → 0 < j → compare_units (t a) (t b) ≡ nat_cmp i j))
         × (0 < r) × (r ≤ top + 1) × HasTextShape f F m × ((a i : ℕ) → Has objects raised a i → 0 < i → compare_units (t a) (t m) ≡ nat_cmp i r)
     ranked_raised raised m r room up are before = (

@@ -1,7 +1,7 @@
 -- The keys of a dictionary by index: they are texts, they differ, and a key list has them in order (rules 21, 22 and
 -- 32).
 -- Source: the format comment of CFBinaryPList.c says what a key reference is; the rest is profile.
-use Rattle.std.specs.Prelude.{◌≡◌, ◌≢◌, ℕ, suc, ◌+◌, ◌*◌, ◌<◌, ◌↔◌, List, slice_index, Option, Some, None, Bool, true, IsTrue}
+use Rattle.std.specs.Prelude.{◌≡◌, ◌≢◌, ℕ, suc, ◌+◌, ◌*◌, ◌<◌, List, slice_index, Some}
 use Rattle.bplist_objects.specs.declared.rule.Rule.TheVariants as rules
 use Rattle.bplist_objects.specs.declared.fault.Fault.{Fault}
 use Rattle.std.specs.declared.cmp.Ordering.TheVariants.{Less}

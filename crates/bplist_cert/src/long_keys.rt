@@ -1,11 +1,11 @@
 //! The order of long keys, which are ranked.
 //!
-//! A hostile file may have some thousand long keys that begin alike, and many dictionaries that name them in ever other
-//! pairs. If each pair were compared, the work would grow with the square of the file's length. So a long key is
-//! compared with about twelve others, once. That gives it a rank, and from then on its pairs are compared by their
-//! ranks. The table is of fixed size, since a check with key lists takes no memory.
+//! A hostile file may have many long keys that begin alike, and many dictionaries that name them in ever other pairs. If
+//! each pair were compared, the work would grow with the square of the file's length. So a long key is compared with at
+//! most thirteen others, once, and gets a rank. From then on its pairs are compared by their ranks. The table has a
+//! fixed size, because a check with key lists takes no memory.
 
-ghost use Rattle.std.specs.Prelude.{◌≡◌, ◌+◌, ◌<◌, ◌≤◌, ℕ, List, IfOk, IfErr, IfSome, is_err, length, slice_index};
+ghost use Rattle.std.specs.Prelude.{◌≡◌, ◌<◌, ◌≤◌, ℕ, List, IfOk, IfSome, is_err, length, slice_index};
 ghost use Rattle.bplist_cert.specs.Prelude.{Frame as frame, OnlyReads, HonestlyIn, frame_in, AreRuns, IsSafeText};
 ghost use Rattle.bplist_cert.specs.Prelude.{text_units, compare_units, AreRanked, FitsBefore, FitsRank, HasRank, IsPlace};
 ghost use Rattle.bplist_cert.specs.Prelude.{IsRaised, IsRankedAs, IsTextKey};
@@ -17,7 +17,7 @@ use std::cmp::Ordering;
 
 /// The size of the table. A sound file has fewer texts that are longer than this part of it, since no two objects share
 /// a byte.
-const ENTRIES: usize = 4096;
+const ENTRIES: usize = 3072;
 
 /// The most keys that get ranks: rank 0 means none.
 const MOST: usize = ENTRIES - 1;
@@ -39,7 +39,7 @@ pub(crate) enum Place {
     Before(u16),
 }
 
-/// The ranks of long keys. The table takes 40 KiB.
+/// The ranks of long keys. The table takes 30 KiB.
 #[derive(Drop)]
 pub(crate) struct LongKeys {
     /// The keys, in the order in which they were found.
@@ -79,7 +79,7 @@ impl LongKeys {
 
     /// Returns the index of object `m`, or else its place among the numbers.
     fn find(&self, m: u32) -> Result<usize, usize>
-        ensures { IfOk result (λ i. (i < 4096) × (slice_index self.now.objects i ≡ m)) }
+        ensures { IfOk result (λ i. (i < 3072) × (slice_index self.now.objects i ≡ m)) }
     {
         let mut low = 0;
         let mut high = self.count;
@@ -96,7 +96,7 @@ impl LongKeys {
     }
 
     /// Returns the rank of object `m`, or 0 if it has none.
-    fn rank(&self, m: u32) -> u16
+    pub(crate) fn rank(&self, m: u32) -> u16
         ensures { 0 < result → HasRank self.now m result }
     {
         match self.find(m) {
@@ -156,7 +156,7 @@ impl LongKeys {
         guess: u16,
     ) -> Result<Option<Place>, ReadFault>
         requires key { IsSafeText (length (P.means src.old).octets) key.now.head }
-        requires room { self.now.top < 4095 }
+        requires room { self.now.top < 3071 }
         ensures reads { OnlyReads (is_err result) (P.means src.old) (P.means src.new) }
         ensures exact { HonestlyIn (P.means src.old) (λ f F. AreRuns f runs.old.slots → AreRanked f F self.now
             → IsTextKey f F key.now → IfOk result (λ found. AreRuns f runs.new.slots
@@ -180,8 +180,8 @@ impl LongKeys {
 
     /// Raises the ranks from `rank` on, so that the next key can have it.
     fn free(&mut self, rank: u16)
-        requires top { self.old.top < 4095 }
-        requires room { self.old.count < 4095 }
+        requires top { self.old.top < 3071 }
+        requires room { self.old.count < 3071 }
         ensures room { self.new.count ≡ self.old.count }
         ensures ranks { (f : List ℕ) (F : frame) (m : ℕ) → AreRanked f F self.old → FitsBefore f F self.old m rank
             → AreRanked f F self.new × FitsRank f F self.new m rank }
@@ -198,7 +198,7 @@ impl LongKeys {
 
     /// Adds object `m` with a rank, at a place among the numbers.
     fn add(&mut self, m: u32, rank: u16, at: usize)
-        requires { self.old.count < 4095 }
+        requires { self.old.count < 3071 }
         ensures { (f : List ℕ) (F : frame) → AreRanked f F self.old → FitsRank f F self.old m rank → AreRanked f F self.new }
     {
         self.objects[self.count] = m;

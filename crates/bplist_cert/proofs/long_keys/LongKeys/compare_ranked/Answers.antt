@@ -14,4 +14,4 @@ returns-clause-exact g c = λ honest runs key.
     let order = (rw c.in_ok-head.ensures.reads at c.in_ok-text_order.ensures.value) honest runs in
     let next = (rw c.in_ok-head.ensures.reads at c.in_ok-text_order.ensures.runs) honest runs in
     let units = ap₂ compare_units (text_units-head f F m c.in-Some-2.head head) (text_units-head f F c.args.key.now.object c.args.key.now.head key) in
-    (next, (m, (slice_index c.args.self.now.by_rank (c.args.rank % 4096) % 4096, sym c.in-Some.ensures.0, c.if-self-i.false), units ∙ sym order))
+    (next, (m, (slice_index c.args.self.now.by_rank (c.args.rank % 3072) % 3072, sym c.in-Some.ensures.0, c.if-self-i.false), units ∙ sym order))

@@ -1,4 +1,3 @@
-use Rattle.std.proofs.Common.{arith}
 use Rattle.bplist_cert.proofs.LongKeys.{ranked_raised}
 use Rattle.bplist_cert.proofs.long_keys.LongKeys.free.Goals as goal
 
