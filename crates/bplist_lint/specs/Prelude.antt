@@ -5,7 +5,7 @@ pub use Rattle.bplist_objects.specs.Announced.{HasHead}
 pub use Rattle.bplist_objects.specs.Answers.{Gives, Never, read_failed}
 pub use Rattle.bplist_objects.specs.File.{FileHolds}
 pub use Rattle.bplist_objects.specs.Frame.{IsFrame}
-pub use Rattle.bplist_objects.specs.Framed.{HonestlyIn, frame_in}
+pub use Rattle.bplist_objects.specs.Framed.{HonestlyBy, HonestlyIn, frame_in}
 pub use Rattle.bplist_objects.specs.Heads.{Content, HasShape, Spells, content_at, refs}
 pub use Rattle.bplist_objects.specs.ObjectRules.{KeepsByObject, object_rules}
 pub use Rattle.bplist_objects.specs.Reach.{Founded, Reach}

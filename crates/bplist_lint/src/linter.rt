@@ -6,7 +6,7 @@ ghost use Rattle.bplist_lint.specs.Prelude.{AreOffsets32, Judges, refused_read, 
 ghost use Rattle.bplist_lint.specs.Prelude.{HasShape, Head as head, IsMarked, AreLeast, AreChildless, IsReachedFault};
 ghost use Rattle.bplist_lint.specs.Prelude.{KeepReached, key_rules, HasRoomFor, IsWalked, AreNamed, IsFileFault};
 ghost use Rattle.bplist_lint.specs.Prelude.{IsFileCircle, Lints, lint_failed, no_circle, KeepsRules, IsLintedBy};
-ghost use Rattle.bplist_lint.specs.Prelude.{IsLinted, IsLintedWithKind, HasNoHeights, reach_rules};
+ghost use Rattle.bplist_lint.specs.Prelude.{IsLinted, IsLintedWithKind, HasNoHeights, reach_rules, HonestlyBy};
 
 use crate::answer::{Lint, LintRefusal, ObjectNos};
 use crate::circle::circle;
@@ -20,7 +20,7 @@ use bplist_cert::{Certificate, Refusal};
 use bplist_keys::NamedKeys;
 use bplist_objects::{
     Fault, Frame, Framed, Kind, OffsetReader, OffsetTable, Offsets, Rule, check_offsets,
-    object_shape, offsets_of, trailer_of,
+    offsets_of, shape_of, trailer_of,
 };
 use bplist_octets::Source;
 use std::alloc::Global;
@@ -90,22 +90,23 @@ fn find_reached<P: Offsets>(alloc: Global, src: &mut P) -> Result<(Reached, Name
 
 /// Checks the reached objects by rules 14 to 20 and 31. If at most a third of all objects are named as keys, checks the
 /// keys too. If more are, returns the named objects: the caller frees the table before it checks the keys.
-fn check_rules_by_table<P: Offsets>(
+fn check_rules_by_table<S: Source>(
     alloc: Global,
-    src: &mut P,
+    src: &mut S,
+    frame: Frame,
     places: &[u32],
 ) -> Result<(Reached, Option<NamedKeys>), Refusal>
-    requires all { length places.now ≡ (frame_in (P.means src.old)).objects }
-    requires placed { HonestlyIn (P.means src.old) (λ f F. AreOffsets32 f F F.objects places.now) }
-    ensures reads { OnlyReads (refused_read result) (P.means src.old) (P.means src.new) }
-    ensures fits { IfOk result (λ known. HasRoomFor (frame_in (P.means src.old)) known.0) }
-    ensures all_named { IfOk result (λ known. IfSome known.1
-        (λ named. length named.marks.items ≡ (frame_in (P.means src.old)).objects)) }
-    ensures exact { HonestlyIn (P.means src.old) (λ f F. Judges (λ known. IsWalked f F known.0
-        × MatchOption known.1 (KeepReached f F (key_rules None) F.objects) (λ named. AreNamed f F named.marks.items))
+    requires safe { IsSafeFrame (length (S.means src.old).octets) frame }
+    requires framed { Honestly (S.means src.old) (λ f. IsFrame f frame) }
+    requires all { length places.now ≡ frame.objects }
+    requires placed { Honestly (S.means src.old) (λ f. AreOffsets32 f frame frame.objects places.now) }
+    ensures reads { OnlyReads (refused_read result) (S.means src.old) (S.means src.new) }
+    ensures fits { IfOk result (λ known. HasRoomFor frame known.0) }
+    ensures all_named { IfOk result (λ known. IfSome known.1 (λ named. length named.marks.items ≡ frame.objects)) }
+    ensures exact { Honestly (S.means src.old) (λ f. Judges (λ known. IsWalked f frame known.0
+        × MatchOption known.1 (KeepReached f frame (key_rules None) frame.objects) (λ named. AreNamed f frame named.marks.items))
         (IsFileFault f) result) }
 {
-    let frame = src.frame();
     let mut table = OffsetTable::new(src, frame, places);
     let (reached, named) = find_reached(alloc, &mut table)?;
     if named.count() > places.len() / 3 {
@@ -156,27 +157,38 @@ fn heights_or_circle<P: Offsets>(
 ///
 /// Frees the table of places early if there are many keys, or if more than a quarter of the objects may wait for
 /// others. With the table these passes would take more than 12 bytes an object.
-fn lint_reached<P: Offsets>(
+fn lint_reached<S: Source>(
     alloc: Global,
-    src: &mut P,
+    src: &mut S,
+    frame: Frame,
     places: Vec<u32>,
 ) -> Result<Lint, LintRefusal>
-    requires all { length places.items ≡ (frame_in (P.means src.old)).objects }
-    requires placed { HonestlyIn (P.means src.old) (λ f F. AreOffsets32 f F F.objects places.items) }
-    ensures reads { OnlyReads (lint_failed result) (P.means src.old) (P.means src.new) }
-    ensures exact { HonestlyIn (P.means src.old) (λ f F. Lints (IsLintedBy f F) (IsFileFault f) (IsFileCircle f) result) }
+    requires safe { IsSafeFrame (length (S.means src.old).octets) frame }
+    requires framed { Honestly (S.means src.old) (λ f. IsFrame f frame) }
+    requires all { length places.items ≡ frame.objects }
+    requires placed { Honestly (S.means src.old) (λ f. AreOffsets32 f frame frame.objects places.items) }
+    ensures reads { OnlyReads (lint_failed result) (S.means src.old) (S.means src.new) }
+    ensures exact { Honestly (S.means src.old)
+        (λ f. Lints (IsLintedBy f frame) (IsFileFault f) (IsFileCircle f) result) }
 {
-    let frame = src.frame();
-    let (reached, many) = check_rules_by_table(alloc, src, &places)?;
+    let (reached, many) = check_rules_by_table(alloc, src, frame, &places)?;
     if let Some(named) = many {
         drop(places);
-        check_keys(alloc, src, &reached.marks, &reached.childless, named)?;
-        let lint = heights_or_circle(alloc, src, reached)?;
+        let mut reader = OffsetReader::new(src, frame);
+        check_keys(
+            alloc,
+            &mut reader,
+            &reached.marks,
+            &reached.childless,
+            named,
+        )?;
+        let lint = heights_or_circle(alloc, &mut reader, reached)?;
         return Ok(lint);
     }
     if unmarked(&reached.childless) > places.len() / 4 {
         drop(places);
-        let lint = heights_or_circle(alloc, src, reached)?;
+        let mut reader = OffsetReader::new(src, frame);
+        let lint = heights_or_circle(alloc, &mut reader, reached)?;
         return Ok(lint);
     }
     let mut table = OffsetTable::new(src, frame, &places);
@@ -185,13 +197,13 @@ fn lint_reached<P: Offsets>(
 }
 
 /// Returns the kind of the top, if the top keeps rules 14 to 17.
-fn top_kind<P: Offsets>(src: &mut P) -> Result<Kind, Refusal>
-    ensures reads { OnlyReads (refused_read result) (P.means src.old) (P.means src.new) }
-    ensures exact { HonestlyIn (P.means src.old) (λ f F. (x : head) → HasShape f F F.top.0 x
+fn top_kind<S: Source>(src: &mut S, frame: &Frame) -> Result<Kind, Refusal>
+    requires { IsSafeFrame (length (S.means src.old).octets) frame.now }
+    ensures reads { OnlyReads (refused_read result) (S.means src.old) (S.means src.new) }
+    ensures exact { HonestlyBy (S.means src.old) frame.now (λ f F. (x : head) → HasShape f F F.top.0 x
         → Judges (λ kind. kind ≡ x.kind) Never result) }
 {
-    let frame = src.frame();
-    let head = object_shape(src, frame.top.0)?;
+    let head = shape_of(src, frame, frame.top)?;
     Ok(head.kind)
 }
 
@@ -217,9 +229,8 @@ pub fn lint_with_kind<S: Source>(alloc: Global, src: &mut S) -> Result<(Lint, Ki
         (IsFileFault (S.means src.old).octets) (IsFileCircle (S.means src.old).octets) result }
 {
     let (frame, places) = read_places(alloc, src)?;
-    let mut plist = OffsetReader::new(src, frame);
-    let lint = lint_reached(alloc, &mut plist, places)?;
-    let kind = top_kind(&mut plist)?;
+    let lint = lint_reached(alloc, src, frame, places)?;
+    let kind = top_kind(src, &frame)?;
     Ok((lint, kind))
 }
 
