@@ -174,21 +174,15 @@ fn lint_reached<S: Source>(
     let (reached, many) = check_rules_by_table(alloc, src, frame, &places)?;
     if let Some(named) = many {
         drop(places);
-        let mut reader = OffsetReader::new(src, frame);
-        check_keys(
-            alloc,
-            &mut reader,
-            &reached.marks,
-            &reached.childless,
-            named,
-        )?;
-        let lint = heights_or_circle(alloc, &mut reader, reached)?;
+        let mut plist = OffsetReader::new(src, frame);
+        check_keys(alloc, &mut plist, &reached.marks, &reached.childless, named)?;
+        let lint = heights_or_circle(alloc, &mut plist, reached)?;
         return Ok(lint);
     }
     if unmarked(&reached.childless) > places.len() / 4 {
         drop(places);
-        let mut reader = OffsetReader::new(src, frame);
-        let lint = heights_or_circle(alloc, &mut reader, reached)?;
+        let mut plist = OffsetReader::new(src, frame);
+        let lint = heights_or_circle(alloc, &mut plist, reached)?;
         return Ok(lint);
     }
     let mut table = OffsetTable::new(src, frame, &places);

@@ -23,27 +23,27 @@ returns-in_err-check_keys-clause-exact g c = λ honest.
     let p = err_from_is_err_and c.from_residual-in_err-check_keys.result c.from_residual-in_err-check_keys.ensures.1 in
     let known = c.in_ok-reached.ensures.exact honest in
     let w = known.0 in
-    let keys = (rw (c.deref-in-Some.ensures.value, c.deref-in-Some-2.ensures.value, c.new-reader.ensures.means, c.new-reader.ensures.frame, c.in_ok-reached.ensures.reads) at c.in_err-check_keys.ensures.exact) honest w.marked w.tallied.kept w.childless (rw c.in-Some.is at known.1) in
+    let keys = (rw (c.deref-in-Some.ensures.value, c.deref-in-Some-2.ensures.value, c.new-plist.ensures.means, c.new-plist.ensures.frame, c.in_ok-reached.ensures.reads) at c.in_err-check_keys.ensures.exact) honest w.marked w.tallied.kept w.childless (rw c.in-Some.is at known.1) in
     rw (p.1, p.2) (check_means _ _ (IsFileCircle f) c.in_err-check_keys.field-0.0 (λ fault h. inr (F, framed, inr (w.tallied.kept, h))) keys)
 
 pub heights_or_circle-requires-clause-sifted : goal.heights_or_circle-requires-clause-sifted
 heights_or_circle-requires-clause-sifted g c = subst (λ (m : Meaning). HonestlyIn m (λ f F. KeepsRules f F c.in_ok-reached.reached)) (sym c.in_ok-check_keys.ensures.reads)
-    (rw (c.new-reader.ensures.means, c.new-reader.ensures.frame, c.in_ok-reached.ensures.reads) (λ honest.
+    (rw (c.new-plist.ensures.means, c.new-plist.ensures.frame, c.in_ok-reached.ensures.reads) (λ honest.
     let known = c.in_ok-reached.ensures.exact honest in
     let w = known.0 in
-    record { walked = w; keys = (rw (c.deref-in-Some.ensures.value, c.deref-in-Some-2.ensures.value, c.new-reader.ensures.means, c.new-reader.ensures.frame, c.in_ok-reached.ensures.reads) at c.in_ok-check_keys.ensures.exact) honest w.marked w.tallied.kept w.childless (rw c.in-Some.is at known.1) }))
+    record { walked = w; keys = (rw (c.deref-in-Some.ensures.value, c.deref-in-Some-2.ensures.value, c.new-plist.ensures.means, c.new-plist.ensures.frame, c.in_ok-reached.ensures.reads) at c.in_ok-check_keys.ensures.exact) honest w.marked w.tallied.kept w.childless (rw c.in-Some.is at known.1) }))
 
 pub returns-in_err-lint-clause-exact : goal.returns-in_err-lint-clause-exact
 returns-in_err-lint-clause-exact g c = λ honest.
     let p = err_from_is_err_and c.from_residual-in_err-lint.result c.from_residual-in_err-lint.ensures.1 in
     let told = subst (λ (m : Meaning). IsTrue m.honest → Refuses Never (IsFileCircle m.octets) c.in_err-lint.field-0.0) c.in_ok-check_keys.ensures.reads c.in_err-lint.ensures.exact in
-    let same = c.new-reader.ensures.means ∙ c.in_ok-reached.ensures.reads in
+    let same = c.new-plist.ensures.means ∙ c.in_ok-reached.ensures.reads in
     rw (p.1, p.2) (circle_passed _ _ same c.in_err-lint.field-0.0 told honest)
 
 pub returns-in_err-lint-2-clause-exact : goal.returns-in_err-lint-2-clause-exact
 returns-in_err-lint-2-clause-exact g c = λ honest.
     let p = err_from_is_err_and c.from_residual-in_err-lint-2.result c.from_residual-in_err-lint-2.ensures.1 in
-    let same = c.new-reader-then-unmarked-len.ensures.means ∙ c.in_ok-reached.ensures.reads in
+    let same = c.new-plist-then-unmarked-len.ensures.means ∙ c.in_ok-reached.ensures.reads in
     rw (p.1, p.2) (circle_passed _ _ same c.in_err-lint-2.field-0.0 c.in_err-lint-2.ensures.exact honest)
 
 pub returns-in_err-lint-3-clause-exact : goal.returns-in_err-lint-3-clause-exact
@@ -53,7 +53,7 @@ returns-in_err-lint-3-clause-exact g c = λ honest.
     rw (p.1, p.2) (circle_passed _ _ same c.in_err-lint-3.field-0.0 c.in_err-lint-3.ensures.exact honest)
 
 pub heights_or_circle-requires-then-unmarked-len-clause-sifted : goal.heights_or_circle-requires-then-unmarked-len-clause-sifted
-heights_or_circle-requires-then-unmarked-len-clause-sifted g c = rw (c.new-reader-then-unmarked-len.ensures.means, c.new-reader-then-unmarked-len.ensures.frame, c.in_ok-reached.ensures.reads) (λ honest.
+heights_or_circle-requires-then-unmarked-len-clause-sifted g c = rw (c.new-plist-then-unmarked-len.ensures.means, c.new-plist-then-unmarked-len.ensures.frame, c.in_ok-reached.ensures.reads) (λ honest.
     let known = c.in_ok-reached.ensures.exact honest in record { walked = known.0; keys = rw c.in_default.is at known.1 })
 
 pub heights_or_circle-requires-2-clause-sifted : goal.heights_or_circle-requires-2-clause-sifted
