@@ -1,7 +1,7 @@
 //! Finds which objects are founded, and their least heights.
 
 ghost use Rattle.std.specs.Prelude.{◌≡◌, ◌≢◌, ℕ, ◌+◌, ◌^◌, ◌<◌, ◌≤◌, Bool, List, [], ◌∷◌, ◌++◌, IsTrue, count_by, length};
-ghost use Rattle.std.specs.Prelude.{map, not, set, take, vec_len, IfOk, OnOk};
+ghost use Rattle.std.specs.Prelude.{map, not, set, take, vec_len, IfOk, MatchOption, OnOk};
 ghost use Rattle.bplist_lint.specs.Prelude.{from_bool, OnlyReads, failed_to_read, IsWhole, AreObjects, IsMarked, Finds};
 ghost use Rattle.bplist_lint.specs.Prelude.{Shows, Standing, IsHeightWalk, AreClosed, AreLeastOf, state_at};
 ghost use Rattle.bplist_lint.specs.Prelude.{first_state};
@@ -109,6 +109,27 @@ impl HeightWalk {
             states: first_states(alloc, childless)?,
             stack: Vec::with_capacity(alloc, unmarked(childless))?,
         })
+    }
+
+    /// Returns the marked object with the greatest number below `before` about which nothing is known. Most objects are
+    /// childless, and a loop with no call keeps its counter in a register.
+    fn last_new(&self, marks: &[bool], before: u32) -> Option<u32>
+        requires all { length marks.now ≡ vec_len self.now.states }
+        requires inside { before ≤ length marks.now }
+        ensures { MatchOption result
+            ((m : ℕ) → m < before → IsMarked marks.now m → state_at self.now.states.items m ≢ states.New)
+            (λ n. (n < before) × IsMarked marks.now n
+            × ((m : ℕ) → n < m → m < before → IsMarked marks.now m → state_at self.now.states.items m ≢ states.New)) }
+    {
+        for n in (0..before).rev() {
+            if marks[n as usize] {
+                match self.states[n as usize] {
+                    State::New => return Some(n),
+                    State::Open | State::Founded | State::Circular => {}
+                }
+            }
+        }
+        None
     }
 
     /// Puts object `m`, about which nothing is known, on the stack.
@@ -269,11 +290,10 @@ pub fn least_heights<R: References>(
         → IfOk result (λ heights. AreLeastOf (R.graph graph.old).refs marks.now heights.items) }
 {
     let mut walk = HeightWalk::new(alloc, childless)?;
-    let size = marks.len() as u32;
-    for n in (0..size).rev() {
-        if marks[n as usize] {
-            walk.settle_from(graph, n)?;
-        }
+    let mut before = marks.len() as u32;
+    while let Some(n) = walk.last_new(marks, before) {
+        walk.settle_from(graph, n)?;
+        before = n;
     }
     let HeightWalk { heights, .. } = walk;
     Ok(heights)
