@@ -15,11 +15,11 @@ ghost use Rattle.bplist_objects.specs.RuleTexts.{text_of};
 
 use crate::fault::RunFault;
 use crate::file_lines::file_lines;
-use crate::object_path::{ObjectPath, head_in, key_front, path_to};
+use crate::object_path::{KeyFront, ObjectPath, head_in, key_front, path_to};
 use crate::output_lines::kind_name;
 use bplist_ascii::text_of_units;
 use bplist_objects::{
-    Fault, Frame, Kind, ObjectFault, ObjectNo, Rule, offset_of, rule_name, rule_number,
+    Fault, Frame, Head, Kind, ObjectFault, ObjectNo, Rule, offset_of, rule_name, rule_number,
     rule_of_number, texts_of, trailer_of,
 };
 use bplist_octets::{SliceSource, Source};
@@ -98,16 +98,27 @@ fn fault_lines<S: Source>(
             text.push_str(&object_lines(alloc, src, &frame, object, fault)?)?;
         }
     }
-    let bytes = match fault.rule {
+    text.push_str(&place_line(alloc, src, cert, fault)?)?;
+    Ok(text)
+}
+
+/// Returns the line with the bytes around the place of a fault, which is in the certificate for some rules.
+fn place_line<S: Source>(
+    alloc: Global,
+    src: &mut S,
+    cert: &[u8],
+    fault: &Fault,
+) -> Result<String, RunFault>
+    ensures reads { OnlyReads (read_failed result) (S.means src.old) (S.means src.new) }
+{
+    match fault.rule {
         Rule::CertMagic
         | Rule::CertLength
         | Rule::CertCount
         | Rule::TopNotVouched
-        | Rule::KeyOrder => bytes_line(alloc, &mut SliceSource::new(cert), fault.place)?,
-        _ => bytes_line(alloc, src, fault.place)?,
-    };
-    text.push_str(&bytes)?;
-    Ok(text)
+        | Rule::KeyOrder => bytes_line(alloc, &mut SliceSource::new(cert), fault.place),
+        _ => bytes_line(alloc, src, fault.place),
+    }
 }
 
 /// Returns the lines about a circle that begins with this object.
@@ -166,18 +177,27 @@ fn object_line<S: Source>(
     ensures reads { OnlyReads (read_failed result) (S.means src.old) (S.means src.new) }
 {
     let place = offset_of(src, frame, object)?;
+    let head = head_in(src, frame, object)?;
+    Ok(head_line(alloc, object, place, head)?)
+}
+
+fn head_line(
+    alloc: Global,
+    object: ObjectNo,
+    place: u64,
+    head: Option<Head>,
+) -> Result<String, AllocError> {
     let number = object.0;
-    match head_in(src, frame, object)? {
+    match head {
         Some(head) => {
             let (kind, count) = (kind_name(head.kind), head.count);
-            Ok(format!(in alloc; "  object {number}: {kind}, count {count}, place {place}\n")?)
+            format!(in alloc; "  object {number}: {kind}, count {count}, place {place}\n")
         }
-        None => Ok(format!(in alloc; "  object {number}: place {place}\n")?),
+        None => format!(in alloc; "  object {number}: place {place}\n"),
     }
 }
 
-/// Returns number and text of the key whose reference is at this place. ` ..` marks a text that is cut. No whole text
-/// ends so, because a text with a blank is in quotes.
+/// Returns number and text of the key whose reference is at this place.
 fn key_line<S: Source>(
     alloc: Global,
     src: &mut S,
@@ -196,8 +216,15 @@ fn key_line<S: Source>(
     if head.kind != Kind::Dict || index >= head.count {
         return Ok(String::new(alloc));
     }
-    let Some(key) = key_front(alloc, src, frame, &head, index)? else {
-        return Ok(format!(in alloc; "  key {index}: no text\n")?);
+    let key = key_front(alloc, src, frame, &head, index)?;
+    Ok(key_text(alloc, index, key.as_ref())?)
+}
+
+/// Formats number and text of a key. ` ..` marks a text that is cut. No whole text ends so, because a text with a blank
+/// is in quotes.
+fn key_text(alloc: Global, index: u64, key: Option<&KeyFront>) -> Result<String, AllocError> {
+    let Some(key) = key else {
+        return format!(in alloc; "  key {index}: no text\n");
     };
     let mut line = format!(in alloc; "  key {index}: ")?;
     for octet in text_of_units(alloc, &key.units)? {
@@ -217,16 +244,19 @@ fn path_line<S: Source>(
     requires { IsSafeFrame (length (S.means src.old).octets) frame.now }
     ensures reads { OnlyReads (read_failed result) (S.means src.old) (S.means src.new) }
 {
-    match path_to(alloc, src, frame, object)? {
-        ObjectPath::Path(path) if path.is_empty() => {
-            Ok(String::from_str(alloc, "  path: the top\n")?)
-        }
+    let path = path_to(alloc, src, frame, object)?;
+    Ok(path_text(alloc, &path)?)
+}
+
+fn path_text(alloc: Global, path: &ObjectPath) -> Result<String, AllocError> {
+    match path {
+        ObjectPath::Path(path) if path.is_empty() => String::from_str(alloc, "  path: the top\n"),
         ObjectPath::Path(path) => {
-            let text = String::from_utf8_lossy(alloc, &path)?;
-            Ok(format!(in alloc; "  path: {text}\n")?)
+            let text = String::from_utf8_lossy(alloc, path)?;
+            format!(in alloc; "  path: {text}\n")
         }
-        ObjectPath::None => Ok(String::from_str(alloc, "  path: none\n")?),
-        ObjectPath::Unknown => Ok(String::from_str(alloc, "  path: not found, objects overlap\n")?),
+        ObjectPath::None => String::from_str(alloc, "  path: none\n"),
+        ObjectPath::Unknown => String::from_str(alloc, "  path: not found, objects overlap\n"),
     }
 }
 
@@ -250,14 +280,18 @@ fn bytes_line<S: Source>(alloc: Global, src: &mut S, place: u64) -> Result<Strin
 fn dump(alloc: Global, start: u64, octets: &[u8], marked: usize) -> Result<String, AllocError> {
     let mut line = format!(in alloc; "  bytes at {start}:")?;
     for (k, octet) in octets.iter().enumerate() {
-        if k == marked {
-            write!(line, " [{octet:02x}]")?;
-        } else {
-            write!(line, " {octet:02x}")?;
-        }
+        add_octet(*octet, k == marked, &mut line)?;
     }
     line.push_str(if marked < octets.len() { "\n" } else { " []\n" })?;
     Ok(line)
+}
+
+fn add_octet(octet: u8, is_marked: bool, line: &mut String) -> Result<(), AllocError> {
+    if is_marked {
+        write!(line, " [{octet:02x}]")
+    } else {
+        write!(line, " {octet:02x}")
+    }
 }
 
 /// Returns two lines: number, word and requirement of a rule, and an example that breaks it.

@@ -28,8 +28,17 @@ pub(crate) fn file_lines<S: Source>(alloc: Global, src: &mut S) -> Result<String
     if front.starts_with(b"bplist00") {
         return trailer_line(alloc, src);
     }
+    let look = look_of(alloc, src, front)?;
+    Ok(length_lines(alloc, length, look)?)
+}
+
+fn length_lines(
+    alloc: Global,
+    length: u64,
+    look: Option<&'static str>,
+) -> Result<String, AllocError> {
     let mut lines = format!(in alloc; "  file: {length} bytes\n")?;
-    if let Some(look) = look_of(alloc, src, front)? {
+    if let Some(look) = look {
         write!(lines, "  looks like: {look}\n")?;
     }
     Ok(lines)
@@ -41,17 +50,21 @@ fn trailer_line<S: Source>(alloc: Global, src: &mut S) -> Result<String, RunFaul
 {
     let length = src.len();
     if length < TRAILER {
-        return Ok(format!(in alloc; "  file: {length} bytes\n")?);
+        return Ok(length_lines(alloc, length, None)?);
     }
-    let mut octets = [0u8; 32];
-    src.read_at(length - TRAILER, &mut octets)?;
-    let (offset_size, ref_size) = (octets[6], octets[7]);
-    let objects = sized(&octets[8..16]);
-    let top = sized(&octets[16..24]);
-    let table = sized(&octets[24..32]);
-    Ok(format!(in alloc;
+    let mut trailer = [0u8; 32];
+    src.read_at(length - TRAILER, &mut trailer)?;
+    Ok(numbers_line(alloc, length, &trailer)?)
+}
+
+fn numbers_line(alloc: Global, length: u64, trailer: &[u8; 32]) -> Result<String, AllocError> {
+    let (offset_size, ref_size) = (trailer[6], trailer[7]);
+    let objects = sized(&trailer[8..16]);
+    let top = sized(&trailer[16..24]);
+    let table = sized(&trailer[24..32]);
+    format!(in alloc;
         "  file: {length} bytes, offset size {offset_size}, reference size {ref_size}, objects {objects}, top {top}, table at {table}\n"
-    )?)
+    )
 }
 
 /// Returns what a file without the header looks like, if that is known. `front` is its start.
