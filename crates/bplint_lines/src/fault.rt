@@ -24,7 +24,7 @@ use bplist_octets::{ReadFault, WriteFault};
 use std::alloc::{AllocError, AllocFailed, Global};
 
 /// Whether each path led to a value, of a run that wrote its whole answer.
-#[derive(Clone, Copy, Debug, PartialEq, Eq, Drop)]
+#[derive(Clone, Copy, Drop)]
 pub enum Said {
     /// Each path led to a value, or there was no path.
     All,
@@ -33,7 +33,7 @@ pub enum Said {
 }
 
 /// Why a run has no answer.
-#[derive(Debug, Drop)]
+#[derive(Drop)]
 pub enum RunFault {
     /// The file or the certificate breaks a rule.
     Fault(Fault),

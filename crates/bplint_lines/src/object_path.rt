@@ -27,7 +27,7 @@ pub(crate) struct KeyFront {
 }
 
 /// One step: from object `from`, through its member or pair number `index`.
-#[derive(Clone, Copy, Debug, Drop)]
+#[derive(Clone, Copy, Drop)]
 struct Step {
     from: u32,
     index: u64,
@@ -45,7 +45,7 @@ struct PathSearch {
 }
 
 /// The path from the top to an object.
-#[derive(Debug, Drop)]
+#[derive(Drop)]
 pub(crate) enum ObjectPath {
     /// This path text leads to the object.
     Path(Vec<u8>),

@@ -12,7 +12,7 @@ use bplist_objects::ObjectNo;
 use std::alloc::{AllocError, Global};
 
 /// Why the raw bytes of a value are not shown.
-#[derive(Debug, Drop)]
+#[derive(Drop)]
 pub enum RawFault {
     /// A fault that other commands have as well.
     Run(RunFault),
