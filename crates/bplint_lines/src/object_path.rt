@@ -189,8 +189,7 @@ fn path_of<S: Source>(
     Ok(path)
 }
 
-/// Adds the token of a step to a path text. A key that was cut is given by its index, because its start could be the
-/// token of another key.
+/// Adds the token of a step to a path text.
 fn add_step<S: Source>(
     alloc: Global,
     src: &mut S,
@@ -208,12 +207,24 @@ fn add_step<S: Source>(
         return Ok(());
     };
     if head.kind == Kind::Dict && step.index < head.count {
-        return match key_front(alloc, src, frame, &head, step.index)? {
-            Some(key) if !key.is_cut => Ok(add_key_name(alloc, "", step.index, &key.units, path)?),
-            _ => Ok(add_index(alloc, step.index, path)?),
-        };
+        let key = key_front(alloc, src, frame, &head, step.index)?;
+        return Ok(add_key(alloc, step.index, key.as_ref(), path)?);
     }
     Ok(add_index_name(alloc, "", step.index, path)?)
+}
+
+/// Adds the token of a pair with this key. A key that was cut is given by its index, because its start could be the
+/// token of another key.
+fn add_key(
+    alloc: Global,
+    index: u64,
+    key: Option<&KeyFront>,
+    path: &mut Vec<u8>,
+) -> Result<(), AllocError> {
+    match key {
+        Some(key) if !key.is_cut => add_key_name(alloc, "", index, &key.units, path),
+        _ => add_index(alloc, index, path),
+    }
 }
 
 /// Returns the first 4,096 units of a key, or all if it has fewer, if the key is a text.
