@@ -27,6 +27,7 @@
 //! | extents | [`Extents`], what objects take together, by rule 31 |
 //! | leaf | the values of leaves: [`int_of`], [`uid_of`], [`octets_at`]; the units of texts: [`unit_at`], [`read_units`]; their order: [`key_cmp`] |
 //! | framed | [`Framed`], a source that has its frame; [`Plist`], which makes one; the same calls over it, with names that end in `_in`, as [`shape_in`]; [`ref_place`] |
+//! | ref_blocks | [`RefBlocks`], the references of an object over a source with a frame, block by block |
 //! | numbers | numbers of a source, read block by block |
 //! | scan | [`visit_in`], the first look at an object, which finds a [`Visit`] and is enough for most leaves; [`first_high_in`], a search of a text |
 //! | laws, leaf_laws | what the definitions imply, as contracts of functions that do nothing |
