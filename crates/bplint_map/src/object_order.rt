@@ -16,7 +16,7 @@ use std::alloc::Global;
 const BLOCK: usize = 256;
 
 /// An object and its place.
-#[derive(Clone, Copy, Debug, PartialEq, Eq, PartialOrd, Ord, Drop)]
+#[derive(Clone, Copy, PartialEq, Eq, PartialOrd, Ord, Drop)]
 pub(crate) struct ObjectOffset {
     /// Where it begins.
     pub place: u64,

@@ -22,7 +22,7 @@ use bplist_octets::{ReadFault, Source};
 use std::alloc::Global;
 
 /// What the linter says of the objects of a file.
-#[derive(Debug, Drop)]
+#[derive(Drop)]
 pub(crate) enum Verdict {
     /// The file holds a value. These are the least heights of its objects, 0 for one that is not reachable.
     Heights(Vec<u32>),
@@ -47,7 +47,7 @@ pub(crate) fn verdict_of<S: Source>(alloc: Global, src: &mut S) -> Result<Verdic
 }
 
 /// What rules 14 to 20 say of one object.
-#[derive(Clone, Copy, Debug, Drop)]
+#[derive(Clone, Copy, Drop)]
 pub(crate) enum Finding {
     /// The object has this head, and breaks no rule that was checked.
     Whole(Head),
@@ -58,7 +58,7 @@ pub(crate) enum Finding {
 }
 
 /// An object, and what it breaks.
-#[derive(Clone, Copy, Debug, Drop)]
+#[derive(Clone, Copy, Drop)]
 pub(crate) struct Row {
     /// Its number.
     pub number: u32,
