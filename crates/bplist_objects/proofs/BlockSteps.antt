@@ -1,10 +1,11 @@
--- References, block by block.
+-- References and units, block by block.
 use Rattle.std.proofs.Common.{◌≡◌, ℕ, ◌+◌, ◌-◌, ◌<◌, List, inl, inr, length, ◌∙◌, subst, arith}
 use Rattle.std.proofs.lemmas.Bool.{cases_lt}
 use Rattle.bplist_octets.specs.Meaning.{Meaning}
 use Rattle.bplist_objects.specs.declared.head.Head.{Head}
 use Rattle.bplist_objects.specs.declared.ref_blocks.RefBlocks.{RefBlocks}
 use Rattle.bplist_objects.specs.RefBlocks.{AreOf, IsBlock}
+use Rattle.bplist_objects.specs.UnitBlocks.{IsUnitBlock}
 
 -- the next block is one of the same references
 pub still_of : {head : Head} {bound : ℕ} {old new : RefBlocks} → AreOf head bound old → AreOf old.head old.bound new → AreOf head bound new
@@ -24,3 +25,8 @@ each_more P {from = from} is before here k low = elim (cases_lt k from) [
       let there : from + (k - from) ≡ k = omega (arith, later) in
       subst P there (here (k - from) (omega (arith, low, later, is.long)))
 ]
+
+-- the units as they are lent are those of that text, over the source as it was
+pub units_are : {m n : Meaning} {was head : Head} {from to : ℕ} {read lent : List ℕ} → m ≡ n → was ≡ head → lent ≡ read
+    → IsUnitBlock m was from to read → IsUnitBlock n head from to lent
+units_are same of lent block = rw (← same, ← of, lent) block

@@ -24,6 +24,7 @@
 //! | marker | what the marker alone says: the kind, by rule 15, the count and the size |
 //! | body | heads by rules 14 to 20: [`head_of`], [`head_at`]; [`check_body`] |
 //! | refs | the references of a container: [`refs_of`], [`ref_at`], [`read_refs`] |
+//! | ref_blocks, unit_blocks | [`RefBlocks`], the references of an object block by block; [`UnitBlocks`], the units of a text block by block |
 //! | extents | [`Extents`], what objects take together, by rule 31 |
 //! | leaf | the values of leaves: [`int_of`], [`uid_of`], [`octets_at`]; the units of texts: [`unit_at`], [`read_units`]; their order: [`key_cmp`] |
 //! | framed | [`Framed`], a source that has its frame; [`Plist`], which makes one; the same calls over it, with names that end in `_in`, as [`shape_in`]; [`ref_place`] |
@@ -55,6 +56,7 @@ mod refs;
 mod rule;
 mod rule_texts;
 mod scan;
+mod unit_blocks;
 
 pub use body::{check_body, head_at, head_of};
 pub use extents::Extents;
@@ -78,3 +80,4 @@ pub use refs::{read_refs, ref_at, refs_of};
 pub use rule::{Rule, rule_name, rule_number, rule_of_number};
 pub use rule_texts::texts_of;
 pub use scan::{Visit, first_high_in, visit_in};
+pub use unit_blocks::UnitBlocks;

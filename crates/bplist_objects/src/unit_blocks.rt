@@ -1,0 +1,97 @@
+//! The units of a text, block by block.
+
+ghost use Rattle.std.specs.Prelude.{◌≡◌, ◌≤◌, ◌+◌, IfOk, OnOk, IsTrue, is_err, false, length, take};
+ghost use Rattle.bplist_octets.specs.Meaning.{OnlyReads, Honestly};
+ghost use Rattle.bplist_octets.specs.Octets.{part};
+ghost use Rattle.bplist_objects.specs.Safe.{IsSafeBody};
+ghost use Rattle.bplist_objects.specs.Units.{IsTextKind, units_of};
+
+use crate::head::Head;
+use crate::leaf::read_units;
+use bplist_octets::{ReadFault, Source};
+
+/// The most units in one block.
+const BLOCK: usize = 128;
+
+/// Reads the units of a text, block by block.
+#[derive(Drop)]
+pub struct UnitBlocks {
+    head: Head,
+    /// The number of the unit after the block.
+    next: u64,
+    /// How many units the block has.
+    held: usize,
+    block: [u16; BLOCK],
+    ghost within: { next ≤ head.count },
+    ghost room: { held ≤ 128 },
+}
+
+/// Reads the `count` units from number `from` on into the first places of `into`.
+#[inline(always)]
+fn read_front<S: Source>(
+    src: &mut S,
+    head: &Head,
+    from: u64,
+    into: &mut [u16],
+    count: usize,
+) -> Result<(), ReadFault>
+    requires kind { IsTextKind head.now.kind }
+    requires head { IsSafeBody (length (S.means src.old).octets) head.now }
+    requires within { from + count ≤ head.now.count }
+    requires room { count ≤ length into.old }
+    ensures reads { OnlyReads (is_err result) (S.means src.old) (S.means src.new) }
+    ensures units { OnOk result (Honestly (S.means src.old)
+        (λ f. take count into.new ≡ part (units_of f head.now) from count)) }
+{
+    read_units(src, head, from, &mut into[..count])
+}
+
+impl UnitBlocks {
+    ghost use Rattle.bplist_objects.specs.UnitBlocks.{IsUnitBlock, last_units};
+
+    /// Returns the units of a text with this head. None of them is read yet.
+    #[inline(always)]
+    pub fn of(head: &Head) -> UnitBlocks
+        ensures of { result.head ≡ head.now }
+        ensures start { result.next ≡ 0 }
+    {
+        UnitBlocks {
+            head: *head,
+            next: 0,
+            held: 0,
+            block: [0; BLOCK],
+        }
+    }
+
+    /// Reads the next block. Returns false if there are no more units.
+    #[inline(always)]
+    pub fn read<S: Source>(&mut self, src: &mut S) -> Result<bool, ReadFault>
+        requires kind { IsTextKind self.old.head.kind }
+        requires head { IsSafeBody (length (S.means src.old).octets) self.old.head }
+        ensures reads { OnlyReads (is_err result) (S.means src.old) (S.means src.new) }
+        ensures same { self.new.head ≡ self.old.head }
+        ensures next { IfOk result (λ more. IsTrue more
+            → IsUnitBlock (S.means src.old) self.old.head self.old.next self.new.next (last_units self.new)) }
+        ensures end { IfOk result (λ more. more ≡ false
+            → (self.new ≡ self.old) × (self.old.next ≡ self.old.head.count)) }
+    {
+        if self.next == self.head.count {
+            return Ok(false);
+        }
+        let head = self.head;
+        let count = (head.count - self.next).min(BLOCK as u64);
+        read_front(src, &head, self.next, &mut self.block, count as usize)?;
+        self.held = count as usize;
+        self.next += count;
+        Ok(true)
+    }
+
+    /// Returns the units of the block that was read last.
+    #[inline(always)]
+    pub fn block(&self) -> &[u16]
+        ensures units { result.now ≡ last_units self.now }
+        ensures few { length result.now ≤ 128 }
+    {
+        &self.block[..self.held]
+    }
+}
