@@ -15,18 +15,14 @@ ghost use Rattle.std.specs.List.{list_all, AllByRecursion};
 ghost use Rattle.bplist_objects.specs.Units.{units_of};
 ghost use Rattle.bplist_cursor.specs.Texts as texts;
 
-use crate::bodies::body_units;
 use crate::faults::{CursorFault, Unread};
 use crate::node::checked_head;
 use crate::node_counts::in_order;
 use bplist_cert::Checked;
-use bplist_objects::{Head, Kind, ObjectNo, RefBlocks};
+use bplist_objects::{Head, Kind, ObjectNo, RefBlocks, UnitBlocks};
 use bplist_octets::Source;
 use std::alloc::Global;
 use std::marker::Model;
-
-/// The most units that are read at once.
-const UNITS: usize = 128;
 
 /// Whether a value can be written as old-style text, and how long that text is.
 #[derive(Clone, Copy, Debug, PartialEq, Eq)]
@@ -163,17 +159,13 @@ pub(crate) fn text_length<S: Source>(checked: &mut Checked<S>, head: &Head) -> R
     ensures exact { GivesRead (λ n. HonestlyChecked checked.old
         (λ f _. n ≡ cap (length (texts.text_of_units (units_of f head.now))))) result }
 {
-    let mut buffer = [0u16; UNITS];
+    let mut units = UnitBlocks::of(head);
     let mut plain = true;
     let mut quoted = 2u64;
-    let mut done = 0u64;
-    while done < head.count {
-        let now = (head.count - done).min(UNITS as u64) as usize;
-        let units = &mut buffer[..now];
-        body_units(checked, head, done, units)?;
-        plain &= are_plain(units);
-        quoted = quoted.saturating_add(quoted_length(units));
-        done += now as u64;
+    while units.read(checked)? {
+        let block = units.block();
+        plain &= are_plain(block);
+        quoted = quoted.saturating_add(quoted_length(block));
     }
     Ok(if plain && head.count > 0 {
         head.count
