@@ -10,12 +10,12 @@ ghost use Rattle.bplist_ascii.specs.Prelude.{fits, is_unquoted_text, Unquoted};
 use crate::output::{write, write_digits, write_units};
 use crate::printer::{PrintFault, Style, Styled};
 use bplist_cert::Checked;
-use bplist_cursor::{Unread, are_plain, body_bytes, body_units};
-use bplist_objects::Head;
+use bplist_cursor::{Unread, are_plain, body_bytes};
+use bplist_objects::{Head, UnitBlocks};
 use bplist_octets::{Sink, Source};
 use std::io::Write;
 
-/// The largest number of units or bytes that one read takes.
+/// The largest number of bytes that one read takes.
 const PART: usize = 128;
 
 /// Returns true if a text is not empty and consists of ASCII letters and digits.
@@ -30,16 +30,11 @@ fn is_unquoted<S: Source>(checked: &mut Checked<S>, head: &Head) -> Result<bool,
     if head.count == 0 {
         return Ok(false);
     }
-    let mut buffer = [0; PART];
-    let mut done = 0;
-    while done < head.count {
-        let now = (head.count - done).min(PART as u64);
-        let units = &mut buffer[..now as usize];
-        body_units(checked, head, done, units)?;
-        if !are_plain(units) {
+    let mut units = UnitBlocks::of(head);
+    while units.read(checked)? {
+        if !are_plain(units.block()) {
             return Ok(false);
         }
-        done += now;
     }
     Ok(true)
 }
@@ -66,14 +61,9 @@ fn write_text_body<S: Source, W: Write>(
     ensures bounded { OnErr result (StaysWithin (W.contents out.old) (W.contents out.new) sink.old room.old) }
     ensures falls { OnOk result (text.now.style ≡ Unquoted → room.new + text.now.head.count ≤ room.old) }
 {
-    let mut buffer = [0; PART];
-    let mut done = 0;
-    while done < text.head.count {
-        let now = (text.head.count - done).min(PART as u64);
-        let units = &mut buffer[..now as usize];
-        body_units(checked, &text.head, done, units)?;
-        write_units(sink, out, room, text.style, units)?;
-        done += now;
+    let mut units = UnitBlocks::of(&text.head);
+    while units.read(checked)? {
+        write_units(sink, out, room, text.style, units.block())?;
     }
     Ok(())
 }

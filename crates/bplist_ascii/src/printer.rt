@@ -48,6 +48,14 @@ impl From<WriteFault> for PrintFault {
     }
 }
 
+impl From<ReadFault> for PrintFault {
+    ghost from_gives = { λ fault e. e ≡ print_faults.Read fault };
+
+    fn from(fault: ReadFault) -> PrintFault {
+        PrintFault::Read(fault)
+    }
+}
+
 impl From<Unread> for PrintFault {
     ghost from_gives = { λ cause e. e ≡ elim cause as (λ _. print_fault)
         [ unread_read fault ↦ print_faults.Read fault | unread_changed ↦ print_faults.Changed ] };
