@@ -21,7 +21,7 @@ use std::alloc::{AllocError, Global};
 use std::io::Write;
 
 /// The kind of members that a container has.
-#[derive(Clone, Copy, Debug, PartialEq, Eq, Drop)]
+#[derive(Clone, Copy, Drop)]
 pub(crate) enum Members {
     /// Members of an array; an index is the last step of their path.
     Array,

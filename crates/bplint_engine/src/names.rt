@@ -9,7 +9,7 @@ use std::alloc::{AllocError, Global};
 use std::marker::Model;
 
 /// The range of a name in the buffer.
-#[derive(Clone, Copy, Debug, PartialEq, Eq, Drop)]
+#[derive(Clone, Copy, Drop)]
 pub(crate) struct Name {
     /// The place of its first byte.
     start: usize,

@@ -10,7 +10,7 @@ use bplist_octets::{Sink, Source, WriteFault};
 use std::io::Write;
 
 /// The bytes of an answer, and whether each path led to a value.
-#[derive(Debug, Drop)]
+#[derive(Drop)]
 pub(crate) struct Output {
     /// Whether each path led to a value.
     pub said: Said,

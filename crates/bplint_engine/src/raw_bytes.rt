@@ -26,7 +26,7 @@ use std::io::Write;
 pub(crate) const PART: usize = 1024;
 
 /// The raw bytes of a value, or the head to read them with.
-#[derive(Debug, Drop)]
+#[derive(Drop)]
 pub(crate) enum Raw {
     /// The body of the data object with this head.
     Data(Head),

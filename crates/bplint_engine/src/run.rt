@@ -21,7 +21,7 @@ use std::io::Write;
 use std::marker::Model;
 
 /// The five commands of [`crate::run_on`].
-#[derive(Clone, Copy, Debug, PartialEq, Eq, Drop)]
+#[derive(Clone, Copy, Drop)]
 pub enum Verb {
     /// Decide whether a file holds a value.
     Lint,
@@ -36,7 +36,7 @@ pub enum Verb {
 }
 
 /// A command with its options.
-#[derive(Debug, Drop)]
+#[derive(Drop)]
 pub struct Command {
     /// Which command to run.
     pub verb: Verb,
