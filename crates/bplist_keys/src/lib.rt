@@ -17,7 +17,7 @@
 //!
 //! | module | what is in it |
 //! |---|---|
-//! | named_keys | [`NamedKeys`], a mark for each object that is named as a key; [`name_keys`], which sets them; [`numbers_of`] |
+//! | named_keys | [`NamedKeys`], a mark for each object that is named as a key; [`name_keys`], which sets them; [`count_marked`], [`numbers_of`] |
 //! | text | [`object_text`] and [`text_head`], the head of a key; [`text_order`], the order of two texts |
 //! | ranks | [`KeyNumbers`], a number for each key: [`classes_of`], equal if and only if the units are; [`ranks_of`], in order |
 //! | class_table | [`ClassTable`], which finds a dictionary's first [`KeyDefect`], a key that is wrong by rule 21 or 22 |
@@ -36,6 +36,6 @@ mod weights;
 
 pub use class_table::{ClassTable, KeyDefect};
 pub use comparison_cache::RunCache;
-pub use named_keys::{NamedKeys, name_keys, numbers_of};
+pub use named_keys::{NamedKeys, count_marked, name_keys, numbers_of};
 pub use ranks::{KeyNumbers, classes_of, ranks_of};
 pub use text::{object_text, text_head, text_order};

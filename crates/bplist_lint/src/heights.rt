@@ -8,15 +8,12 @@ ghost use Rattle.bplist_lint.specs.Prelude.{first_state};
 ghost use Rattle.bplist_lint.specs.declared.heights.State.TheVariants as states;
 
 use crate::graph::{BLOCK, References};
-use bplist_keys::numbers_of;
+use bplist_keys::{count_marked, numbers_of};
 use bplist_objects::Failure;
 use std::alloc::{AllocError, Global};
 
 /// How many references to read first when the scan of an object resumes.
 const FEW: usize = 4;
-
-/// The largest number of marks whose count is kept in a byte.
-const GROUP: usize = 128;
 
 /// What is known about an object.
 #[derive(Clone, Copy, Debug)]
@@ -53,35 +50,11 @@ struct HeightWalk {
     stack: Vec<u32>,
 }
 
-/// Returns how many of the marks from number `from` on, up to the one before number `to`, are not set. The loop only
-/// adds to a byte, so that it takes sixteen marks at a time.
-fn unmarked_between(marks: &[bool], from: usize, to: usize) -> u8
-    requires ordered { from ≤ to }
-    requires few { to ≤ from + 128 }
-    requires inside { to ≤ length marks.now }
-    ensures { count_by not (take to marks.now) ≡ count_by not (take from marks.now) + result }
-{
-    let mut count = 0u8;
-    for i in from..to {
-        if !marks[i] {
-            count += 1;
-        }
-    }
-    count
-}
-
 /// Returns how many marks are not set.
 pub fn unmarked(marks: &[bool]) -> usize
     ensures { result ≡ count_by not marks.now }
 {
-    let mut count = 0usize;
-    let mut from = 0usize;
-    while from < marks.len() {
-        let to = from + (marks.len() - from).min(GROUP);
-        count += unmarked_between(marks, from, to) as usize;
-        from = to;
-    }
-    count
+    marks.len() - count_marked(marks)
 }
 
 /// Returns the states before the walk: an object known to have no references is founded.
