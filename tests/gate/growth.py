@@ -64,8 +64,6 @@ SECONDS = 120
 
 # By family. What stands here and grows no faster is said, so that it can be taken out.
 KNOWN = {
-    "pairs_of_keys": ["check-2", "check FILE, version 2", "get FILE"],
-    "pairs_in_one_slot": ["check-2", "check FILE, version 2", "get FILE"],
     "keys_of_our_fingerprint": ["lint", "lint FILE", "certify --sorted FILE", "check FILE, version 1"],
     "keys_over_regions": ["check FILE, version 1", "check FILE, version 2"],
 }
