@@ -24,9 +24,9 @@
 //! | marker | what the marker alone says: the kind, by rule 15, the count and the size |
 //! | body | heads by rules 14 to 20: [`head_of`], [`head_at`]; [`check_body`] |
 //! | refs | the references of a container: [`refs_of`], [`ref_at`], [`read_refs`] |
-//! | ref_blocks, unit_blocks | [`RefBlocks`], the references of an object block by block; [`UnitBlocks`], the units of a text block by block |
 //! | extents | [`Extents`], what objects take together, by rule 31 |
 //! | leaf | the values of leaves: [`int_of`], [`uid_of`], [`octets_at`]; the units of texts: [`unit_at`], [`read_units`]; their order: [`key_cmp`] |
+//! | unit_blocks | the units of a text, block by block: [`UnitBlocks`] |
 //! | framed | [`Framed`], a source that has its frame; [`Plist`], which makes one; the same calls over it, with names that end in `_in`, as [`shape_in`]; [`ref_place`] |
 //! | ref_blocks | [`RefBlocks`], the references of an object over a source with a frame, block by block |
 //! | numbers | numbers of a source, read block by block |
