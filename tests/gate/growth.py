@@ -53,6 +53,8 @@ EACH_OF = {
     "keys_of_one_fingerprint": {"check FILE, version 2": 140, "get FILE": 140},
     "keys_of_our_fingerprint": {"check-1": 24, "upgrade": 24, "check FILE, version 2": 140, "get FILE": 140},
     "keys_over_keys_vouched": {"check FILE, version 1": 40, "check FILE, version 2": 40},
+    # To get its rank, a long key is compared with up to thirteen others, and each comparison reads both.
+    "pairs_of_keys": {"check-2": 20},
 }
 
 BESIDE = 4096
