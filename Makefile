@@ -54,7 +54,7 @@ FOLDERS = $(sort $(patsubst %/,%,$(dir $(INSTALLED) $(MADE))))
 
 # rt sees by itself what has to be proved and built again. Before it builds more than one library it makes a quick pass
 # over all sources, which a call for each library spares. JOBS is how many processes prove one crate: without it rt chooses,
-# by what is free. JOBS=1 takes the least processor time, since each process reads the modules below for itself.
+# by what is free. JOBS=1 takes the least processor time, since each process loads the prover's own modules for itself.
 libraries = for crate in $(1); do (cd crates/$$crate && rt lib $(jobs)) || exit; done
 jobs = $(if $(JOBS),--jobs $(JOBS))
 BELOW = $(addprefix bplist_,octets objects keys cert lint cursor ascii)
