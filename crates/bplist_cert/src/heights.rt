@@ -4,7 +4,12 @@ ghost use Rattle.std.specs.Prelude.{◌≡◌, ◌↔◌, ℕ, ◌+◌, ◌≤�
 ghost use Rattle.bplist_cert.specs.Prelude.{OnlyReads, frame_in, HonestlyIn, IsSafeHead, ref_count, Gives, read_failed};
 ghost use Rattle.bplist_cert.specs.Prelude.{Meets, AreMet, AreMetBy, IsFirstUnmetBy, IsUnmetFault, rule_of};
 
-use bplist_objects::{Fault, Framed, Head, ObjectFault, ObjectNo, RefBlocks, Rule, ref_place};
+use bplist_objects::{
+    Fault, Framed, Head, ObjectFault, ObjectNo, Rule, read_refs_in, ref_place, refs_of,
+};
+
+/// The most references that are read at once. It is small because the block is cleared for each container.
+const BLOCK: usize = 32;
 
 /// What a reference's height must be.
 #[derive(Clone, Copy, Debug, PartialEq, Eq, Drop)]
@@ -88,15 +93,22 @@ pub(crate) fn check_refs<P: Framed>(
         (λ _. AreMet f F heights.now head.now wanted (ref_count head.now.kind head.now.count))
         (IsUnmetFault f F heights.now n.0 head.now wanted) result) }
 {
-    let mut refs = RefBlocks::of(src, head);
-    while refs.read(src)? {
-        if let Some(i) = first_unmet_in(heights, refs.block(), wanted) {
+    let _frame = src.frame();
+    let refs = refs_of(head);
+    let mut buffer = [0u64; BLOCK];
+    let mut done = 0u64;
+    while done < refs {
+        let now = (refs - done).min(BLOCK as u64);
+        let block = &mut buffer[..now as usize];
+        read_refs_in(src, head, done, block)?;
+        if let Some(i) = first_unmet_in(heights, block, wanted) {
             return Err(ObjectFault::Fault(Fault {
                 rule: wanted.rule(),
                 object: Some(n),
-                place: ref_place(src, head, refs.first + i as u64),
+                place: ref_place(src, head, done + i as u64),
             }));
         }
+        done += now;
     }
     Ok(())
 }
