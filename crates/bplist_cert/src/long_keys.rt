@@ -1,6 +1,6 @@
 //! The order of long keys, which are ranked.
 //!
-//! A hostile file may have many long keys that begin alike, and many dictionaries that name them in ever other pairs. If
+//! A hostile file may have many long keys that begin alike, and many dictionaries that name them in ever new pairs. If
 //! each pair were compared, the work would grow with the square of the file's length. So a long key is compared with at
 //! most thirteen others, once, and gets a rank. From then on its pairs are compared by their ranks. The table has a
 //! fixed size, because a check with key lists takes no memory.

@@ -76,7 +76,6 @@ impl HeightWalk {
         ensures heights { IfOk result (λ walk. walk.heights.items ≡ map from_bool childless.now) }
         ensures empty { IfOk result (λ walk. vec_len walk.stack ≡ 0) }
     {
-        // The heights first, because an allocator can put them where the classes of the keys were, which take as much.
         Ok(HeightWalk {
             heights: numbers_of(alloc, childless)?,
             states: first_states(alloc, childless)?,
