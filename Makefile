@@ -1,4 +1,4 @@
-## bplint: `rt` of the kit proves and builds, python3 runs the tests on what is built.
+## bplint: `rt` of the kit proves and builds; python3 runs the tests on what is built.
 ##
 ##   make build          proves and builds the program, crates/bplint/out/bplint; half an hour the first time
 ##   make look FILE=F    lints F with the program unproved, in a minute and a half
@@ -24,6 +24,7 @@ DIST = dist
 # functions.
 LIBRARY = crates/bplist_c/out
 SONAME = libbplist.so.0
+IN_PLACE = $(addprefix bplist_,octets objects keys cert lint cursor ascii c) $(addprefix bplint_,lines map engine arguments)
 HEAP = $(dir $(shell rt doc))c/liblibc_c.a
 
 # The Python that builds the wheel and runs its tests: Debian's, which python3-dev gives headers, setuptools and wheel.
@@ -50,18 +51,13 @@ INSTALLED = $(addprefix $(DESTDIR),$(bindir)/bplint $(mandir)/man1/bplint.1 $(ba
 MADE = $(DESTDIR)$(datadir)/bplint/folders
 FOLDERS = $(sort $(patsubst %/,%,$(dir $(INSTALLED) $(MADE))))
 
-.PHONY: build help look lib link-lib wheel test-wheel dist install uninstall check gate test edits bench clean
+.PHONY: build help look lib in-place link-lib wheel test-wheel dist install uninstall check gate test edits bench clean
 
-# rt sees by itself what has to be proved and built again. Before it builds more than one library it makes a quick pass
-# over all sources, which a call for each library spares. JOBS is how many processes prove one crate: without it rt chooses,
-# by what is free. JOBS=1 takes the least processor time, since each process loads the prover's own modules for itself.
-libraries = for crate in $(1); do (cd crates/$$crate && rt lib $(jobs)) || exit; done
-jobs = $(if $(JOBS),--jobs $(JOBS))
-BELOW = $(addprefix bplist_,octets objects keys cert lint cursor ascii)
-
+# In a folder of their own, with `rt ci`: it proves side by side what does not wait for one another, and keeps the proofs for
+# the gate and for the next build.
 build:
-	$(call libraries,$(BELOW) bplint_lines bplint_map bplint_engine)
-	cd crates/bplint && rt run $(jobs) -- --version
+	@folder=$$(mktemp -d) && trap 'rm -rf "$$folder"' EXIT && python3 -B packaging/prove.py bplint "$$folder" && \
+	  mkdir -p $(dir $(BPLINT)) && cp "$$folder/$(BPLINT)" $(BPLINT)
 
 help:
 	@sed -n 's/^## \{0,1\}//p' $(firstword $(MAKEFILE_LIST))
@@ -71,7 +67,14 @@ look:
 	@file=$$(realpath '$(FILE)') && cd crates/bplint && rt try --data Info.plist="$$file" -- lint Info.plist
 
 lib:
-	$(call libraries,$(BELOW) bplist_c)
+	@folder=$$(mktemp -d) && trap 'rm -rf "$$folder"' EXIT && python3 -B packaging/prove.py bplist_c "$$folder" && \
+	  python3 -B tests/gate/build_library.py "$$folder" && mkdir -p $(LIBRARY) && cp "$$folder/$(LIBRARY)/libbplist_c.a" $(LIBRARY)
+	$(MAKE) link-lib
+
+# Here, with `rt lib`: one crate after the other, but of a crate that was proved here before only the functions that changed.
+in-place:
+	for crate in $(IN_PLACE); do (cd crates/$$crate && rt lib) || exit; done
+	cd crates/bplint && rt run -- --version
 	$(MAKE) link-lib
 
 # From what is proved and built.
@@ -104,14 +107,14 @@ dist: build lib
 	packaging/dist.sh $(DIST)
 
 # The parts of both stand in .ci/run.
-check: build lib
+check: in-place
 	cd crates/bplist_calls && rt run <stdin >/dev/null
 	.ci/run --daily
 
 gate test:
 	.ci/run
 
-edits: build lib
+edits: in-place
 	python3 -B tests/gate/edits.py --all
 
 bench: build lib wheel

@@ -90,8 +90,8 @@ class Edit:
         head = next(it for it in reversed(before) if it.startswith("impl"))
         trait, told, kind, argument = IMPL.match(head).groups()
         # An impl for one argument, as that of Checked<SliceSource<'a>>, has the argument's name too. A parameter has one
-        # letter.
-        return kind + (trait or "") + (told or "") + (f"+{argument}" if argument and len(argument) > 1 else "")
+        # letter. The name of u32 is U32.
+        return kind[0].upper() + kind[1:] + (trait or "") + (told or "") + (f"+{argument}" if argument and len(argument) > 1 else "")
 
     def goals(self, lines):
         """The (verdict, goal) that the lines of a check have for the function."""

@@ -1,6 +1,6 @@
 //! The program bplint: lints, checks and reads binary property lists. This crate has the command line, the inputs and
 //! the outputs. What is written is proved in `bplint_engine`, `bplint_map` and `bplint_lines`; the functions here pass
-//! it on.
+//! it on. The tables of the command line are in `bplint_arguments`.
 //!
 //! ```
 //! $ bplint lint Info.plist
@@ -12,7 +12,6 @@
 //! | module | contents |
 //! |---|---|
 //! | `args` | what a command line asks for |
-//! | `arguments`, `subcommands` | the command line as tables, for clap |
 //! | `input` | FILE and CERT: opened and read by place, or read as a whole |
 //! | `runs` | one request about one FILE |
 //! | `output` | OUT, which is created when its first byte is written; the line of a fault, and the exit status |
@@ -24,13 +23,11 @@
 ghost use Rattle.std.specs.Prelude.{◌≤◌};
 
 mod args;
-mod arguments;
 mod folders;
 mod input;
 mod linting;
 mod output;
 mod runs;
-mod subcommands;
 mod unread;
 
 use args::Line;

@@ -32,4 +32,3 @@ pub mod ReachedObjects
 pub mod HeadAnswers
 pub mod KeptOrBroken
 pub mod VisitLaws
-pub mod OffsetSteps

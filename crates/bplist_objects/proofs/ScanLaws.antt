@@ -39,10 +39,10 @@ nth_number-part f block place size now e k h =
     ∙ ap num (part-part f place (now * size) (0 + k * size) size (place + k * size) (let r = row_fits k size now size h (omega arith) in omega arith) (omega arith))
 
 -- numbers that are appended to those before them
-pub numbers_grown : {T : Type 0} (means : T → ℕ) (f : List ℕ) (into ys rest : List T) (place size done k : ℕ) (d : T) → done ≤ length into
-    → ((j : ℕ) (e : T) → j < done → means (get_or into j e) ≡ nth_number f place size j) → MeanNumbers means f (place + done * size) size ys → k < done + length ys
-    → means (get_or (take done into ++ (ys ++ rest)) k d) ≡ nth_number f place size k
-numbers_grown means f into ys rest place size done k d within before here h =
+pub numbers_grown : {T : Type 0} (means : T → ℕ) (cut : ℕ → ℕ) (f : List ℕ) (into ys rest : List T) (place size done k : ℕ) (d : T) → done ≤ length into
+    → ((j : ℕ) (e : T) → j < done → means (get_or into j e) ≡ cut (nth_number f place size j)) → MeanNumbers means cut f (place + done * size) size ys → k < done + length ys
+    → means (get_or (take done into ++ (ys ++ rest)) k d) ≡ cut (nth_number f place size k)
+numbers_grown means cut f into ys rest place size done k d within before here h =
     let len : length (take done into) ≡ done = length-take-le done into within in
     elim (cases_lt k done) [
       | inl a ↦
@@ -51,8 +51,7 @@ numbers_grown means f into ys rest place size done k d within before here h =
           let same : done + (k - done) ≡ k = omega arith in
           ap means (get_or-append_right (take done into) (ys ++ rest) done k d len b ∙ get_or_append_left ys rest d (k - done) (omega arith))
           ∙ here (k - done) d (omega arith)
-          ∙ nth_number-behind f place size done (k - done)
-          ∙ ap (nth_number f place size) same
+          ∙ ap cut (nth_number-behind f place size done (k - done) ∙ ap (nth_number f place size) same)
     ]
 
 module _ (f block : List ℕ) (place size done now : ℕ) (e : block ≡ part f (place + done * size) (now * size)) where

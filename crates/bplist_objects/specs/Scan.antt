@@ -13,9 +13,9 @@ nth_number f place size k = num_at f (place + k * size) size
 abbrev pub AreNumbers : List ℕ → ℕ → ℕ → List ℕ → Type 0
 AreNumbers f place size xs = (k : ℕ) → k < length xs → slice_index xs k ≡ nth_number f place size k
 
--- these values mean consecutive numbers of one size
-abbrev pub MeanNumbers : {T : Type 0} → (T → ℕ) → List ℕ → ℕ → ℕ → List T → Type 0
-MeanNumbers means f place size xs = (k : ℕ) (d : _) → k < length xs → means (slice_index_or xs k d) ≡ nth_number f place size k
+-- these values mean consecutive numbers of one size, cut to the type of the values
+abbrev pub MeanNumbers : {T : Type 0} → (T → ℕ) → (ℕ → ℕ) → List ℕ → ℕ → ℕ → List T → Type 0
+MeanNumbers means cut f place size xs = (k : ℕ) (d : _) → k < length xs → means (slice_index_or xs k d) ≡ cut (nth_number f place size k)
 
 -- the first `count` of these numbers are below a bound
 abbrev pub AreBelow : List ℕ → ℕ → ℕ → ℕ → ℕ → Type 0

@@ -1,6 +1,6 @@
 //! Numbers of one to sixteen bytes at a place of a source, one by one or in blocks.
 
-ghost use Rattle.std.specs.Prelude.{◌≡◌, ℕ, ◌+◌, ◌*◌, ◌≤◌, ◌<◌, length, IfOk, OnOk, is_err, slice_index};
+ghost use Rattle.std.specs.Prelude.{◌≡◌, ℕ, ◌+◌, ◌*◌, ◌≤◌, ◌<◌, length, min, IfOk, OnOk, is_err, slice_index};
 ghost use Rattle.bplist_objects.specs.Prelude.{part, num, OnlyReads, Honestly, num_at, AreNumbers, MeanNumbers};
 
 use bplist_octets::{ReadFault, Source, sized, wide};
@@ -73,7 +73,8 @@ pub(crate) fn part_of(l: &[u8], place: usize, n: usize) -> &[u8]
     &l[place..place + n]
 }
 
-/// A type of numbers that bytes spell: `u64` for places and references, `u16` for the units of texts.
+/// A type of numbers that bytes spell: `u64` for references and a few places, `u32` for the places of all objects, `u16`
+/// for the units of texts.
 pub(crate) trait Spelled: Copy {
     /// The largest number of bytes that spell one.
     ghost most: { ℕ };
@@ -81,11 +82,14 @@ pub(crate) trait Spelled: Copy {
     /// The number that a value means.
     ghost means: { Self → ℕ };
 
-    /// Returns the number that these bytes spell.
+    /// What is read of a number: itself, or the greatest number of the type if it is greater.
+    ghost cut: { ℕ → ℕ };
+
+    /// Returns the number that these bytes spell, cut to the type.
     fn spelled(l: &[u8]) -> Self
         requires low { 1 ≤ length l.now }
         requires high { length l.now ≤ most }
-        ensures { means result ≡ num l.now };
+        ensures { means result ≡ cut (num l.now) };
 }
 
 impl Spelled for u64 {
@@ -93,9 +97,24 @@ impl Spelled for u64 {
 
     ghost means = { λ x. x };
 
+    ghost cut = { λ n. n };
+
     #[inline(always)]
     fn spelled(l: &[u8]) -> u64 {
         sized(l)
+    }
+}
+
+impl Spelled for u32 {
+    ghost most = { 8 };
+
+    ghost means = { λ x. x };
+
+    ghost cut = { λ n. min n 4294967295 };
+
+    #[inline(always)]
+    fn spelled(l: &[u8]) -> u32 {
+        sized(l).min(u32::MAX as u64) as u32
     }
 }
 
@@ -103,6 +122,8 @@ impl Spelled for u16 {
     ghost most = { 2 };
 
     ghost means = { λ x. x };
+
+    ghost cut = { λ n. n };
 
     #[inline(always)]
     fn spelled(l: &[u8]) -> u16 {
@@ -115,7 +136,7 @@ impl Spelled for u16 {
 fn spell_block<T: Spelled>(block: &[u8], width: Width, into: &mut [T])
     requires most { width.bytes ≤ T.most }
     requires room { length block.now ≡ length into.old * width.bytes }
-    ensures { MeanNumbers T.means block.now 0 width.bytes into.new }
+    ensures { MeanNumbers T.means T.cut block.now 0 width.bytes into.new }
 {
     let size = width.bytes as usize;
     for k in 0..into.len() {
@@ -137,7 +158,7 @@ fn read_block<T: Spelled, S: Source>(
     requires room { length block.old ≡ length into.old * width.bytes }
     requires within { place + length into.old * width.bytes ≤ length (S.means src.old).octets }
     ensures reads { OnlyReads (is_err result) (S.means src.old) (S.means src.new) }
-    ensures numbers { OnOk result (Honestly (S.means src.old) (λ f. MeanNumbers T.means f place width.bytes into.new)) }
+    ensures numbers { OnOk result (Honestly (S.means src.old) (λ f. MeanNumbers T.means T.cut f place width.bytes into.new)) }
 {
     src.read_at(place, block)?;
     match width.bytes {
@@ -162,7 +183,7 @@ pub(crate) fn read_many<const BLOCK: usize, const ROOM: usize, T: Spelled, S: So
     requires small { ROOM ≤ 4096 }
     requires within { place + length into.old * width.bytes ≤ length (S.means src.old).octets }
     ensures reads { OnlyReads (is_err result) (S.means src.old) (S.means src.new) }
-    ensures numbers { OnOk result (Honestly (S.means src.old) (λ f. MeanNumbers T.means f place width.bytes into.new)) }
+    ensures numbers { OnOk result (Honestly (S.means src.old) (λ f. MeanNumbers T.means T.cut f place width.bytes into.new)) }
 {
     let _len = src.len();
     let mut buffer = [0u8; ROOM];

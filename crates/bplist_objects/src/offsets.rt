@@ -23,14 +23,11 @@ use crate::fault::{Failure, Fault, ObjectFault};
 use crate::frame::{Frame, ObjectNo};
 use crate::framed::{Framed, shape_in};
 use crate::head::Head;
-use crate::numbers::{Width, number_in, numbers_in};
+use crate::numbers::{BLOCK, BLOCK_BYTES, Width, number_in, numbers_in, read_many};
 use crate::rule::Rule;
 use crate::scan::first_not_below;
 use bplist_octets::{ReadFault, Source};
 use std::alloc::Global;
-
-/// The number of entries of the offset table in one read.
-const BLOCK: usize = 256;
 
 /// A source that has its frame, and gives the places of its objects.
 ///
@@ -198,45 +195,6 @@ pub(crate) fn first_high_entry<S: Source>(
     }
 }
 
-/// Puts places into the table from number `from` on. A place that needs more than 32 bits is stored as 4294967295,
-/// which is also after any offset table.
-fn put_offsets(places: &[u64], from: usize, table: &mut [u32])
-    requires { from + length places.now ≤ length table.old }
-    ensures length { length table.new ≡ length table.old }
-    ensures before { (k : ℕ) → k < from → slice_index table.new k ≡ slice_index table.old k }
-    ensures put { (k : ℕ) → k < length places.now
-        → slice_index table.new (from + k) ≡ min (slice_index places.now k) 4294967295 }
-{
-    for (k, place) in places.iter().enumerate() {
-        table[from + k] = (*place).min(u32::MAX as u64) as u32;
-    }
-}
-
-/// Reads a block of entries of the offset table from number `from` on. Returns the number of the entry after it.
-fn read_entries<S: Source>(
-    src: &mut S,
-    frame: &Frame,
-    from: u32,
-    table: &mut [u32],
-) -> Result<u32, ReadFault>
-    requires safe { IsSafe (length (S.means src.old).octets) frame.now }
-    requires all { length table.old ≡ frame.now.objects }
-    requires more { from < frame.now.objects }
-    ensures reads { OnlyReads (is_err result) (S.means src.old) (S.means src.new) }
-    ensures all { length table.new ≡ length table.old }
-    ensures next { IfOk result (λ next. (from < next) × (next ≤ frame.now.objects)) }
-    ensures exact { IsTrue (S.means src.old).honest
-        → AreOffsets32 (S.means src.old).octets frame.now from table.old
-        → IfOk result (λ next. AreOffsets32 (S.means src.old).octets frame.now next table.new) }
-{
-    let count = (frame.objects - from).min(BLOCK as u32);
-    let mut places = [0; BLOCK];
-    let places = &mut places[..count as usize];
-    read_offsets(src, frame, from, places)?;
-    put_offsets(places, from as usize, table);
-    Ok(from + count)
-}
-
 /// Returns the place of each object from the start of the file, as its entry gives it. A place that needs more than 32
 /// bits is returned as 4294967295. If a read fails, returns `Read`. If memory for 4 bytes an object is refused, returns
 /// `Memory`.
@@ -247,11 +205,10 @@ pub fn offsets_of<S: Source>(alloc: Global, src: &mut S, frame: &Frame) -> Resul
     ensures exact { IsTrue (S.means src.old).honest
         → IfOk result (λ places. AreOffsets32 (S.means src.old).octets frame.now frame.now.objects places.items) }
 {
+    let _len = src.len();
     let mut places = vec![in alloc; 0; frame.objects as usize]?;
-    let mut next = 0;
-    while next < frame.objects {
-        next = read_entries(src, frame, next, &mut places)?;
-    }
+    let bytes = frame.offset_size;
+    read_many::<BLOCK, BLOCK_BYTES, u32, S>(src, frame.table, Width { bytes }, &mut places)?;
     Ok(places)
 }
 

@@ -16,5 +16,5 @@ loop-done-preserved g c = record {
   so_far = λ honest k d l.
       let f = (g.S.Source.means c.args.src.now).octets in
       let here = rw c.loop-done.invariant.same at c.in_ok-read_block.ensures.numbers in
-      numbers_grown g.T.Spelled.means f c.loop-done.into c.read_block.new.into _ c.args.place c.args.width.bytes c.loop-done.done k d (omega arith) (c.loop-done.invariant.so_far honest) (here honest) (omega (arith, c.read_block.auto.into));
+      numbers_grown g.T.Spelled.means g.T.Spelled.cut f c.loop-done.into c.read_block.new.into _ c.args.place c.args.width.bytes c.loop-done.done k d (omega arith) (c.loop-done.invariant.so_far honest) (here honest) (omega (arith, c.read_block.auto.into));
 }

@@ -10,7 +10,7 @@ invariant-loop-done g l =
       same : means l.src ≡ means l.fn.src;
       reached : l.done ≤ l.count;
       so_far : IsTrue (means l.fn.src).honest → (k : ℕ) (d : _) → k < l.done
-          → g.T.Spelled.means (get_or l.into k d) ≡ nth_number (means l.fn.src).octets l.place l.width.bytes k;
+          → g.T.Spelled.means (get_or l.into k d) ≡ g.T.Spelled.cut (nth_number (means l.fn.src).octets l.place l.width.bytes k);
     }
 
 abbrev pub decreases-loop-done : goal.decreases-loop-done

@@ -5,7 +5,7 @@ use std::alloc::{AllocError, Global};
 
 /// How an argument is given.
 #[derive(Clone, Copy)]
-pub enum Form {
+pub(crate) enum Form {
     /// `--name`.
     Flag,
     /// `--name`, or `-` and this letter.
@@ -29,7 +29,7 @@ pub enum Form {
 }
 
 /// An argument, as it is in the tables.
-pub struct Argument {
+pub(crate) struct Argument {
     /// The name of the flag or operand.
     name: &'static str,
     form: Form,
@@ -37,79 +37,79 @@ pub struct Argument {
     help: &'static str,
 }
 
-pub const HEX: Argument = Argument {
+pub(crate) const HEX: Argument = Argument {
     name: "hex",
     form: Form::Short('x'),
     help: "FILE and CERT hold hexadecimal text, and OUT will",
 };
 
-pub const QUIET: Argument = Argument {
+pub(crate) const QUIET: Argument = Argument {
     name: "quiet",
     form: Form::Short('q'),
     help: "Print nothing for a file that holds a value",
 };
 
-pub const RECURSIVE: Argument = Argument {
+pub(crate) const RECURSIVE: Argument = Argument {
     name: "recursive",
     form: Form::ShortWithout('r', "hex"),
     help: "Lint all files below a FILE that is a folder, if they begin with bplist",
 };
 
-pub const SUMMARY: Argument = Argument {
+pub(crate) const SUMMARY: Argument = Argument {
     name: "summary",
     form: Form::Flag,
     help: "Count at the end how many files were sound, not sound and unreadable",
 };
 
-pub const EXPLAIN: Argument = Argument {
+pub(crate) const EXPLAIN: Argument = Argument {
     name: "explain",
     form: Form::Flag,
     help: "Say under a fault what its rule asks, and where it is broken",
 };
 
-pub const SORTED: Argument = Argument {
+pub(crate) const SORTED: Argument = Argument {
     name: "sorted",
     form: Form::Flag,
     help: "Write each dictionary's keys in sorted order too",
 };
 
-pub const TEXT: Argument = Argument {
+pub(crate) const TEXT: Argument = Argument {
     name: "text",
     form: Form::Flag,
     help: "Print the value under one PATH as old-style text",
 };
 
-pub const TEXT_LIMIT: Argument = Argument {
+pub(crate) const TEXT_LIMIT: Argument = Argument {
     name: "LIMIT",
     form: Form::Limit("text", "1048576"),
     help: "How many bytes of text to print at most, the line feed not counted",
 };
 
-pub const RAW: Argument = Argument {
+pub(crate) const RAW: Argument = Argument {
     name: "raw",
     form: Form::Without(&["text", "LIMIT"]),
     help: "Write the bytes of data, the UTF-8 of a text, or the digits of a number",
 };
 
-pub const TREE: Argument = Argument {
+pub(crate) const TREE: Argument = Argument {
     name: "recursive",
     form: Form::Short('R'),
     help: "List what is in the members too, each behind its container",
 };
 
-pub const TREE_LIMIT: Argument = Argument {
+pub(crate) const TREE_LIMIT: Argument = Argument {
     name: "LIMIT",
     form: Form::Limit("recursive", "1000000"),
     help: "How many nodes to list at most",
 };
 
-pub const FILE: Argument = Argument {
+pub(crate) const FILE: Argument = Argument {
     name: "FILE",
     form: Form::One,
     help: FILE_HELP,
 };
 
-pub const FILES: Argument = Argument {
+pub(crate) const FILES: Argument = Argument {
     name: "FILE",
     form: Form::Many,
     help: FILE_HELP,
@@ -117,37 +117,37 @@ pub const FILES: Argument = Argument {
 
 const FILE_HELP: &str = "A binary property list, or - for standard input";
 
-pub const CERT: Argument = Argument {
+pub(crate) const CERT: Argument = Argument {
     name: "CERT",
     form: Form::One,
     help: "A certificate of FILE",
 };
 
-pub const OUT: Argument = Argument {
+pub(crate) const OUT: Argument = Argument {
     name: "OUT",
     form: Form::One,
     help: "Where to write, or - for standard output",
 };
 
-pub const PATH: Argument = Argument {
+pub(crate) const PATH: Argument = Argument {
     name: "PATH",
     form: Form::One,
     help: PATH_HELP,
 };
 
-pub const PATHS: Argument = Argument {
+pub(crate) const PATHS: Argument = Argument {
     name: "PATH",
     form: Form::Many,
     help: PATH_HELP,
 };
 
-pub const MAYBE_PATH: Argument = Argument {
+pub(crate) const MAYBE_PATH: Argument = Argument {
     name: "PATH",
     form: Form::Maybe,
     help: PATH_HELP,
 };
 
-pub const ANY_PATHS: Argument = Argument {
+pub(crate) const ANY_PATHS: Argument = Argument {
     name: "PATH",
     form: Form::Any,
     help: PATH_HELP,
@@ -155,13 +155,13 @@ pub const ANY_PATHS: Argument = Argument {
 
 const PATH_HELP: &str = "A key path, as /key/0, or the empty text for the whole";
 
-pub const LIMIT: Argument = Argument {
+pub(crate) const LIMIT: Argument = Argument {
     name: "LIMIT",
     form: Form::Number,
     help: "How many bytes to print at most, the line feed not counted",
 };
 
-pub const WORD: Argument = Argument {
+pub(crate) const WORD: Argument = Argument {
     name: "WORD",
     form: Form::One,
     help: "The word of a rule, as fault lines have it, or its number",
@@ -169,7 +169,7 @@ pub const WORD: Argument = Argument {
 
 impl Argument {
     /// Converts the argument for `clap`.
-    pub fn to_arg<'a>(&self, alloc: Global) -> Result<Arg<'a>, AllocError> {
+    pub(crate) fn to_arg<'a>(&self, alloc: Global) -> Result<Arg<'a>, AllocError> {
         let name = self.name;
         let arg = Arg::new(alloc, name).help(self.help);
         match self.form {
