@@ -27,6 +27,9 @@ SONAME = libbplist.so.0
 IN_PLACE = $(addprefix bplist_,octets objects keys cert lint cursor ascii c) $(addprefix bplint_,lines map engine arguments)
 HEAP = $(dir $(shell rt doc))c/liblibc_c.a
 
+# What is built is at least as new as these.
+SOURCES := crates.txt HANDLES $(shell find crates -name out -prune -o -type f -print)
+
 # The Python that builds the wheel and runs its tests: Debian's, which python3-dev gives headers, setuptools and wheel.
 PYTHON = /usr/bin/python3
 
@@ -53,11 +56,12 @@ FOLDERS = $(sort $(patsubst %/,%,$(dir $(INSTALLED) $(MADE))))
 
 .PHONY: build help look lib in-place link-lib wheel test-wheel dist install uninstall check gate test edits bench clean
 
-# In a folder of their own, with `rt ci`: it proves side by side what does not wait for one another, and keeps the proofs for
-# the gate and for the next build.
-build:
+# On copies, with `rt ci`: it proves side by side what does not wait for one another, and keeps the proofs for the gate.
+build: $(BPLINT)
+
+$(BPLINT): $(SOURCES)
 	@folder=$$(mktemp -d) && trap 'rm -rf "$$folder"' EXIT && python3 -B packaging/prove.py bplint "$$folder" && \
-	  mkdir -p $(dir $(BPLINT)) && cp "$$folder/$(BPLINT)" $(BPLINT)
+	  mkdir -p $(@D) && cp "$$folder/$@" $@
 
 help:
 	@sed -n 's/^## \{0,1\}//p' $(firstword $(MAKEFILE_LIST))
@@ -66,12 +70,14 @@ look:
 	@test -f '$(FILE)' || { echo 'make look FILE=F: F is the file to lint' >&2; exit 2; }
 	@file=$$(realpath '$(FILE)') && cd crates/bplint && rt try --data Info.plist="$$file" -- lint Info.plist
 
-lib:
+lib: $(LIBRARY)/libbplist.a
+
+$(LIBRARY)/libbplist.a: $(SOURCES) bplist.map
 	@folder=$$(mktemp -d) && trap 'rm -rf "$$folder"' EXIT && python3 -B packaging/prove.py bplist_c "$$folder" && \
-	  python3 -B tests/gate/build_library.py "$$folder" && mkdir -p $(LIBRARY) && cp "$$folder/$(LIBRARY)/libbplist_c.a" $(LIBRARY)
+	  python3 -B tests/gate/build_library.py "$$folder" && mkdir -p $(@D) && cp "$$folder/$(@D)/libbplist_c.a" $(@D)
 	$(MAKE) link-lib
 
-# Here, with `rt lib`: one crate after the other, but of a crate that was proved here before only the functions that changed.
+# Here, with `rt lib`: one crate after the other, but of a crate that it proved before only the functions that changed.
 in-place:
 	for crate in $(IN_PLACE); do (cd crates/$$crate && rt lib) || exit; done
 	cd crates/bplint && rt run -- --version

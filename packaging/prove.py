@@ -1,9 +1,9 @@
 #!/usr/bin/env python3
 """prove.py CRATE FOLDER
 
-Proves a crate and the crates below it with `rt ci`, on copies in FOLDER, and builds what `rt ci` builds of them there. `rt ci`
-proves crates side by side if none waits for the other; `rt lib` proves one after the other. It keeps what it proved on this
-machine, so the gate and the next build prove only what changed.
+Proves a crate and the crates below it with `rt ci`, on copies in FOLDER, and builds there what `rt ci` builds of them. `rt ci`
+proves crates side by side if none waits for the other, and keeps what it proved on this machine: the gate and the next build prove
+only what changed. The exit status is that of `rt ci`.
 
 `rt ci` takes a whole repository, so FOLDER becomes one that has these crates alone. Their must-fail edits stay out, because the gate
 tries them.
