@@ -1,6 +1,6 @@
 ## bplint: `rt` of the kit proves and builds; python3 runs the tests on what is built.
 ##
-##   make build          proves and builds the program, crates/bplint/out/bplint; half an hour the first time
+##   make build          proves and builds the program, crates/bplint/out/bplint; 25 minutes the first time
 ##   make look FILE=F    lints F with the program unproved, in a minute and a half
 ##   make lib            proves and builds the C library, into crates/bplist_c/out
 ##   make wheel          the Python package for pip, with the library in it, into dist/
@@ -56,12 +56,10 @@ FOLDERS = $(sort $(patsubst %/,%,$(dir $(INSTALLED) $(MADE))))
 
 .PHONY: build help look lib in-place link-lib wheel test-wheel dist install uninstall check gate test edits bench clean
 
-# On copies, with `rt ci`: it proves side by side what does not wait for one another, and keeps the proofs for the gate.
 build: $(BPLINT)
 
 $(BPLINT): $(SOURCES)
-	@folder=$$(mktemp -d) && trap 'rm -rf "$$folder"' EXIT && python3 -B packaging/prove.py bplint "$$folder" && \
-	  mkdir -p $(@D) && cp "$$folder/$@" $@
+	python3 -B packaging/build.py bplint
 
 help:
 	@sed -n 's/^## \{0,1\}//p' $(firstword $(MAKEFILE_LIST))
@@ -73,11 +71,10 @@ look:
 lib: $(LIBRARY)/libbplist.a
 
 $(LIBRARY)/libbplist.a: $(SOURCES) bplist.map
-	@folder=$$(mktemp -d) && trap 'rm -rf "$$folder"' EXIT && python3 -B packaging/prove.py bplist_c "$$folder" && \
-	  python3 -B tests/gate/build_library.py "$$folder" && mkdir -p $(@D) && cp "$$folder/$(@D)/libbplist_c.a" $(@D)
+	python3 -B packaging/build.py bplist_c
 	$(MAKE) link-lib
 
-# Here, with `rt lib`: one crate after the other, but of a crate that it proved before only the functions that changed.
+# With `rt lib`: one crate after the other, but of a crate that it proved before only the functions that changed.
 in-place:
 	for crate in $(IN_PLACE); do (cd crates/$$crate && rt lib) || exit; done
 	cd crates/bplint && rt run -- --version
