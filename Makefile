@@ -1,6 +1,6 @@
 ## bplint: `rt` of the kit proves and builds; python3 runs the tests on what is built.
 ##
-##   make build          proves and builds the program, crates/bplint/out/bplint; 25 minutes the first time
+##   make build          proves and builds the program, crates/bplint/out/bplint; half an hour the first time
 ##   make look FILE=F    lints F with the program unproved, in a minute and a half
 ##   make lib            proves and builds the C library, into crates/bplist_c/out
 ##   make wheel          the Python package for pip, with the library in it, into dist/
@@ -24,7 +24,7 @@ DIST = dist
 # functions.
 LIBRARY = crates/bplist_c/out
 SONAME = libbplist.so.0
-IN_PLACE = $(addprefix bplist_,octets objects keys cert lint cursor ascii c) $(addprefix bplint_,lines map engine arguments)
+IN_PLACE = $(addprefix bplist_,octets objects keys cert lint cursor ascii c) $(addprefix bplint_,lines map engine)
 HEAP = $(dir $(shell rt doc))c/liblibc_c.a
 
 # What is built is at least as new as these.

@@ -132,6 +132,12 @@ def build(crate, jobs, kit):
     return not status
 
 
+def jobs_of_all():
+    """One for each processor but one, if there are three or more: the last job saves little time and costs more of it in all."""
+    processors = len(os.sched_getaffinity(0))
+    return max(min(processors, 2), processors - 1)
+
+
 def shares(crates, idle):
     """Shares idle processors out to crates, by their sizes: (crate, how many) for each that gets one."""
     for at, crate in enumerate(crates):
@@ -143,7 +149,7 @@ def shares(crates, idle):
 
 def build_all(crates, kit):
     """Builds crates side by side, each after those below it, and returns whether all are built."""
-    left, running, idle, is_well = list(crates), {}, len(os.sched_getaffinity(0)), True
+    left, running, idle, is_well = list(crates), {}, jobs_of_all(), True
     with concurrent.futures.ThreadPoolExecutor() as pool:
         while left or running:
             undone = {*left, *(crate for crate, _ in running.values())}

@@ -4,7 +4,7 @@ ghost use Rattle.std.specs.Prelude.{◌≡◌, IfOk, length};
 ghost use Rattle.bplint_engine.specs.Commands.{PrintsOnePath};
 ghost use Rattle.bplint_engine.specs.declared.run.Verb.TheVariants as verbs;
 
-use bplint_arguments::bplint;
+use crate::subcommands::bplint;
 use bplint_engine::{Command, Verb};
 use bplint_lines::rule_of_word;
 use bplist_objects::{Rule, rule_name, rule_of_number};

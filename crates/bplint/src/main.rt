@@ -1,6 +1,6 @@
 //! The program bplint: lints, checks and reads binary property lists. This crate has the command line, the inputs and
 //! the outputs. What is written is proved in `bplint_engine`, `bplint_map` and `bplint_lines`; the functions here pass
-//! it on. The tables of the command line are in `bplint_arguments`.
+//! it on.
 //!
 //! ```
 //! $ bplint lint Info.plist
@@ -11,6 +11,8 @@
 //!
 //! | module | contents |
 //! |---|---|
+//! | `subcommands` | the table of subcommands, and the `clap` command line that is made of it |
+//! | `arguments` | their arguments |
 //! | `args` | what a command line asks for |
 //! | `input` | FILE and CERT: opened and read by place, or read as a whole |
 //! | `runs` | one request about one FILE |
@@ -23,11 +25,13 @@
 ghost use Rattle.std.specs.Prelude.{◌≤◌};
 
 mod args;
+mod arguments;
 mod folders;
 mod input;
 mod linting;
 mod output;
 mod runs;
+mod subcommands;
 mod unread;
 
 use args::Line;
