@@ -4,10 +4,9 @@
 Proves and builds a crate and the crates below it, if they are older than their sources or than a crate below. A library becomes
 out/rlib/NAME.rlib in the folder of its crate, the C library out/libNAME.a, a program out/NAME.
 
-As `rt ci` does, it hands the crates above a library its statements only, without the proofs. In contrast to `rt ci`, it gives
-all processors to the crates that it proves, makes no second build of a program, and stays in the folders of the crates. It runs no
-test, and its proofs do not count for the gate. It prints a line for each crate, or what the prover says if it refuses one. The
-exit status is 1 in that case.
+As in `rt ci`, a library hands on its statements alone, without the proofs. Unlike `rt ci`, the script shares nearly all processors
+out to the crates that are next, builds a program once, and works in the folders of the crates. It runs no test, and its proofs do
+not count for the gate. It prints a line for each crate, or what the prover says if it refuses one; then the exit status is 1.
 """
 import concurrent.futures
 import dataclasses
@@ -133,7 +132,7 @@ def build(crate, jobs, kit):
 
 
 def jobs_of_all():
-    """One for each processor but one, if there are three or more: the last job saves little time and costs more of it in all."""
+    """One for each processor but one, if there are three or more: the last one saves little time, and costs processor time."""
     processors = len(os.sched_getaffinity(0))
     return max(min(processors, 2), processors - 1)
 
