@@ -132,15 +132,21 @@ def build(crate, jobs, kit):
 
 
 def jobs_of_all():
-    """One for each processor but one, if there are three or more: the last one saves little time, and costs processor time."""
+    """How many jobs run at once: one for each processor but one, if there are three or more."""
     processors = len(os.sched_getaffinity(0))
     return max(min(processors, 2), processors - 1)
+
+
+def jobs_of_crate():
+    """The most jobs of one crate, half of the processors: each job more saves less time, and costs processor time."""
+    return max(2, len(os.sched_getaffinity(0)) // 2)
 
 
 def shares(crates, idle):
     """Shares idle processors out to crates, by their sizes: (crate, how many) for each that gets one."""
     for at, crate in enumerate(crates):
-        share = min(idle, max(1, round(idle * crate.size() / sum(it.size() for it in crates[at:]))))
+        part = round(idle * crate.size() / sum(it.size() for it in crates[at:]))
+        share = min(idle, jobs_of_crate(), max(1, part))
         if share:
             yield crate, share
         idle -= share

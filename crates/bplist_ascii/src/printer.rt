@@ -77,7 +77,7 @@ impl<T: Drop> From<AllocFailed<T>> for PrintFault {
 }
 
 /// How the units of a text are written.
-#[derive(Clone, Copy, Debug, PartialEq, Eq, Drop)]
+#[derive(Clone, Copy, Drop)]
 pub(crate) enum Style {
     /// As they are.
     Unquoted,
@@ -86,7 +86,7 @@ pub(crate) enum Style {
 }
 
 /// The head of a text, and how its units are written.
-#[derive(Clone, Copy, Debug, Drop)]
+#[derive(Clone, Copy, Drop)]
 pub(crate) struct Styled {
     pub(crate) head: Head,
     pub(crate) style: Style,

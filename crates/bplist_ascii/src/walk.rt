@@ -16,7 +16,7 @@ use std::alloc::Global;
 use std::io::Write;
 
 /// An array or a dictionary on the stack. Its members before number `next` are written or begun.
-#[derive(Clone, Copy, Debug, Drop)]
+#[derive(Clone, Copy, Drop)]
 struct Opened {
     head: Head,
     next: u64,

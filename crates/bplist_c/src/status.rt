@@ -18,7 +18,7 @@ const MINOR: u32 = 3;
 const PATCH: u32 = 0;
 
 /// Why a call has no answer. The header numbers the statuses in this order.
-#[derive(Clone, Copy, Debug, PartialEq, Eq, Drop)]
+#[derive(Clone, Copy, Drop)]
 pub(crate) enum Status {
     /// A rule is broken.
     Fault,

@@ -37,7 +37,7 @@ pub struct BplistVerdict {
 }
 
 /// The top of a file.
-#[derive(Clone, Copy, Debug, Drop)]
+#[derive(Clone, Copy, Drop)]
 pub(crate) struct Top {
     /// The number of objects in the file.
     pub(crate) objects: u32,

@@ -6,7 +6,7 @@ use bplist_objects::ObjectNo;
 use std::alloc::Global;
 
 /// A line of input, as words.
-#[derive(Clone, Copy, Debug)]
+#[derive(Clone, Copy)]
 pub(crate) struct Line<'a> {
     pub(crate) file: &'a str,
     pub(crate) certificate: &'a str,

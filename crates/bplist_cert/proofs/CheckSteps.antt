@@ -1,5 +1,5 @@
 -- The walk over the vouched objects, one after the other.
-use Rattle.std.proofs.Common.{◌≡◌, ℕ, suc, ◌<◌, ◌≤◌, ◌+◌, ◌-◌, ◌*◌, min, ◌⊎◌, inl, inr, List, [], ◌∷◌, length, slice_index, Option, Some, None, sym, ap, subst, arith}
+use Rattle.std.proofs.Common.{◌≡◌, ℕ, suc, ◌<◌, ◌≤◌, ◌+◌, ◌-◌, ◌*◌, min, ◌⊎◌, inl, inr, List, [], ◌∷◌, length, slice_index, Option, Some, None, Result, Ok, Err, IfOk, sym, ap, subst, arith}
 use Rattle.std.proofs.lemmas.Bool.{cases_lt}
 use Rattle.std.proofs.lemmas.List.{get_or_past}
 use Rattle.bplist_objects.specs.declared.rule.Rule.{Rule}
@@ -13,7 +13,7 @@ use Rattle.bplist_objects.specs.declared.head.Head.{Head}
 use Rattle.bplist_objects.specs.declared.head.Kind.TheVariants as kinds
 use Rattle.bplist_objects.specs.Frame.{off, IsFrame}
 use Rattle.bplist_objects.specs.Safe.{ref_count}
-use Rattle.bplist_objects.specs.Answers.{GivesFault, Never}
+use Rattle.bplist_objects.specs.Answers.{Gives, GivesFault, Never}
 use Rattle.bplist_objects.specs.Announced.{HasHead}
 use Rattle.bplist_objects.specs.FrameRules.{IsFrameFault}
 use Rattle.bplist_objects.specs.Rules.{KeepsAll, IsFirstFault, OfObject}
@@ -29,7 +29,7 @@ use Rattle.bplist_cert.specs.declared.refusal.Refusal.{Refusal}
 use Rattle.bplist_cert.specs.declared.refusal.Refusal.TheVariants as refusals
 use Rattle.bplist_cert.specs.Lists.{Keyed, Lists, lists}
 use Rattle.bplist_cert.specs.Valid.{IsVouchedBy}
-use Rattle.bplist_cert.specs.Heights.{AreMet, IsUnmetFault}
+use Rattle.bplist_cert.specs.Heights.{AreMet, AreLower, IsHeightFault, IsUnmetFault}
 use Rattle.bplist_objects.specs.Claims.{FailsAt}
 use Rattle.bplist_cert.specs.DictKeys.{KeysAreTexts, KeysDiffer, IsKeylessFault}
 use Rattle.bplist_cert.specs.CheckRules.{Asks, KeepsRule, BreaksRule, KeepsCheck, IsCheckFault, check_rules, rules_before_keys, key_rules, KeepsLast}
@@ -40,13 +40,6 @@ use Rattle.bplist_cert.specs.KeyRepeats.{HasGoodKeys, BreaksKeys, IsFirstKeysFau
 use Rattle.bplist_cert.specs.PairFault.{IsCheckedObject, AreCheckedBelow, IsWalkFault, IsSeenFault, IsVouchedFault, IsPairFault}
 use Rattle.bplist_cert.specs.Refusals.{GivesRefusal, refusal_of}
 use Rattle.bplist_cert.proofs.KeyRepeats.{rules_after, good_at}
-
--- the fault of the first of rules 28 and 29 that is broken
-abbrev pub IsHeightFault : List ℕ → Frame → List ℕ → ℕ → Head → Fault → Type 0
-IsHeightFault f F heights n head fault =
-    IsUnmetFault f F heights n head Vouched fault
-    ⊎ (AreMet f F heights head Vouched (ref_count head.kind head.count)
-    × IsUnmetFault f F heights n head (Below (slice_index heights n)) fault)
 
 -- the first references of a dictionary are those to its keys
 pub key_count : (head : Head) → head.kind ≡ kinds.Dict → min (ref_count head.kind head.count) head.count ≡ head.count
@@ -276,3 +269,18 @@ refused_weaker P Q refusals.Memory same h = tt
 pub given_weaker : (P Q : Fault → Type 0) (e : ObjectFault) → ((x : Fault) → P x → Q x) → GivesFault P e → GivesFault Q e
 given_weaker P Q (errors.Fault fault) same h = same fault h
 given_weaker P Q (errors.Read r) same h = tt
+
+-- a quick check shows nothing of a fault
+pub any_shown : {X : Type 0} (P : X → Type 0) (result : Result X ObjectFault) → IfOk result P → Gives P (λ _. Unit {0}) result
+any_shown P (Ok x) h = h
+any_shown P (Err (errors.Fault fault)) h = tt
+any_shown P (Err (errors.Read r)) h = tt
+
+-- the references have heights, and this is the result of the check by rule 29
+pub heights_checked : (f : List ℕ) (F : Frame) (heights : List ℕ) (n : ℕ) (head : Head) (result : Result (Unit {0}) ObjectFault)
+    → AreMet f F heights head Vouched (ref_count head.kind head.count)
+    → Gives (λ _. AreMet f F heights head (Below (slice_index heights n)) (ref_count head.kind head.count)) (IsUnmetFault f F heights n head (Below (slice_index heights n))) result
+    → Gives (λ _. AreLower f F heights n head) (IsHeightFault f F heights n head) result
+heights_checked f F heights n head (Ok _) met h = (met, h)
+heights_checked f F heights n head (Err (errors.Fault fault)) met h = inr (met, h)
+heights_checked f F heights n head (Err (errors.Read r)) met h = tt

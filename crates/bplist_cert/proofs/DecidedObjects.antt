@@ -26,12 +26,12 @@ use Rattle.bplist_cert.specs.declared.heights.Wanted.TheVariants.{Vouched, Below
 use Rattle.bplist_cert.specs.declared.checker.Pass.TheVariants.{Exact}
 use Rattle.bplist_cert.specs.Lists.{Keyed, Lists, lists, list_of}
 use Rattle.bplist_cert.specs.Valid.{IsVouchedBy}
-use Rattle.bplist_cert.specs.Heights.{Meets, AreMet, IsFirstUnmet}
+use Rattle.bplist_cert.specs.Heights.{Meets, AreMet, IsFirstUnmet, IsHeightFault}
 use Rattle.bplist_cert.specs.DictKeys.{KeysAreTexts}
 use Rattle.bplist_cert.specs.CheckRules.{KeepsLast, IsLastFault, IsKeysFault, IsCheckFault}
 use Rattle.bplist_cert.specs.PairFault.{IsCheckedObject, AreCheckedBelow, IsVouchedFault, IsCountFault, IsPairFault}
 use Rattle.bplist_cert.specs.Sorted.{IsAccepted}
-use Rattle.bplist_cert.proofs.CheckSteps.{IsHeightFault, object_fault, overfull_fault, heights_fault, keys_break, seen, held, held_more, passed, start}
+use Rattle.bplist_cert.proofs.CheckSteps.{object_fault, overfull_fault, heights_fault, keys_break, seen, held, held_more, passed, start}
 use Rattle.bplist_cert.proofs.AcceptedCertificates.{accepted}
 use Rattle.bplist_cert.proofs.DecidedKeys.{dict_decided, texts_or_first, differ_or_first, order_or_first}
 

@@ -1,5 +1,5 @@
 -- The heights of the references of a vouched object, by index (rules 28 and 29). Source: profile.
-use Rattle.std.specs.Prelude.{◌≡◌, ℕ, ◌+◌, ◌*◌, ◌<◌, ◌≤◌, List, length, slice_index, Some}
+use Rattle.std.specs.Prelude.{◌≡◌, ◌⊎◌, ℕ, ◌+◌, ◌*◌, ◌<◌, ◌≤◌, List, length, slice_index, Some}
 use Rattle.bplist_objects.specs.declared.rule.Rule.{Rule}
 use Rattle.bplist_objects.specs.declared.rule.Rule.TheVariants as rules
 use Rattle.bplist_objects.specs.declared.fault.Fault.{Fault}
@@ -46,3 +46,16 @@ abbrev pub IsUnmetFault : List ℕ → Frame → List ℕ → ℕ → Head → W
 IsUnmetFault f F heights n head wanted fault =
     (fault.rule ≡ rule_of wanted) × (fault.object ≡ Some (record { 0 = n }))
     × ((i : ℕ) × IsFirstUnmet f F heights head wanted i × (fault.place ≡ head.body + i * F.ref_size))
+
+-- all references of object n have heights, which are smaller than its own
+abbrev pub AreLower : List ℕ → Frame → List ℕ → ℕ → Head → Type 0
+AreLower f F heights n head =
+    AreMet f F heights head Vouched (ref_count head.kind head.count)
+    × AreMet f F heights head (Below (slice_index heights n)) (ref_count head.kind head.count)
+
+-- the fault of the first of rules 28 and 29 that is broken
+abbrev pub IsHeightFault : List ℕ → Frame → List ℕ → ℕ → Head → Fault → Type 0
+IsHeightFault f F heights n head fault =
+    IsUnmetFault f F heights n head Vouched fault
+    ⊎ (AreMet f F heights head Vouched (ref_count head.kind head.count)
+    × IsUnmetFault f F heights n head (Below (slice_index heights n)) fault)

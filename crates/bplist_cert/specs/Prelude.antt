@@ -12,7 +12,7 @@ pub use Rattle.bplist_objects.specs.Frame.{off}
 pub use Rattle.bplist_objects.specs.Framed.{HonestlyIn, frame_in}
 pub use Rattle.bplist_objects.specs.Heads.{Content, HasShape, Spells, refs}
 pub use Rattle.bplist_objects.specs.Holds.{Holds}
-pub use Rattle.bplist_objects.specs.ObjectRules.{KeepsByObject, object_rules}
+pub use Rattle.bplist_objects.specs.ObjectRules.{KeepsByObject, body_rules, object_rules}
 pub use Rattle.bplist_objects.specs.Reach.{Chain, Reach, Refs}
 pub use Rattle.bplist_objects.specs.Rules.{KeepsAll}
 pub use Rattle.bplist_objects.specs.Safe.{IsSafeFrame, IsSafeHead, ref_count}
@@ -31,11 +31,11 @@ pub use Rattle.bplist_keys.specs.Marks.{IsMarked}
 pub use Rattle.bplist_keys.specs.Ranks.{AreClasses}
 pub use Rattle.bplist_keys.specs.Runs.{AreRuns}
 pub use Rattle.bplist_keys.specs.Texts.{HasTextShape, text_units}
-pub use Rattle.bplist_cert.specs.CheckRules.{HasOrder, IsOrderFault}
+pub use Rattle.bplist_cert.specs.CheckRules.{HasOrder, IsCheckFault, IsOrderFault}
 pub use Rattle.bplist_cert.specs.CheckedFile.{CheckedFile, IsChecked, meaning_of}
 pub use Rattle.bplist_cert.specs.DictKeys.{AreInOrder, IsKeylessFault, IsText, KeysAreTexts, KeysDiffer}
 pub use Rattle.bplist_cert.specs.Encoding.{Fits, IsCertRefusal, IsOctetsFault, magic, octets_of, words}
-pub use Rattle.bplist_cert.specs.Heights.{AreMet, AreMetBy, IsFirstUnmetBy, IsUnmetFault, Meets, rule_of}
+pub use Rattle.bplist_cert.specs.Heights.{AreLower, AreMet, AreMetBy, IsFirstUnmetBy, IsHeightFault, IsUnmetFault, Meets, rule_of}
 pub use Rattle.bplist_cert.specs.KeyOffsets.{AreOffsetsOf, ArePlaces, AreRefs, IsFirstOther, IsOffsetOf, ReferToTexts}
 pub use Rattle.bplist_cert.specs.KeyPairs.{AreFewKeys, AreKnown, Ascends, Follows, HaveTextShapes, IsReadKey, IsSafeKey, IsSafeText}
 pub use Rattle.bplist_cert.specs.KeyRepeats.{BreaksKeys, HasGoodKeys, HaveGoodKeys, HaveNamedKeys, IsFirstKeysFault, IsKeyOf, IsVouchedKey}

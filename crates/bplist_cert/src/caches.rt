@@ -63,7 +63,7 @@ impl OrderedPairsCache {
 }
 
 /// The bytes from place `from` up to, and without, place `to`.
-#[derive(Clone, Copy, Debug)]
+#[derive(Clone, Copy)]
 pub(crate) struct Stretch {
     pub from: u64,
     pub to: u64,

@@ -7,15 +7,16 @@ ghost use Rattle.bplist_cert.specs.Prelude.{IsShownFault, ArePlaces, AreSeen, Qu
 ghost use Rattle.bplist_cert.specs.Prelude.{IsCheckedObject, AreCheckedBelow, IsWalkFault, IsSeenFault, IsVouchedFault};
 ghost use Rattle.bplist_cert.specs.Prelude.{KeepsPairRules, IsPairFault, Gives, read_failed, Judges, GivesRefusal};
 ghost use Rattle.bplist_cert.specs.Prelude.{is_read, refused_read, MayRefuse, IsAccepted, Never, Reach, Chain, Content};
-ghost use Rattle.bplist_cert.specs.Prelude.{Spells, refs, Frame as frame};
+ghost use Rattle.bplist_cert.specs.Prelude.{Spells, refs, Frame as frame, IsSafeHead, HasHead, IsCheckFault};
+ghost use Rattle.bplist_cert.specs.Prelude.{KeepsAll, KeepsByObject, body_rules, AreLower};
 
 use crate::certificate::Certificate;
 use crate::checked::Checked;
-use crate::heights::{Wanted, check_refs};
+use crate::heights::{Wanted, check_heights, check_refs};
 use crate::key_lists::{KeyFindings, VouchedPrefix, key_findings};
 use crate::refusal::Refusal;
 use bplist_objects::{
-    Extents, Fault, Frame, Framed, ObjectFault, ObjectNo, OffsetReader, Offsets, Rule, Visit,
+    Extents, Fault, Frame, Framed, Head, ObjectFault, ObjectNo, OffsetReader, Offsets, Rule, Visit,
     check_body, frame_of, head_in, read_offsets_in, refs_of, visit_in,
 };
 use bplist_octets::Source;
@@ -25,7 +26,7 @@ use std::alloc::Global;
 const BLOCK: usize = 512;
 
 /// How a walk checks each vouched object.
-#[derive(Clone, Copy, Debug)]
+#[derive(Clone, Copy)]
 enum Pass {
     /// By the rules before those of keys, in whatever order is fastest. A fault need not be the first.
     Quick,
@@ -40,9 +41,84 @@ struct ObjectCheck<'a> {
     look: Pass,
 }
 
+/// Checks what follows the head of vouched object `n` at `place`, and reads no byte twice: the test of rules 28 and 29
+/// also finds a reference that is not the number of an object, because only an object has a height.
+#[inline(always)]
+fn check_rest<P: Framed>(
+    src: &mut P,
+    heights: &[u32],
+    n: ObjectNo,
+    place: u64,
+    head: &Head,
+) -> Result<(), ObjectFault>
+    requires all { length heights.now ≡ (frame_in (P.means src.old)).objects }
+    requires within { n.0 < (frame_in (P.means src.old)).objects }
+    requires head { IsSafeHead (frame_in (P.means src.old)) head.now }
+    ensures reads { OnlyReads (read_failed result) (P.means src.old) (P.means src.new) }
+    ensures exact { HonestlyIn (P.means src.old) (λ f F. place ≡ off f F n.0 → HasHead f F n.0 head.now
+        → IfOk result (λ _. KeepsAll (KeepsByObject f F n.0) body_rules × AreLower f F heights.now n.0 head.now)) }
+{
+    let frame = src.frame();
+    if refs_of(head) == 0 {
+        check_body(src, &frame, n, place, head)
+    } else {
+        let own = heights[n.0 as usize];
+        check_refs(src, heights, n, head, Wanted::VouchedBelow(own))
+    }
+}
+
+/// Checks vouched object `n` as `check_object` does. The fault need not be the first.
+#[inline(always)]
+fn check_quickly<P: Framed>(
+    src: &mut P,
+    cert: &Certificate,
+    n: ObjectNo,
+    place: u64,
+    used: Extents,
+) -> Result<Extents, ObjectFault>
+    requires all { length cert.now.heights ≡ (frame_in (P.means src.old)).objects }
+    requires within { n.0 < (frame_in (P.means src.old)).objects }
+    ensures reads { OnlyReads (read_failed result) (P.means src.old) (P.means src.new) }
+    ensures exact { HonestlyIn (P.means src.old) (λ f F. place ≡ off f F n.0
+        → IsVouchedBy cert.now.heights n.0 → Sums f F (IsVouchedBy cert.now.heights) n.0 used.octets
+        → IfOk result (λ now. IsCheckedObject f F cert.now quick n.0 now.octets)) }
+{
+    let table = src.frame().table;
+    match visit_in(src, n, place)? {
+        Visit::Done(end) => Ok(used.with(table, n, place, end)?),
+        Visit::Body(head) => {
+            let now = used.with(table, n, place, head.end)?;
+            check_rest(src, &cert.heights, n, place, &head)?;
+            Ok(now)
+        }
+    }
+}
+
+/// Checks vouched object `n` as `check_object` does, by the rules in their order. The fault is the first.
+#[inline(always)]
+fn check_exactly<P: Framed>(
+    src: &mut P,
+    cert: &Certificate,
+    n: ObjectNo,
+    place: u64,
+    used: Extents,
+) -> Result<Extents, ObjectFault>
+    requires all { length cert.now.heights ≡ (frame_in (P.means src.old)).objects }
+    requires within { n.0 < (frame_in (P.means src.old)).objects }
+    ensures reads { OnlyReads (read_failed result) (P.means src.old) (P.means src.new) }
+    ensures exact { HonestlyIn (P.means src.old) (λ f F. place ≡ off f F n.0
+        → IsVouchedBy cert.now.heights n.0 → Sums f F (IsVouchedBy cert.now.heights) n.0 used.octets
+        → Gives (λ now. IsCheckedObject f F cert.now quick n.0 now.octets) (IsCheckFault f F cert.now n.0) result) }
+{
+    let table = src.frame().table;
+    let head = head_in(src, n, place)?;
+    let now = used.with(table, n, place, head.end)?;
+    check_heights(src, &cert.heights, n, &head)?;
+    Ok(now)
+}
+
 /// Checks vouched object `n` at `place` by the rules before those of keys. The vouched objects before it take `used`
-/// bytes; returns how many they take with it. A quick check reads no byte twice: the test of rules 28 and 29 also finds
-/// a reference that is not the number of an object, because only an object has a height.
+/// bytes; returns how many they take with it.
 fn check_object<P: Framed>(
     src: &mut P,
     walk: ObjectCheck,
@@ -58,33 +134,9 @@ fn check_object<P: Framed>(
         → Gives (λ now. IsCheckedObject f F walk.entry.certificate.now quick n.0 now.octets)
         (IsShownFault f F walk.entry.certificate.now walk.entry.look n.0) result) }
 {
-    let table = src.frame().table;
-    let cert = walk.certificate;
     match walk.look {
-        Pass::Quick => match visit_in(src, n, place)? {
-            Visit::Done(end) => Ok(used.with(table, n, place, end)?),
-            Visit::Body(head) => {
-                let now = used.with(table, n, place, head.end)?;
-                if refs_of(&head) == 0 {
-                    let frame = src.frame();
-                    check_body(src, &frame, n, place, &head)?;
-                } else {
-                    let heights: &[u32] = &cert.heights;
-                    let own = heights[n.0 as usize];
-                    check_refs(src, heights, n, &head, Wanted::VouchedBelow(own))?;
-                }
-                Ok(now)
-            }
-        },
-        Pass::Exact => {
-            let head = head_in(src, n, place)?;
-            let now = used.with(table, n, place, head.end)?;
-            let heights: &[u32] = &cert.heights;
-            check_refs(src, heights, n, &head, Wanted::Vouched)?;
-            let own = heights[n.0 as usize];
-            check_refs(src, heights, n, &head, Wanted::Below(own))?;
-            Ok(now)
-        }
+        Pass::Quick => check_quickly(src, walk.certificate, n, place, used),
+        Pass::Exact => check_exactly(src, walk.certificate, n, place, used),
     }
 }
 
@@ -190,22 +242,22 @@ fn object_of(fault: &Fault) -> u32
 }
 
 /// Checks all vouched objects, then the keys of the dictionaries among them, up to the first object that breaks a rule
-/// before those of keys. Returns how many bytes the objects take.
-fn check_objects<P: Offsets>(
+/// before those of keys. `found` has seen no keys yet. Returns how many bytes the objects take.
+fn check_found<P: Offsets>(
     alloc: Global,
     src: &mut P,
     cert: &Certificate,
+    found: &mut KeyFindings,
 ) -> Result<Extents, Refusal>
     requires { length cert.now.heights ≡ (frame_in (P.means src.old)).objects }
     ensures reads { OnlyReads (refused_read result) (P.means src.old) (P.means src.new) }
     ensures memory { IfErr result (MayRefuse cert.now.keys) }
-    ensures exact { HonestlyIn (P.means src.old) (λ f F.
+    ensures exact { HonestlyIn (P.means src.old) (λ f F. AreSeen f F cert.now 0 found.old →
         Judges (λ used. AreCheckedBelow f F cert.now exact F.objects used.octets) (IsVouchedFault f F cert.now) result) }
 {
     let objects = src.frame().objects;
     let heights: &[u32] = &cert.heights;
-    let mut found = key_findings(alloc, src, &cert.keys)?;
-    match check_in_passes(src, cert, &mut found) {
+    match check_in_passes(src, cert, found) {
         Ok(used) => {
             let seen = VouchedPrefix {
                 heights,
@@ -227,6 +279,22 @@ fn check_objects<P: Offsets>(
         }
         Err(ObjectFault::Read(fault)) => Err(Refusal::Read(fault)),
     }
+}
+
+/// Checks all vouched objects by all rules. Returns how many bytes they take.
+fn check_objects<P: Offsets>(
+    alloc: Global,
+    src: &mut P,
+    cert: &Certificate,
+) -> Result<Extents, Refusal>
+    requires { length cert.now.heights ≡ (frame_in (P.means src.old)).objects }
+    ensures reads { OnlyReads (refused_read result) (P.means src.old) (P.means src.new) }
+    ensures memory { IfErr result (MayRefuse cert.now.keys) }
+    ensures exact { HonestlyIn (P.means src.old) (λ f F.
+        Judges (λ used. AreCheckedBelow f F cert.now exact F.objects used.octets) (IsVouchedFault f F cert.now) result) }
+{
+    let mut found = key_findings(alloc, src, &cert.keys)?;
+    check_found(alloc, src, cert, &mut found)
 }
 
 /// Returns the frame of the file if the certificate is accepted.

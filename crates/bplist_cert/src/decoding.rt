@@ -1,7 +1,7 @@
 //! Reads a certificate from bytes, block by block.
 
 ghost use Rattle.std.specs.Prelude.{◌≡◌, ◌≢◌, ◌+◌, ◌*◌, ◌≤◌, Bool, length, take, IfOk, MatchOption, MatchResult, ◌↔◌};
-ghost use Rattle.std.specs.Prelude.{IsTrue, ⊤};
+ghost use Rattle.std.specs.Prelude.{IsTrue, ⊤, ◌++◌, drop, true, OnOk, []};
 ghost use Rattle.bplist_cert.specs.Prelude.{part, OnlyReads, Honestly, Gives, Never, read_failed, failed_to_read};
 ghost use Rattle.bplist_cert.specs.Prelude.{Lists, IsCertificate, AreWords, octets_of, magic, bytes_high_first, words};
 ghost use Rattle.bplist_cert.specs.Prelude.{Fits, IsOctetsFault, IsCertRefusal, CertMemory as Memory, Judges};
@@ -20,7 +20,7 @@ const BLOCK_BYTES: usize = 16_384;
 const BLOCK: usize = BLOCK_BYTES / 4;
 
 /// The version of a certificate.
-#[derive(Clone, Copy, Debug, PartialEq, Eq, Drop)]
+#[derive(Clone, Copy, Drop)]
 pub(crate) enum Version {
     /// Version 1: heights only.
     Plain,
@@ -29,7 +29,7 @@ pub(crate) enum Version {
 }
 
 /// The first 16 bytes of a certificate.
-#[derive(Clone, Copy, Debug, Drop)]
+#[derive(Clone, Copy, Drop)]
 pub(crate) struct Header {
     /// From the magic, bytes 0 to 7.
     pub version: Version,
@@ -60,15 +60,10 @@ impl Certificate {
                 keys: None,
             }),
             Version::Keyed => {
-                let len = src.len();
-                let starts_at = 16 + 4 * header.count as u64;
-                let positions_at = starts_at + 4 * header.count as u64;
-                let positions = ((len - positions_at) / 4) as usize;
-                let starts = read_words(alloc, src, starts_at, header.count)?;
-                let positions = read_words(alloc, src, positions_at, positions)?;
+                let keys = read_key_lists(alloc, src, header.count)?;
                 Ok(Certificate {
                     heights,
-                    keys: Some(KeyLists { starts, positions }),
+                    keys: Some(keys),
                 })
             }
         }
@@ -153,6 +148,24 @@ fn fits(version: Version, count: u64, len: u64) -> bool
     }
 }
 
+/// Reads the key lists of a certificate with `count` heights: as many starts, then positions up to its last byte.
+fn read_key_lists<S: Source>(alloc: Global, src: &mut S, count: usize) -> Result<KeyLists, Failure>
+    requires { Fits true count (length (S.means src.old).octets) }
+    ensures reads { OnlyReads (failed_to_read result) (S.means src.old) (S.means src.new) }
+    ensures count { IfOk result (λ keys. length keys.starts ≡ count) }
+    ensures words { IfOk result (λ keys. AreWords keys.starts × AreWords keys.positions) }
+    ensures spelled { Honestly (S.means src.old) (λ f. IfOk result (λ keys.
+        drop (16 + 4 * count) f ≡ words keys.starts ++ words keys.positions)) }
+{
+    let len = src.len();
+    let starts_at = 16 + 4 * count as u64;
+    let positions_at = starts_at + 4 * count as u64;
+    let positions = ((len - positions_at) / 4) as usize;
+    let starts = read_words(alloc, src, starts_at, count)?;
+    let positions = read_words(alloc, src, positions_at, positions)?;
+    Ok(KeyLists { starts, positions })
+}
+
 /// Reads `count` numbers of 4 bytes each, from `place` on.
 fn read_words<S: Source>(
     alloc: Global,
@@ -166,8 +179,26 @@ fn read_words<S: Source>(
     ensures words { IfOk result (λ numbers. AreWords numbers.items) }
     ensures spelled { Honestly (S.means src.old) (λ f. IfOk result (λ numbers. part f place (4 * count) ≡ words numbers.items)) }
 {
-    let _len = src.len();
     let mut numbers = Vec::with_capacity(alloc, count)?;
+    fill_words(src, place, count, &mut numbers)?;
+    are_words(&numbers);
+    Ok(numbers)
+}
+
+/// Appends `count` numbers of 4 bytes each, from `place` on, to an empty vector.
+fn fill_words<S: Source>(
+    src: &mut S,
+    place: u64,
+    count: usize,
+    numbers: &mut Vec<u32>,
+) -> Result<(), Failure>
+    requires within { place + 4 * count ≤ length (S.means src.old).octets }
+    requires empty { numbers.old.items ≡ [] }
+    ensures reads { OnlyReads (failed_to_read result) (S.means src.old) (S.means src.new) }
+    ensures count { OnOk result (length numbers.new.items ≡ count) }
+    ensures spelled { Honestly (S.means src.old) (λ f. OnOk result (part f place (4 * count) ≡ words numbers.new.items)) }
+{
+    let _len = src.len();
     let mut octets = [0u8; BLOCK_BYTES];
     let mut block = [0u32; BLOCK];
     while numbers.len() < count {
@@ -179,8 +210,7 @@ fn read_words<S: Source>(
         spell_words(read, spelled);
         numbers.extend_from_slice(spelled)?;
     }
-    are_words(&numbers);
-    Ok(numbers)
+    Ok(())
 }
 
 /// Carries to the contract that these numbers have 32 bits each.

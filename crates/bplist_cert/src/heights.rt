@@ -3,6 +3,7 @@
 ghost use Rattle.std.specs.Prelude.{◌≡◌, ◌↔◌, ℕ, ◌+◌, ◌≤◌, ◌<◌, length, slice_index, IsTrue, MatchOption};
 ghost use Rattle.bplist_cert.specs.Prelude.{OnlyReads, frame_in, HonestlyIn, IsSafeHead, ref_count, Gives, read_failed};
 ghost use Rattle.bplist_cert.specs.Prelude.{Meets, AreMet, AreMetBy, IsFirstUnmetBy, IsUnmetFault, rule_of};
+ghost use Rattle.bplist_cert.specs.Prelude.{AreLower, IsHeightFault};
 
 use bplist_objects::{
     Fault, Framed, Head, ObjectFault, ObjectNo, Rule, read_refs_in, ref_place, refs_of,
@@ -12,7 +13,7 @@ use bplist_objects::{
 const BLOCK: usize = 32;
 
 /// What a reference's height must be.
-#[derive(Clone, Copy, Debug, PartialEq, Eq, Drop)]
+#[derive(Clone, Copy, Drop)]
 pub(crate) enum Wanted {
     /// At least 1 (rule 28).
     Vouched,
@@ -111,4 +112,24 @@ pub(crate) fn check_refs<P: Framed>(
         done += now;
     }
     Ok(())
+}
+
+/// Checks that all references of object `n` have heights by rule 28, then by rule 29. The fault is the first.
+#[inline(always)]
+pub(crate) fn check_heights<P: Framed>(
+    src: &mut P,
+    heights: &[u32],
+    n: ObjectNo,
+    head: &Head,
+) -> Result<(), ObjectFault>
+    requires all { length heights.now ≡ (frame_in (P.means src.old)).objects }
+    requires within { n.0 < (frame_in (P.means src.old)).objects }
+    requires head { IsSafeHead (frame_in (P.means src.old)) head.now }
+    ensures reads { OnlyReads (read_failed result) (P.means src.old) (P.means src.new) }
+    ensures exact { HonestlyIn (P.means src.old) (λ f F. Gives
+        (λ _. AreLower f F heights.now n.0 head.now) (IsHeightFault f F heights.now n.0 head.now) result) }
+{
+    check_refs(src, heights, n, head, Wanted::Vouched)?;
+    let own = heights[n.0 as usize];
+    check_refs(src, heights, n, head, Wanted::Below(own))
 }

@@ -37,7 +37,7 @@ const BLOCK: usize = 256;
 const OBJECTS_FOR_A_KEY: u32 = 16;
 
 /// A dictionary: its object and its head.
-#[derive(Clone, Copy, Debug, Drop)]
+#[derive(Clone, Copy, Drop)]
 pub(crate) struct Dictionary {
     pub n: ObjectNo,
     pub head: Head,

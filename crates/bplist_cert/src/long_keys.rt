@@ -26,14 +26,14 @@ const MOST: usize = ENTRIES - 1;
 const SHORT: u64 = 256;
 
 /// A text, and its head.
-#[derive(Clone, Copy, Debug)]
+#[derive(Clone, Copy)]
 pub(crate) struct TextKey {
     pub object: u32,
     pub head: Head,
 }
 
 /// Where a text belongs among those that have ranks: it is one of the texts of a rank, or it comes right before them.
-#[derive(Clone, Copy, Debug)]
+#[derive(Clone, Copy)]
 pub(crate) enum Place {
     Among(u16),
     Before(u16),

@@ -46,7 +46,7 @@ impl Form {
 }
 
 /// How many nodes a value's tree has, and how long its text is.
-#[derive(Clone, Copy, Debug, PartialEq, Eq)]
+#[derive(Clone, Copy, Debug)]
 pub(crate) struct Size {
     /// The number of nodes, or 18446744073709551615 if it is greater.
     pub(crate) nodes: u64,

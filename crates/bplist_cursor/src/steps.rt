@@ -25,14 +25,14 @@ const ZERO: u16 = 0x30;
 const NINE: u16 = 0x39;
 
 /// The object that a step leads to, or why it leads to none.
-#[derive(Clone, Copy, Debug, PartialEq, Eq, Drop)]
+#[derive(Clone, Copy, Drop)]
 pub(crate) enum Step {
     On(ObjectNo),
     Not(Why),
 }
 
 /// The index of the reference that a step takes, or why it takes none.
-#[derive(Clone, Copy, Debug, PartialEq, Eq, Drop)]
+#[derive(Clone, Copy, Drop)]
 enum RefIndex {
     Of(u64),
     Nowhere(Why),

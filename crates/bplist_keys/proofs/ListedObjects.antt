@@ -1,7 +1,7 @@
 -- Which objects have a weight, and which of them are listed, while they are weighed one by one.
-use Rattle.std.proofs.Common.{◌≡◌, ◌≢◌, ℕ, ◌+◌, ◌<◌, ◌≤◌, List, [], ◌∷◌, ◌++◌, length, slice_index, set, Contains, refl, sym, ◌∙◌, subst, inl, inr, arith}
+use Rattle.std.proofs.Common.{◌≡◌, ◌≢◌, ℕ, ◌+◌, ◌<◌, ◌≤◌, List, [], ◌∷◌, ◌++◌, length, slice_index, set, All, Contains, refl, sym, ◌∙◌, subst, inl, inr, arith}
 use Rattle.std.proofs.lemmas.Bool.{cases_eq, cases_lt}
-use Rattle.std.proofs.lemmas.List.{get_or-set_same, get_or-set_other, get_or_past, get_or_append_left, get_or_push, length_push}
+use Rattle.std.proofs.lemmas.List.{get_or-set_same, get_or-set_other, get_or_past, get_or_default, get_or_append_left, get_or_push, length_push}
 use Rattle.bplist_objects.specs.declared.frame.Frame.{Frame}
 use Rattle.bplist_keys.specs.declared.weights.Weight.{Weight}
 use Rattle.bplist_keys.specs.Weights.{Weighs, AreWeighed}
@@ -101,6 +101,21 @@ module _ (n : ℕ) (named weights texts : List ℕ) (l : AreListed n named weigh
           subst (λ v. AreListed (n + 1) named (set weights n v) after) (sym zero) (subst (AreListed (n + 1) named (set weights n 0)) (sym (other zero)) listed_out)
     ]
 
+-- a number above 0 is inside its list
+inside_some : (n : ℕ) (xs : List ℕ) (m : ℕ) → length xs ≡ n → 0 < slice_index xs m → m < n
+inside_some n xs m e some = elim (cases_lt m n) [
+  | inl low ↦ low
+  | inr high ↦ absurd (let past = get_or_past xs m 0 (omega (arith, e, high)) in omega (arith, past, some))
+]
+
+-- once all objects are weighed, each with a weight is listed
+pub listed_all : (n : ℕ) (named weights texts : List ℕ) → length weights ≡ n → AreListed n named weights texts → (m : ℕ) → 0 < slice_index weights m → Contains texts m
+listed_all n named weights texts all l m some = l.listed m (inside_some n weights m all some) some
+
+-- and each that is listed has a weight
+pub listed_weighed : (n : ℕ) (named weights texts : List ℕ) → AreListed n named weights texts → All (λ m. 0 < slice_index weights m) texts
+listed_weighed n named weights texts l = λ k d low. rw (get_or_default texts k d 0 low) ((l.weighed k low).1)
+
 module _ (f : List ℕ) (F : Frame) (by : Weight) (named : List ℕ) where
   -- the named objects below n have their weights
   abbrev pub WeighBelow : ℕ → List ℕ → Type 0
@@ -122,13 +137,7 @@ module _ (f : List ℕ) (F : Frame) (by : Weight) (named : List ℕ) where
   all_weighed n weights texts many all l below = record {
     only = λ m some.
         let some' = l.named_too m some in
-        let w = (below m (within weights m all some) some').0 some in
+        let w = (below m (inside_some n weights m all some) some').0 some in
         (some', w.0, w.1);
-    all = λ m some shape. (below m (within named m many some) some).1 shape;
+    all = λ m some shape. (below m (inside_some n named m many some) some).1 shape;
   }
-    where
-      within : (xs : List ℕ) (m : ℕ) → length xs ≡ n → 0 < slice_index xs m → m < n
-      within xs m e some = elim (cases_lt m n) [
-        | inl low ↦ low
-        | inr high ↦ absurd (let past = get_or_past xs m 0 (omega (arith, e, high)) in omega (arith, past, some))
-      ]

@@ -18,7 +18,7 @@ use std::cmp::Ordering;
 const SLOTS: usize = 127;
 
 /// A text shares its first `units` units with the text `other`.
-#[derive(Clone, Copy, Debug)]
+#[derive(Clone, Copy)]
 pub(crate) struct Note {
     pub other: u32,
     pub units: u32,
@@ -109,7 +109,7 @@ impl ComparisonCache {
 }
 
 /// The `units` units from place `from` on are the same as those `apart` bytes further on.
-#[derive(Clone, Copy, Debug)]
+#[derive(Clone, Copy)]
 pub struct Run {
     /// The size of a unit, in bytes.
     pub size: u64,

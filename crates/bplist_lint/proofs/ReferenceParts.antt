@@ -14,6 +14,12 @@ module _ (references block : List ℕ) (i count : ℕ) (part : IsPart references
   part_at : (k : ℕ) → k < count → slice_index (take count block) k ≡ slice_index references (i + k)
   part_at k low = rw (get_or-take count block k 0 low) (part.1 k low)
 
+  -- an item of the part is the reference at its place
+  pub item_at : (k m : ℕ) → k < length (take count block) → m ≡ slice_index (take count block) k → (i + k < length references) × (m ≡ slice_index references (i + k))
+  item_at k m low is =
+      let under : k < count = omega (arith, low, long) in
+      (omega (arith, part.0, under), is ∙ part_at k under)
+
   -- what is in the part is a reference
   pub contains_part : (m : ℕ) → Contains (take count block) m → Contains references m
   contains_part m c =

@@ -1,5 +1,5 @@
 -- Steps of the walk to the circle.
-use Rattle.std.proofs.Common.{◌≡◌, ◌≢◌, ℕ, suc, ◌+◌, ◌<◌, inl, inr, Bool, true, false, List, [], ◌∷◌, ◌++◌, length, get_or, set, drop, map, replicate, refl, sym, ◌∙◌, ap, arith}
+use Rattle.std.proofs.Common.{◌≡◌, ◌≢◌, ℕ, suc, ◌+◌, ◌<◌, inl, inr, Bool, true, false, not, List, [], ◌∷◌, ◌++◌, length, get_or, set, drop, map, replicate, count_by, refl, sym, ◌∙◌, ap, arith}
 use Rattle.std.proofs.lemmas.Bool.{false≢true}
 use Rattle.std.proofs.lemmas.List.{get_or-set_same, length-set, get_or_append_left, get_or_push, length_push, length-replicate, get_or_default, get_or-drop, length-drop}
 use Rattle.std.proofs.lemmas.List.Elements.{Contains-append_left, Contains-push}
@@ -9,7 +9,7 @@ use Rattle.bplist_lint.specs.Graph.Ends.{ends}
 use Rattle.bplist_lint.specs.Graph.Least.{above}
 use Rattle.bplist_lint.specs.Trail.{number, object, AllHave, IsFirstIndex, IsTrail, Leading}
 use Rattle.bplist_lint.proofs.FirstWithout.{first_among, first_off, first_too}
-use Rattle.bplist_lint.proofs.ListWrites.{push_cases, at_set, seen-set, unwritten}
+use Rattle.bplist_lint.proofs.ListWrites.{push_cases, at_set, seen-set, count-set, unwritten}
 
 pub numbers_named : (xs : List ℕ) → map number (map object xs) ≡ xs
 numbers_named [] = refl
@@ -40,6 +40,10 @@ trail_none size = record {
   marked = λ k h. absurd (omega arith);
   differ = λ j k less h. absurd (omega arith);
 }
+
+-- fewer objects are left to meet
+pub fewer_left : (met : List Bool) (x : ℕ) → x < length met → get_or met x false ≡ false → count_by not (set met x true) < count_by not met
+fewer_left met x within new = let n = rw new at (count-set not met x true false within) in omega (arith, n)
 
 -- one more object is met
 pub trail_more : (size : ℕ) (met : List Bool) (trail : List ℕ) (x : ℕ) → IsTrail size met trail → x < size → get_or met x false ≡ false → IsTrail size (set met x true) (trail ++ x ∷ [])

@@ -16,7 +16,7 @@ use std::alloc::{AllocError, Global};
 const FEW: usize = 4;
 
 /// What is known about an object.
-#[derive(Clone, Copy, Debug)]
+#[derive(Clone, Copy)]
 enum State {
     /// Nothing yet.
     New,
@@ -29,7 +29,7 @@ enum State {
 }
 
 /// What a scan of an object's references finds.
-#[derive(Clone, Copy, Debug)]
+#[derive(Clone, Copy)]
 enum ScanResult {
     /// A reference to an object about which nothing is known yet: the index of the reference, and that object.
     New(u64, u32),

@@ -20,7 +20,7 @@ use bplist_objects::{Failure, Framed, Head, Kind, ObjectNo, Offsets, RefBlocks, 
 use std::alloc::{AllocError, Global};
 
 /// A key of a dictionary: the rank of its text, or 0 if it has none, and its number among the keys in written order.
-#[derive(Clone, Copy, Debug, PartialEq, Eq, PartialOrd, Ord)]
+#[derive(Clone, Copy, PartialEq, Eq, PartialOrd, Ord)]
 pub(crate) struct RankedKey {
     pub rank: u32,
     pub position: u32,

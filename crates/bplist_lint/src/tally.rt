@@ -10,7 +10,7 @@ use bplist_objects::{
 };
 
 /// Sums over the reached objects seen so far.
-#[derive(Clone, Copy, Debug, PartialEq, Eq, Drop)]
+#[derive(Clone, Copy, Drop)]
 pub struct Tally {
     /// The number of objects.
     pub reached: u64,

@@ -18,7 +18,7 @@ use bplist_octets::ReadFault;
 use std::alloc::{AllocError, AllocFailed, Global};
 
 /// Why the walk ended before it had visited all reached objects.
-#[derive(Clone, Copy, Debug, PartialEq, Eq, Drop)]
+#[derive(Clone, Copy, Drop)]
 pub enum Stop {
     /// An object breaks a rule, or there is no room for it.
     Trouble,

@@ -1,6 +1,6 @@
 //! The frame of a file (the five numbers of its trailer), by rules 1 to 13.
 
-ghost use Rattle.std.specs.Prelude.{◌≡◌, ℕ, ◌^◌, ◌≤◌, ◌<◌, List, length, IfOk, MatchResult};
+ghost use Rattle.std.specs.Prelude.{◌≡◌, ℕ, ◌^◌, ◌≤◌, ◌<◌, List, length, IfOk, MatchResult, is_err};
 ghost use Rattle.bplist_objects.specs.Prelude.{OnlyReads, Honestly, trailer as spelled, Keeps, IsFrame, number_rules};
 ghost use Rattle.bplist_objects.specs.Prelude.{trailer_rules, KeepsAll, IsFirstFault, Breaks, IsFrameFault};
 ghost use Rattle.bplist_objects.specs.Prelude.{IsSafeFrame, frame_of_trailer, Magic, Frame as frame, Gives, Never};
@@ -9,7 +9,7 @@ ghost use Rattle.bplist_objects.specs.Prelude.{read_failed};
 use crate::fault::{Fault, ObjectFault};
 use crate::offsets::{first_high_entry, high_entry};
 use crate::rule::Rule;
-use bplist_octets::{Source, sized};
+use bplist_octets::{ReadFault, Source, sized};
 
 /// The number of an object, from 0: the index of its entry in the offset table.
 #[derive(Clone, Copy, Debug, PartialEq, Eq, Drop)]
@@ -31,7 +31,7 @@ pub struct Frame {
 }
 
 /// The five numbers of a trailer, before any check.
-#[derive(Clone, Copy, Debug, PartialEq, Eq, Drop)]
+#[derive(Clone, Copy, Drop)]
 struct Trailer {
     offset_size: u8,
     ref_size: u8,
@@ -124,6 +124,25 @@ fn frame_by(trailer: &Trailer, len: u64) -> Result<Frame, Fault>
     })
 }
 
+/// Returns the numbers of the trailer of a source of `len` bytes.
+#[inline(always)]
+fn read_trailer<S: Source>(src: &mut S, len: u64) -> Result<Trailer, ReadFault>
+    requires all { len ≡ length (S.means src.old).octets }
+    requires room { 32 ≤ len }
+    ensures reads { OnlyReads (is_err result) (S.means src.old) (S.means src.new) }
+    ensures numbers { IfOk result (λ trailer. Honestly (S.means src.old) (λ f. spelled f ≡ frame_of_trailer trailer)) }
+{
+    let mut octets = [0u8; 32];
+    src.read_at(len - 32, &mut octets)?;
+    Ok(Trailer {
+        offset_size: octets[6],
+        ref_size: octets[7],
+        objects: sized(&octets[8..16]),
+        top: sized(&octets[16..24]),
+        table: sized(&octets[24..32]),
+    })
+}
+
 /// Returns the frame of the file, or the fault of the first of rules 1 to 12 that is broken, in their order. The fault
 /// names no object, and its place is from the start of the file. If a read fails, returns `Read`.
 ///
@@ -144,15 +163,7 @@ pub fn trailer_of<S: Source>(src: &mut S) -> Result<Frame, ObjectFault>
         return Err(ObjectFault::Fault(fault_at(Rule::TooShort, len)));
     }
     check_header(src)?;
-    let mut octets = [0u8; 32];
-    src.read_at(len - 32, &mut octets)?;
-    let trailer = Trailer {
-        offset_size: octets[6],
-        ref_size: octets[7],
-        objects: sized(&octets[8..16]),
-        top: sized(&octets[16..24]),
-        table: sized(&octets[24..32]),
-    };
+    let trailer = read_trailer(src, len)?;
     Ok(frame_by(&trailer, len)?)
 }
 

@@ -72,6 +72,37 @@ pub(crate) fn ends_before_table(table: u64, from: u64, size: u128) -> bool
     size <= (table - from) as u128
 }
 
+/// The same as `long_count`, for a count of any size. The marker of the count must be before the table.
+#[inline(always)]
+fn count_by_form<S: Source>(
+    src: &mut S,
+    table: u64,
+    place: u64,
+    n: ObjectNo,
+) -> Result<(u64, u64), ObjectFault>
+    requires inside { place + 2 ≤ table }
+    requires within { table ≤ length (S.means src.old).octets }
+    ensures reads { OnlyReads (read_failed result) (S.means src.old) (S.means src.new) }
+    ensures exact { Honestly (S.means src.old) (λ f. Gives
+        (λ found. HasLongCount f place found.0 found.1) (IsLongCountFault f table place n.0) result) }
+    ensures safe { IfOk result (λ found. (place < found.1) × (found.1 ≤ table)) }
+{
+    let form = octet_in(src, place + 1)?;
+    if form < 0x10 || form > 0x14 {
+        return Err(broken(Rule::Count, n, place + 1));
+    }
+    let size = power_of_2(form - 0x10);
+    if !ends_before_table(table, place + 2, size as u128) {
+        return Err(broken(Rule::Extent, n, place));
+    }
+    let count = wide_in(src, place + 2, size)?;
+    let body = place + 2 + size as u64;
+    if !ends_before_table(table, body, count) {
+        return Err(broken(Rule::Extent, n, place));
+    }
+    Ok((count as u64, body))
+}
+
 /// Returns the count that follows the marker at `place`, and the place after it, or a fault of rule 16 or 17. Each item
 /// of the count takes at least one byte, so a count that is greater than the number of bytes up to the table breaks
 /// rule 17.
@@ -100,20 +131,7 @@ pub(crate) fn long_count<S: Source>(
             return Ok((octets[1] as u64, place + 3));
         }
     }
-    let form = octet_in(src, place + 1)?;
-    if form < 0x10 || form > 0x14 {
-        return Err(broken(Rule::Count, n, place + 1));
-    }
-    let size = power_of_2(form - 0x10);
-    if !ends_before_table(table, place + 2, size as u128) {
-        return Err(broken(Rule::Extent, n, place));
-    }
-    let count = wide_in(src, place + 2, size)?;
-    let body = place + 2 + size as u64;
-    if !ends_before_table(table, body, count) {
-        return Err(broken(Rule::Extent, n, place));
-    }
-    Ok((count as u64, body))
+    count_by_form(src, table, place, n)
 }
 
 /// Returns the marker of object `n` at `place`, or its fault by rule 13 or 14.

@@ -182,6 +182,30 @@ fn search_part<S: Source>(
     }
 }
 
+/// The same as `first_high_in`, in one read through a buffer of `ROOM` bytes.
+#[inline(always)]
+fn first_high_at_once<const ROOM: usize, S: Source>(
+    src: &mut S,
+    place: u64,
+    count: u64,
+) -> Result<Option<u64>, ReadFault>
+    requires fits { ROOM ≤ 4096 }
+    requires short { count ≤ ROOM }
+    requires within { place + count ≤ length (S.means src.old).octets }
+    ensures reads { OnlyReads (is_err result) (S.means src.old) (S.means src.new) }
+    ensures found { IfOk result (λ found. Honestly (S.means src.old)
+        (λ f. MatchOption found (AreBelow f place 1 count 128) (IsFirstNotBelow f place 1 count 128))) }
+    ensures inside { IfOk result (λ found. IfSome found (λ i. i < count)) }
+{
+    let mut buffer = [0u8; ROOM];
+    src.read_at(place, &mut buffer[..count as usize])?;
+    // The rest of the buffer is 0, so the whole buffer can be searched.
+    match first_high(&buffer) {
+        None => Ok(None),
+        Some(_) => search_part(src, place, count, 0, &mut buffer[..count as usize]),
+    }
+}
+
 /// The same as `first_high_in`, in parts of `PART` bytes.
 #[inline(always)]
 fn first_high_by_parts<const PART: usize, S: Source>(
@@ -238,13 +262,7 @@ pub fn first_high_in<S: Source>(
     ensures inside { IfOk result (λ found. IfSome found (λ i. i < count)) }
 {
     if count <= SHORT_TEXT as u64 {
-        let mut buffer = [0u8; SHORT_TEXT];
-        src.read_at(place, &mut buffer[..count as usize])?;
-        // The rest of the buffer is 0, so the whole buffer can be searched.
-        return match first_high(&buffer) {
-            None => Ok(None),
-            Some(_) => search_part(src, place, count, 0, &mut buffer[..count as usize]),
-        };
+        return first_high_at_once::<SHORT_TEXT, S>(src, place, count);
     }
     if count <= LONG_TEXT as u64 {
         return first_high_by_parts::<TEXT_PART, S>(src, place, count);

@@ -50,7 +50,7 @@ fn copy_part(pane: &Pane, from: usize, into: &mut [u8])
 }
 
 /// The bytes that a pane is to read: `room` of them from place `start` on.
-#[derive(Clone, Copy, Debug)]
+#[derive(Clone, Copy)]
 struct Span {
     start: u64,
     room: usize,

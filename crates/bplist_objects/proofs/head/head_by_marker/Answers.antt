@@ -1,13 +1,13 @@
-use Rattle.std.proofs.Common.{◌+◌, ◌*◌, ◌<◌, ap, refl, sym, arith, subst, Some}
+use Rattle.std.proofs.Common.{◌+◌, ◌*◌, ◌<◌, ◌≤◌, ◌∙◌, ap, refl, sym, arith, subst, Some, inl, inr, slice_index}
 use Rattle.std.proofs.Math.Nat.{lt_of_not-le}
 use Rattle.std.proofs.lemmas.Bool.{iff_false}
 use Rattle.std.proofs.lemmas.Result.{err_from_is_err_and}
 use Rattle.bplist_objects.specs.declared.rule.Rule.TheVariants.{Extent}
 use Rattle.bplist_objects.specs.declared.head.Head.{Head}
-use Rattle.bplist_objects.specs.Announced.{item_size}
+use Rattle.bplist_objects.specs.Announced.{IsMarker, item_size}
 use Rattle.bplist_objects.specs.Markers.{markers_of, IsLongOf, AnnouncesAs, Announces}
 use Rattle.bplist_objects.proofs.FrameTies.{numbered}
-use Rattle.bplist_objects.proofs.HeadLaws.{head_announced}
+use Rattle.bplist_objects.proofs.HeadLaws.{head_announced, may_count}
 use Rattle.bplist_objects.proofs.ShapeLaws.{shape_count, announced_behind, shape_kept, shape_extent}
 use Rattle.bplist_objects.proofs.head.head_by_marker.Goals as goal
 
@@ -63,3 +63,16 @@ returns-in_default-short_count-clause-rules g c = λ honest framed at marked.
     let head : Head = record { kind = c.in-Some.kind; count = c.in_ok-count.count; body = c.in_ok-count.body; «end» = c.in_ok-count.body + c.in_ok-count.count * c.item_size-unit.result } in
     let headed = head_announced f c.args.frame.now c.args.n.0 head (omega (arith, c.in_ok-count.ensures.safe.1)) (subst (λ x. AnnouncesAs f x (markers_of c.in-Some.kind) c.in_ok-count.count c.in_ok-count.body) at has, same) in
     (headed, shape_kept f c.args.frame.now c.args.n.0 (omega arith) head headed (omega (arith, c.in_ok-count.ensures.safe.1)))
+
+pub returns-in_default-clause-rules : goal.returns-in_default-clause-rules
+returns-in_default-clause-rules g c = λ honest framed at marked.
+    let f = (g.S.Source.means c.args.src.now).octets in
+    let low = subst (λ place. 8 ≤ place) at c.requires.low in
+    let found = ap (λ i. slice_index f i) (sym at) ∙ marked in
+    rw c.broken.ensures (inr (low, inl (refl, (refl, ((λ marker. c.in_default.ensures (subst IsMarker found marker)), at)))))
+
+pub returns-clause-safe : goal.returns-clause-safe
+returns-clause-safe g c =
+    let count = c.in-Some-short_count.count in
+    let same = ap (λ x. c.args.place + 1 + count * x) c.item_size.ensures in
+    record { may = may_count c.in-Some.kind count c.in-Some-short_count.ensures.may; body = omega (arith, same); table = omega arith }

@@ -1,23 +1,11 @@
-use Rattle.std.proofs.Common.{◌+◌, ◌*◌, ◌++◌, ◌∙◌, List, ℕ, None, Some, sym, ap, arith}
+use Rattle.std.proofs.Common.{◌+◌, ◌*◌, ◌++◌, ◌∙◌, None, Some, sym, ap, arith}
 use Rattle.std.proofs.lemmas.List.{drop_all}
 use Rattle.std.specs.Int.{bytes_high_first}
 use Rattle.std.proofs.lemmas.Result.{err_from_is_err_and}
 use Rattle.bplist_cert.specs.Encoding.{magic}
 use Rattle.bplist_cert.specs.Versions.{is_keyed}
-use Rattle.bplist_cert.proofs.CertificateBytes.{header_refused, keyed_words, octets_once, whole}
+use Rattle.bplist_cert.proofs.CertificateBytes.{header_refused, octets_once, whole}
 use Rattle.bplist_cert.proofs.certificate.Certificate.from_source.Goals as goal
-
-pub overflow_mul-starts_at : goal.overflow_mul-starts_at
-overflow_mul-starts_at g c =
-    let fits = rw c.in-Keyed.is at c.in_ok-header.ensures.fits in
-    let len = rw (c.in_ok-heights.ensures.reads ∙ c.in_ok-header.ensures.reads) at c.len-len.ensures in
-    omega (arith, fits.0, len)
-
-pub overflow_add-starts_at : goal.overflow_add-starts_at
-overflow_add-starts_at g c =
-    let fits = rw c.in-Keyed.is at c.in_ok-header.ensures.fits in
-    let len = rw (c.in_ok-heights.ensures.reads ∙ c.in_ok-header.ensures.reads) at c.len-len.ensures in
-    omega (arith, fits.0, len)
 
 pub returns-in_err-header-clause-exact : goal.returns-in_err-header-clause-exact
 returns-in_err-header-clause-exact g c = λ honest certificate is e.
@@ -40,26 +28,19 @@ returns-in-Plain-clause-exact g c = λ honest certificate is e.
     let y = returns-in-Plain-clause-yes g c honest in
     octets_once _ certificate y.0 is (sym y.1 ∙ e)
 
-pub returns-in_ok-positions-in-Keyed-clause-yes : goal.returns-in_ok-positions-in-Keyed-clause-yes
-returns-in_ok-positions-in-Keyed-clause-yes g c = λ honest.
+pub returns-in_ok-keys-in-Keyed-clause-yes : goal.returns-in_ok-keys-in-Keyed-clause-yes
+returns-in_ok-keys-in-Keyed-clause-yes g c = λ honest.
     let f = (g.S.Source.means c.args.src.now).octets in
     let count = c.in_ok-header.header.count in
-    let starts : List ℕ = c.in_ok-starts-in-Keyed.starts.items in
-    let positions : List ℕ = c.in_ok-positions-in-Keyed.positions.items in
     let begun = c.in_ok-header.ensures.reads in
-    let read = c.in_ok-heights.ensures.reads ∙ begun in
     let heights = (rw begun at c.in_ok-heights.ensures.spelled) honest in
-    let first = (rw read at c.in_ok-starts-in-Keyed.ensures.spelled) honest in
-    let behind = (rw (c.in_ok-starts-in-Keyed.ensures.reads ∙ read) at c.in_ok-positions-in-Keyed.ensures.spelled) honest in
-    let len = rw read at c.len-len.ensures in
-    let fits = rw c.in-Keyed.is at c.in_ok-header.ensures.fits in
-    whole f c.in_ok-heights.heights.items (Some (record { starts = starts; positions = positions })) count
+    let behind = (rw (c.in_ok-heights.ensures.reads ∙ begun) at c.in_ok-keys-in-Keyed.ensures.spelled) honest in
+    whole f c.in_ok-heights.heights.items (Some c.in_ok-keys-in-Keyed.keys) count
     (c.in_ok-header.ensures.exact honest ∙ ap (λ version. magic (is_keyed version) ++ bytes_high_first 8 count) c.in-Keyed.is)
     c.in_ok-heights.ensures.count (omega (arith, c.in_ok-heights.ensures.count)) c.in_ok-heights.ensures.words
-    (c.in_ok-starts-in-Keyed.ensures.words, c.in_ok-positions-in-Keyed.ensures.words) c.in_ok-starts-in-Keyed.ensures.count heights
-    (keyed_words f starts positions (16 + 4 * count) count (omega (arith, fits.0)) (omega (arith, fits.0, fits.1)) first (rw len at behind))
+    c.in_ok-keys-in-Keyed.ensures.words c.in_ok-keys-in-Keyed.ensures.count heights behind
 
-pub returns-in_ok-positions-in-Keyed-clause-exact : goal.returns-in_ok-positions-in-Keyed-clause-exact
-returns-in_ok-positions-in-Keyed-clause-exact g c = λ honest certificate is e.
-    let y = returns-in_ok-positions-in-Keyed-clause-yes g c honest in
+pub returns-in_ok-keys-in-Keyed-clause-exact : goal.returns-in_ok-keys-in-Keyed-clause-exact
+returns-in_ok-keys-in-Keyed-clause-exact g c = λ honest certificate is e.
+    let y = returns-in_ok-keys-in-Keyed-clause-yes g c honest in
     octets_once _ certificate y.0 is (sym y.1 ∙ e)

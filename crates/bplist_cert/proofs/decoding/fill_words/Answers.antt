@@ -2,7 +2,7 @@ use Rattle.std.proofs.Common.{◌≡◌, ◌∙◌, ◌*◌, ◌+◌, ap₂, sym
 use Rattle.std.proofs.lemmas.List.{length-take-le}
 use Rattle.bplist_octets.specs.Octets.{part}
 use Rattle.bplist_cert.proofs.CertificateBytes.{words_grown}
-use Rattle.bplist_cert.proofs.decoding.read_words.Goals as goal
+use Rattle.bplist_cert.proofs.decoding.fill_words.Goals as goal
 
 pub loop-octets-preserved : goal.loop-octets-preserved
 loop-octets-preserved g c =

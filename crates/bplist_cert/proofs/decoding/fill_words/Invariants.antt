@@ -2,7 +2,7 @@ use Rattle.std.proofs.Common.{◌≡◌, ◌*◌, ◌≤◌, ◌-◌, vec_len, l
 use Rattle.bplist_octets.specs.Octets.{part}
 use Rattle.bplist_octets.specs.Meaning.{Honestly}
 use Rattle.bplist_cert.specs.Encoding.{words}
-use Rattle.bplist_cert.proofs.decoding.read_words.Given as goal
+use Rattle.bplist_cert.proofs.decoding.fill_words.Given as goal
 
 -- the source is as it was, and the numbers so far are those that its bytes spell
 abbrev pub invariant-loop-octets : goal.invariant-loop-octets
