@@ -4,7 +4,7 @@
 Proves and builds a crate and the crates below it, if they are older than their sources or than a crate below. A library becomes
 out/rlib/NAME.rlib in the folder of its crate, the C library out/libNAME.a, a program out/NAME.
 
-As in `rt ci`, a library hands on its statements alone, without the proofs. Unlike `rt ci`, the script shares nearly all processors
+As in `rt ci`, a library hands on its statements alone, without the proofs. Unlike `rt ci`, the script shares the processors
 out to the crates that are next, builds a program once, and works in the folders of the crates. It runs no test, and its proofs do
 not count for the gate. It prints a line for each crate, or what the prover says if it refuses one; then the exit status is 1.
 """
@@ -132,14 +132,13 @@ def build(crate, jobs, kit):
 
 
 def jobs_of_all():
-    """How many jobs run at once: one for each processor but one, if there are three or more."""
-    processors = len(os.sched_getaffinity(0))
-    return max(min(processors, 2), processors - 1)
+    """How many jobs run at once."""
+    return len(os.sched_getaffinity(0))
 
 
 def jobs_of_crate():
     """The most jobs of one crate, half of the processors: each job more saves less time, and costs processor time."""
-    return max(2, len(os.sched_getaffinity(0)) // 2)
+    return max(2, jobs_of_all() // 2)
 
 
 def shares(crates, idle):

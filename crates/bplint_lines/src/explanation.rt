@@ -5,6 +5,7 @@
 ghost use Rattle.std.specs.Prelude.{◌≡◌, ℕ, List, [], ◌<◌, ◌++◌, IfOk, IfSome, MatchOption, length, string_bytes};
 ghost use Rattle.std.specs.Prelude.{codes};
 ghost use Rattle.bplist_octets.specs.Meaning.{OnlyReads};
+ghost use Rattle.bplist_objects.specs.Failures.{failed_to_read};
 ghost use Rattle.bplist_objects.specs.Safe.{IsSafeFrame};
 ghost use Rattle.bplint_lines.specs.Answers.{read_failed};
 ghost use Rattle.bplint_lines.specs.Explanation.{rule_line, rule_of};
@@ -19,8 +20,8 @@ use crate::object_path::{KeyFront, ObjectPath, head_in, key_front, path_to};
 use crate::output_lines::kind_name;
 use bplist_ascii::text_of_units;
 use bplist_objects::{
-    Fault, Frame, Head, Kind, ObjectFault, ObjectNo, Rule, offset_of, rule_name, rule_number,
-    rule_of_number, texts_of, trailer_of,
+    Failure, Fault, Frame, Head, Kind, ObjectFault, ObjectNo, Rule, offset_of, rule_name,
+    rule_number, rule_of_number, texts_of, trailer_of,
 };
 use bplist_octets::{SliceSource, Source};
 use std::alloc::{AllocError, Global};
@@ -89,8 +90,8 @@ fn fault_lines<S: Source>(
     src: &mut S,
     cert: &[u8],
     fault: &Fault,
-) -> Result<String, RunFault>
-    ensures reads { OnlyReads (read_failed result) (S.means src.old) (S.means src.new) }
+) -> Result<String, Failure>
+    ensures reads { OnlyReads (failed_to_read result) (S.means src.old) (S.means src.new) }
 {
     let mut text = file_lines(alloc, src)?;
     if let Some(object) = fault.object {
@@ -108,8 +109,8 @@ fn place_line<S: Source>(
     src: &mut S,
     cert: &[u8],
     fault: &Fault,
-) -> Result<String, RunFault>
-    ensures reads { OnlyReads (read_failed result) (S.means src.old) (S.means src.new) }
+) -> Result<String, Failure>
+    ensures reads { OnlyReads (failed_to_read result) (S.means src.old) (S.means src.new) }
 {
     match fault.rule {
         Rule::CertMagic
@@ -122,8 +123,8 @@ fn place_line<S: Source>(
 }
 
 /// Returns the lines about a circle that begins with this object.
-fn circle_lines<S: Source>(alloc: Global, src: &mut S, first: ObjectNo) -> Result<String, RunFault>
-    ensures reads { OnlyReads (read_failed result) (S.means src.old) (S.means src.new) }
+fn circle_lines<S: Source>(alloc: Global, src: &mut S, first: ObjectNo) -> Result<String, Failure>
+    ensures reads { OnlyReads (failed_to_read result) (S.means src.old) (S.means src.new) }
 {
     match frame_in(src)? {
         Some(frame) => path_line(alloc, src, &frame, first),
@@ -132,14 +133,14 @@ fn circle_lines<S: Source>(alloc: Global, src: &mut S, first: ObjectNo) -> Resul
 }
 
 /// Returns the frame of a file if it keeps the rules of frames.
-fn frame_in<S: Source>(src: &mut S) -> Result<Option<Frame>, RunFault>
-    ensures reads { OnlyReads (read_failed result) (S.means src.old) (S.means src.new) }
+fn frame_in<S: Source>(src: &mut S) -> Result<Option<Frame>, Failure>
+    ensures reads { OnlyReads (failed_to_read result) (S.means src.old) (S.means src.new) }
     ensures safe { IfOk result (λ found. IfSome found (IsSafeFrame (length (S.means src.old).octets))) }
 {
     match trailer_of(src) {
         Ok(frame) => Ok(Some(frame)),
         Err(ObjectFault::Fault(_)) => Ok(None),
-        Err(ObjectFault::Read(fault)) => Err(RunFault::Read(fault)),
+        Err(ObjectFault::Read(fault)) => Err(Failure::Read(fault)),
     }
 }
 
@@ -150,9 +151,9 @@ fn object_lines<S: Source>(
     frame: &Frame,
     object: ObjectNo,
     fault: &Fault,
-) -> Result<String, RunFault>
+) -> Result<String, Failure>
     requires { IsSafeFrame (length (S.means src.old).octets) frame.now }
-    ensures reads { OnlyReads (read_failed result) (S.means src.old) (S.means src.new) }
+    ensures reads { OnlyReads (failed_to_read result) (S.means src.old) (S.means src.new) }
 {
     if object.0 >= frame.objects {
         return Ok(String::new(alloc));
@@ -171,10 +172,10 @@ fn object_line<S: Source>(
     src: &mut S,
     frame: &Frame,
     object: ObjectNo,
-) -> Result<String, RunFault>
+) -> Result<String, Failure>
     requires safe { IsSafeFrame (length (S.means src.old).octets) frame.now }
     requires within { object.0 < frame.now.objects }
-    ensures reads { OnlyReads (read_failed result) (S.means src.old) (S.means src.new) }
+    ensures reads { OnlyReads (failed_to_read result) (S.means src.old) (S.means src.new) }
 {
     let place = offset_of(src, frame, object)?;
     let head = head_in(src, frame, object)?;
@@ -204,10 +205,10 @@ fn key_line<S: Source>(
     frame: &Frame,
     object: ObjectNo,
     place: u64,
-) -> Result<String, RunFault>
+) -> Result<String, Failure>
     requires safe { IsSafeFrame (length (S.means src.old).octets) frame.now }
     requires within { object.0 < frame.now.objects }
-    ensures reads { OnlyReads (read_failed result) (S.means src.old) (S.means src.new) }
+    ensures reads { OnlyReads (failed_to_read result) (S.means src.old) (S.means src.new) }
 {
     let Some(head) = head_in(src, frame, object)? else {
         return Ok(String::new(alloc));
@@ -240,9 +241,9 @@ fn path_line<S: Source>(
     src: &mut S,
     frame: &Frame,
     object: ObjectNo,
-) -> Result<String, RunFault>
+) -> Result<String, Failure>
     requires { IsSafeFrame (length (S.means src.old).octets) frame.now }
-    ensures reads { OnlyReads (read_failed result) (S.means src.old) (S.means src.new) }
+    ensures reads { OnlyReads (failed_to_read result) (S.means src.old) (S.means src.new) }
 {
     let path = path_to(alloc, src, frame, object)?;
     Ok(path_text(alloc, &path)?)
@@ -262,8 +263,8 @@ fn path_text(alloc: Global, path: &ObjectPath) -> Result<String, AllocError> {
 
 /// Returns the line with the bytes around a place, after the place of the first of them. The place is in brackets; at
 /// the end of the file the brackets are empty.
-fn bytes_line<S: Source>(alloc: Global, src: &mut S, place: u64) -> Result<String, RunFault>
-    ensures reads { OnlyReads (read_failed result) (S.means src.old) (S.means src.new) }
+fn bytes_line<S: Source>(alloc: Global, src: &mut S, place: u64) -> Result<String, Failure>
+    ensures reads { OnlyReads (failed_to_read result) (S.means src.old) (S.means src.new) }
 {
     let length = src.len();
     let place = place.min(length);

@@ -13,13 +13,14 @@ ghost use Rattle.bplist_cursor.specs.declared.faults.Unread.TheVariants as unrea
 ghost use Rattle.bplist_cursor.specs.declared.path.PathFault.TheVariants as path;
 ghost use Rattle.bplist_lint.specs.declared.answer.LintRefusal.TheVariants as lint;
 ghost use Rattle.bplist_lint.specs.declared.answer.UpgradeFault.TheVariants as upgrade;
+ghost use Rattle.bplist_objects.specs.declared.fault.Failure.TheVariants as failed;
 ghost use Rattle.bplint_lines.specs.FaultLines.{fault_line, report_of};
 
 use bplist_ascii::PrintFault;
 use bplist_cert::{CertRefusal, Refusal};
 use bplist_cursor::{AnswerFault, CursorFault, PathFault, Unread};
 use bplist_lint::{LintRefusal, ObjectNos, UpgradeFault};
-use bplist_objects::{Fault, ObjectNo, Rule, rule_name};
+use bplist_objects::{Failure, Fault, ObjectNo, Rule, rule_name};
 use bplist_octets::{ReadFault, WriteFault};
 use std::alloc::{AllocError, AllocFailed, Global};
 
@@ -154,6 +155,17 @@ impl From<ReadFault> for RunFault {
 
     fn from(error: ReadFault) -> RunFault {
         RunFault::Read(error)
+    }
+}
+
+impl From<Failure> for RunFault {
+    ghost from_gives = { λ failure fault. fault ≡ elim failure [ failed.Read error ↦ Read error | failed.Memory ↦ Memory ] };
+
+    fn from(failure: Failure) -> RunFault {
+        match failure {
+            Failure::Read(fault) => RunFault::Read(fault),
+            Failure::Memory => RunFault::Memory,
+        }
     }
 }
 

@@ -1,9 +1,9 @@
 //! Describes a file as a whole: its length and the numbers of its trailer, or what it looks like instead.
 
 ghost use Rattle.bplist_octets.specs.Meaning.{OnlyReads};
-ghost use Rattle.bplint_lines.specs.Answers.{read_failed};
+ghost use Rattle.bplist_objects.specs.Failures.{failed_to_read};
 
-use crate::fault::RunFault;
+use bplist_objects::Failure;
 use bplist_octets::{Source, sized};
 use std::alloc::{AllocError, Global};
 
@@ -18,8 +18,8 @@ const BLOCK: usize = 4096;
 
 /// Returns the line with the length of a file. If the file begins with `bplist00` and has room for a trailer, the line
 /// also gives the numbers of the trailer. For any other file, a second line says what it looks like, if that is known.
-pub(crate) fn file_lines<S: Source>(alloc: Global, src: &mut S) -> Result<String, RunFault>
-    ensures reads { OnlyReads (read_failed result) (S.means src.old) (S.means src.new) }
+pub(crate) fn file_lines<S: Source>(alloc: Global, src: &mut S) -> Result<String, Failure>
+    ensures reads { OnlyReads (failed_to_read result) (S.means src.old) (S.means src.new) }
 {
     let length = src.len();
     let mut octets = [0u8; FRONT];
@@ -45,8 +45,8 @@ fn length_lines(
 }
 
 /// Returns the length of a file, and the numbers of its trailer if the file has room for one.
-fn trailer_line<S: Source>(alloc: Global, src: &mut S) -> Result<String, RunFault>
-    ensures reads { OnlyReads (read_failed result) (S.means src.old) (S.means src.new) }
+fn trailer_line<S: Source>(alloc: Global, src: &mut S) -> Result<String, Failure>
+    ensures reads { OnlyReads (failed_to_read result) (S.means src.old) (S.means src.new) }
 {
     let length = src.len();
     if length < TRAILER {
@@ -72,8 +72,8 @@ fn look_of<S: Source>(
     alloc: Global,
     src: &mut S,
     front: &[u8],
-) -> Result<Option<&'static str>, RunFault>
-    ensures reads { OnlyReads (read_failed result) (S.means src.old) (S.means src.new) }
+) -> Result<Option<&'static str>, Failure>
+    ensures reads { OnlyReads (failed_to_read result) (S.means src.old) (S.means src.new) }
 {
     if front.is_empty() {
         return Ok(Some("an empty file"));
@@ -93,8 +93,8 @@ fn are_zeros(octets: &[u8]) -> bool {
 }
 
 /// Returns true if all bytes of a file are zeros. Stops reading at the first block that has another byte.
-fn is_all_zeros<S: Source>(src: &mut S) -> Result<bool, RunFault>
-    ensures reads { OnlyReads (read_failed result) (S.means src.old) (S.means src.new) }
+fn is_all_zeros<S: Source>(src: &mut S) -> Result<bool, Failure>
+    ensures reads { OnlyReads (failed_to_read result) (S.means src.old) (S.means src.new) }
 {
     let length = src.len();
     let mut buffer = [0u8; BLOCK];

@@ -6,11 +6,12 @@
 ghost use Rattle.std.specs.Prelude.{◌<◌, IfOk, IfSome, length};
 ghost use Rattle.bplist_octets.specs.Meaning.{OnlyReads};
 ghost use Rattle.bplist_objects.specs.Safe.{IsSafe, IsSafeFrame, IsSafeHead, ref_count};
-ghost use Rattle.bplint_lines.specs.Answers.{read_failed};
+ghost use Rattle.bplist_objects.specs.Failures.{failed_to_read};
 
-use crate::fault::RunFault;
 use crate::member_names::{add_index, add_index_name, add_key_name};
-use bplist_objects::{Frame, Head, Kind, ObjectFault, ObjectNo, read_units, ref_at, shape_of};
+use bplist_objects::{
+    Failure, Frame, Head, Kind, ObjectFault, ObjectNo, read_units, ref_at, shape_of,
+};
 use bplist_octets::Source;
 use std::alloc::{AllocError, Global};
 
@@ -61,9 +62,9 @@ pub(crate) fn path_to<S: Source>(
     src: &mut S,
     frame: &Frame,
     target: ObjectNo,
-) -> Result<ObjectPath, RunFault>
+) -> Result<ObjectPath, Failure>
     requires { IsSafeFrame (length (S.means src.old).octets) frame.now }
-    ensures reads { OnlyReads (read_failed result) (S.means src.old) (S.means src.new) }
+    ensures reads { OnlyReads (failed_to_read result) (S.means src.old) (S.means src.new) }
 {
     let search = search_for(alloc, src, frame, target.0)?;
     match search.steps_back(alloc, frame.top.0, target.0)? {
@@ -79,9 +80,9 @@ fn search_for<S: Source>(
     src: &mut S,
     frame: &Frame,
     target: u32,
-) -> Result<PathSearch, RunFault>
+) -> Result<PathSearch, Failure>
     requires { IsSafeFrame (length (S.means src.old).octets) frame.now }
-    ensures reads { OnlyReads (read_failed result) (S.means src.old) (S.means src.new) }
+    ensures reads { OnlyReads (failed_to_read result) (S.means src.old) (S.means src.new) }
 {
     let mut search = PathSearch {
         steps: vec![in alloc; None; frame.objects as usize]?,
@@ -110,10 +111,10 @@ fn search_for<S: Source>(
 
 impl PathSearch {
     /// Finds the objects that object `n` refers to.
-    fn go_on<S: Source>(&mut self, src: &mut S, frame: &Frame, n: ObjectNo) -> Result<(), RunFault>
+    fn go_on<S: Source>(&mut self, src: &mut S, frame: &Frame, n: ObjectNo) -> Result<(), Failure>
         requires safe { IsSafe (length (S.means src.old).octets) frame.now }
         requires within { n.0 < frame.now.objects }
-        ensures reads { OnlyReads (read_failed result) (S.means src.old) (S.means src.new) }
+        ensures reads { OnlyReads (failed_to_read result) (S.means src.old) (S.means src.new) }
     {
         let Some(head) = head_in(src, frame, n)? else {
             return Ok(());
@@ -177,9 +178,9 @@ fn path_of<S: Source>(
     src: &mut S,
     frame: &Frame,
     steps: &[Step],
-) -> Result<Vec<u8>, RunFault>
+) -> Result<Vec<u8>, Failure>
     requires { IsSafe (length (S.means src.old).octets) frame.now }
-    ensures reads { OnlyReads (read_failed result) (S.means src.old) (S.means src.new) }
+    ensures reads { OnlyReads (failed_to_read result) (S.means src.old) (S.means src.new) }
 {
     let mut path = Vec::new(alloc);
     for k in 0..steps.len() {
@@ -196,9 +197,9 @@ fn add_step<S: Source>(
     frame: &Frame,
     step: Step,
     path: &mut Vec<u8>,
-) -> Result<(), RunFault>
+) -> Result<(), Failure>
     requires { IsSafe (length (S.means src.old).octets) frame.now }
-    ensures reads { OnlyReads (read_failed result) (S.means src.old) (S.means src.new) }
+    ensures reads { OnlyReads (failed_to_read result) (S.means src.old) (S.means src.new) }
 {
     if step.from >= frame.objects {
         return Ok(());
@@ -234,11 +235,11 @@ pub(crate) fn key_front<S: Source>(
     frame: &Frame,
     head: &Head,
     index: u64,
-) -> Result<Option<KeyFront>, RunFault>
+) -> Result<Option<KeyFront>, Failure>
     requires safe { IsSafe (length (S.means src.old).octets) frame.now }
     requires head { IsSafeHead frame.now head.now }
     requires within { index < ref_count head.now.kind head.now.count }
-    ensures reads { OnlyReads (read_failed result) (S.means src.old) (S.means src.new) }
+    ensures reads { OnlyReads (failed_to_read result) (S.means src.old) (S.means src.new) }
 {
     let key = ref_at(src, frame, head, index)?;
     if key >= frame.objects as u64 {
@@ -261,15 +262,15 @@ pub(crate) fn head_in<S: Source>(
     src: &mut S,
     frame: &Frame,
     n: ObjectNo,
-) -> Result<Option<Head>, RunFault>
+) -> Result<Option<Head>, Failure>
     requires safe { IsSafe (length (S.means src.old).octets) frame.now }
     requires within { n.0 < frame.now.objects }
-    ensures reads { OnlyReads (read_failed result) (S.means src.old) (S.means src.new) }
+    ensures reads { OnlyReads (failed_to_read result) (S.means src.old) (S.means src.new) }
     ensures safe { IfOk result (λ found. IfSome found (IsSafeHead frame.now)) }
 {
     match shape_of(src, frame, n) {
         Ok(head) => Ok(Some(head)),
         Err(ObjectFault::Fault(_)) => Ok(None),
-        Err(ObjectFault::Read(fault)) => Err(RunFault::Read(fault)),
+        Err(ObjectFault::Read(fault)) => Err(Failure::Read(fault)),
     }
 }
