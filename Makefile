@@ -117,7 +117,7 @@ check: in-place
 gate test:
 	.ci/run
 
-edits: in-place
+edits: build
 	python3 -B tests/gate/edits.py --all
 
 bench: build lib wheel
