@@ -137,8 +137,8 @@ def jobs_of_all():
 
 
 def jobs_of_crate():
-    """The most jobs of one crate, half of the processors: each job more saves less time, and costs processor time."""
-    return max(2, jobs_of_all() // 2)
+    """The most jobs of one crate, three of four processors: each job more saves less time, and costs processor time."""
+    return max(2, jobs_of_all() * 3 // 4)
 
 
 def shares(crates, idle):
