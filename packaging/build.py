@@ -131,34 +131,32 @@ def build(crate, jobs, kit):
     return not status
 
 
-def jobs_of_all():
-    """How many jobs run at once."""
-    return len(os.sched_getaffinity(0))
+def shares(ready, running, idle):
+    """Shares idle processors out to the crates that are ready: (crate, how many jobs) for each that gets some.
 
-
-def jobs_of_crate():
-    """The most jobs of one crate, three of four processors: each job more saves less time, and costs processor time."""
-    return max(2, jobs_of_all() * 3 // 4)
-
-
-def shares(crates, idle):
-    """Shares idle processors out to crates, by their sizes: (crate, how many) for each that gets one."""
-    for at, crate in enumerate(crates):
-        part = round(idle * crate.size() / sum(it.size() for it in crates[at:]))
-        share = min(idle, jobs_of_crate(), max(1, part))
-        if share:
-            yield crate, share
+    A second job of a crate costs processor time. So crates side by side get as few jobs as let them end together: the
+    smallest has one, and the others have more by their lines of code. A crate alone gets three of four processors,
+    because the process that begins its jobs is busy too.
+    """
+    sizes = [it.size() for it in (*ready, *running)]
+    for at, crate in enumerate(ready, 1):
+        share = max(2, idle * 3 // 4) if len(sizes) == 1 else round(crate.size() / min(sizes))
+        share = min(share, max(1, idle - len(ready) + at))  # those after it need one each
+        if share > idle:
+            return
+        yield crate, share
         idle -= share
 
 
 def build_all(crates, kit):
     """Builds crates side by side, each after those below it, and returns whether all are built."""
-    left, running, idle, is_well = list(crates), {}, jobs_of_all(), True
+    left, running, idle, is_well = list(crates), {}, len(os.sched_getaffinity(0)), True
     with concurrent.futures.ThreadPoolExecutor() as pool:
         while left or running:
-            undone = {*left, *(crate for crate, _ in running.values())}
+            begun = [crate for crate, _ in running.values()]
+            undone = {*left, *begun}
             ready = sorted((it for it in left if not undone.intersection(it.below)), key=Crate.size, reverse=True)
-            for crate, jobs in shares(ready, idle):
+            for crate, jobs in shares(ready, begun, idle):
                 left.remove(crate)
                 running[pool.submit(build, crate, jobs, kit)] = crate, jobs
                 idle -= jobs

@@ -4,19 +4,19 @@ use Rattle.std.specs.Str.{bytes_eq}
 use Rattle.bplint.specs.declared.input.Operand.{Operand}
 use Rattle.bplint.specs.declared.input.Operand.TheVariants.{File, Whole}
 use Rattle.bplist_octets.specs.declared.source.ReadFault.TheVariants.{Device, TooManyTurns}
-use Rattle.bplint_lines.specs.declared.fault.RunFault.{RunFault}
-use Rattle.bplint_lines.specs.declared.fault.RunFault.TheVariants.{InputTooLong, Memory, Open, Read}
+use Rattle.bplint.specs.declared.input_fault.InputFault.{InputFault}
+use Rattle.bplint.specs.declared.input_fault.InputFault.TheVariants.{Memory, Open, Read, TooLong}
 
 -- a fault of reading an input as a whole
-abbrev pub IsWholeFault : RunFault → Type 0
-IsWholeFault fault = (fault ≡ InputTooLong) ⊎ ((fault ≡ Memory) ⊎ ((fault ≡ Read Device) ⊎ (fault ≡ Read TooManyTurns)))
+abbrev pub IsWholeFault : InputFault → Type 0
+IsWholeFault fault = (fault ≡ TooLong) ⊎ ((fault ≡ Memory) ⊎ ((fault ≡ Read Device) ⊎ (fault ≡ Read TooManyTurns)))
 
 -- a fault of an input: it could not be opened, or not be read as a whole
-abbrev pub IsInputFault : RunFault → Type 0
+abbrev pub IsInputFault : InputFault → Type 0
 IsInputFault fault = (fault ≡ Open) ⊎ IsWholeFault fault
 
 -- the fault is a failed read
-abbrev pub IsReadFault : RunFault → Type 0
+abbrev pub IsReadFault : InputFault → Type 0
 IsReadFault fault = elim fault [ Read _ ↦ Unit {0} | _ ↦ ⊥ ]
 
 -- the input was read to its end, and is not longer than the limit for such inputs

@@ -6,7 +6,7 @@ ghost use Rattle.std.specs.List.{flat_map};
 ghost use Rattle.bplint.specs.FileNames.{is_printable, shown_octet, shown_text};
 
 use crate::input::read_whole;
-use bplint_lines::RunFault;
+use crate::input_fault::InputFault;
 use std::alloc::{AllocError, Global};
 use std::fs::{self, File, Files};
 
@@ -22,12 +22,12 @@ pub enum Entry {
 }
 
 /// Returns the type of what is at a path. Does not follow a link.
-pub fn entry_at<R: Files<File = File>>(rt: &R, path: &str) -> Result<Entry, RunFault> {
+pub fn entry_at<R: Files<File = File>>(rt: &R, path: &str) -> Result<Entry, InputFault> {
     match fs::symlink_metadata(rt, path) {
         Ok(metadata) if metadata.is_dir() => Ok(Entry::Folder),
         Ok(metadata) if metadata.is_file() => Ok(Entry::File),
         Ok(_) => Ok(Entry::Other),
-        Err(_) => Err(RunFault::Open),
+        Err(_) => Err(InputFault::Open),
     }
 }
 
@@ -45,19 +45,25 @@ pub fn paths_in<R: Files<File = File>>(
     rt: &R,
     alloc: Global,
     folder: &str,
-) -> Result<Vec<Vec<u8>>, RunFault> {
+) -> Result<Vec<Vec<u8>>, InputFault> {
     let front = with_slash(alloc, folder)?;
-    let mut dir = rt.open_dir(&front).map_err(|_| RunFault::Open)?;
+    let mut dir = rt.open_dir(&front).map_err(|_| InputFault::Open)?;
     let names = read_whole(alloc, &mut dir)?;
+    let mut paths = joined_all(alloc, &front, &names)?;
+    paths.sort_unstable();
+    paths.reverse();
+    Ok(paths)
+}
+
+/// Returns the paths of these names, each of which ends with a zero byte, except `.` and `..`.
+fn joined_all(alloc: Global, front: &str, names: &[u8]) -> Result<Vec<Vec<u8>>, AllocError> {
     let mut paths = Vec::new(alloc);
     for name in names.split(|octet| *octet == 0) {
         match name {
             b"" | b"." | b".." => {}
-            _ => paths.push(joined(alloc, &front, name)?)?,
+            _ => paths.push(joined(alloc, front, name)?)?,
         }
     }
-    paths.sort_unstable();
-    paths.reverse();
     Ok(paths)
 }
 

@@ -9,6 +9,7 @@ ghost use Rattle.bplint_engine.specs.Check.{IsDecoded};
 ghost use Rattle.bplint_engine.specs.Hexadecimal.{spelled};
 
 use crate::args::Operands;
+use crate::input_fault::InputFault;
 use crate::unread::Unread;
 use bplint_engine::undo_hex;
 use bplint_lines::RunFault;
@@ -28,10 +29,10 @@ pub const SPARE_READS: usize = 64;
 ///
 /// The clauses `bytes` and `too_long` apply to a reader whose `remaining` is known to the kit. It is `None` for a
 /// `File` and for standard input.
-pub fn read_whole<R: Read>(alloc: Global, reader: &mut R) -> Result<Vec<u8>, RunFault>
+pub fn read_whole<R: Read>(alloc: Global, reader: &mut R) -> Result<Vec<u8>, InputFault>
     ensures bounded { IfOk result (λ v. vec_len v ≤ WHOLE_LIMIT) }
     ensures bytes { IfOk result (λ v. IfSome (R.remaining reader.old) (λ xs. v.items ≡ xs)) }
-    ensures too_long { IfErr result (λ fault. fault ≡ RunFault.InputTooLong
+    ensures too_long { IfErr result (λ fault. fault ≡ InputFault.TooLong
         → IfSome (R.remaining reader.old) (λ xs. WHOLE_LIMIT < length xs)) }
     ensures faults { IfErr result IsWholeFault }
 {
@@ -42,20 +43,20 @@ pub fn read_whole<R: Read>(alloc: Global, reader: &mut R) -> Result<Vec<u8>, Run
             Ok(0) => return Ok(all),
             Ok(n) => {
                 if n > WHOLE_LIMIT - all.len() {
-                    return Err(RunFault::InputTooLong);
+                    return Err(InputFault::TooLong);
                 }
                 if all.extend_from_slice(&chunk[..n]).is_err() {
-                    return Err(RunFault::Memory);
+                    return Err(InputFault::Memory);
                 }
             }
             Err(e) => {
                 if e.kind() != ErrorKind::Interrupted {
-                    return Err(RunFault::Read(ReadFault::Device));
+                    return Err(InputFault::Read(ReadFault::Device));
                 }
             }
         }
     }
-    Err(RunFault::Read(ReadFault::TooManyTurns))
+    Err(InputFault::Read(ReadFault::TooManyTurns))
 }
 
 /// An input after it was opened.
@@ -88,7 +89,7 @@ impl Operand {
     }
 
     /// Returns true if the input begins like a binary property list of any version.
-    pub fn is_bplist(&mut self) -> Result<bool, RunFault>
+    pub fn is_bplist(&mut self) -> Result<bool, InputFault>
         ensures whole { OfWhole (λ text. MatchResult result (λ yes. yes ≡ starts_with_bplist text) (λ _. ⊥)) self.old }
         ensures kept { KeepsWhole self.old self.new }
         ensures faults { IfErr result IsReadFault }
@@ -107,7 +108,7 @@ impl Operand {
     }
 
     /// Decodes the input as a certificate. The outer error is a failed read.
-    pub fn decode(&mut self, alloc: Global) -> Result<Result<Certificate, CertRefusal>, RunFault>
+    pub fn decode(&mut self, alloc: Global) -> Result<Result<Certificate, CertRefusal>, InputFault>
         ensures whole { OfWhole (λ text. MatchResult result (IsDecoded text) (λ _. ⊥)) self.old }
         ensures kept { KeepsWhole self.old self.new }
         ensures faults { IfErr result IsReadFault }
@@ -118,23 +119,27 @@ impl Operand {
                 Ok(certificate) => Ok(Ok(certificate)),
                 Err(Refusal::Fault(fault)) => Ok(Err(CertRefusal::Fault(fault))),
                 Err(Refusal::Memory) => Ok(Err(CertRefusal::Memory)),
-                Err(Refusal::Read(fault)) => Err(RunFault::Read(fault)),
+                Err(Refusal::Read(fault)) => Err(InputFault::Read(fault)),
             },
         }
     }
 
     /// Decodes the input as hexadecimal text.
-    fn undo_hex(self, alloc: Global) -> Result<Operand, RunFault>
+    fn undo_hex(self, alloc: Global) -> Result<Operand, InputFault>
         ensures { OfWhole (λ text. IfOk result (OfWhole (λ bytes. spelled text ≡ Ok bytes))) self }
     {
         let text = self.into_bytes(alloc)?;
-        Ok(Operand::Whole(undo_hex(alloc, &text)?))
+        match undo_hex(alloc, &text) {
+            Ok(bytes) => Ok(Operand::Whole(bytes)),
+            Err(RunFault::Hex) => Err(InputFault::Hex),
+            Err(_) => Err(InputFault::Memory),
+        }
     }
 
     /// Returns all bytes of the input. If it is read by place, this takes one read.
-    pub fn into_bytes(self, alloc: Global) -> Result<Vec<u8>, RunFault>
+    pub fn into_bytes(self, alloc: Global) -> Result<Vec<u8>, InputFault>
         ensures whole { OfWhole (λ text. MatchResult result (λ bytes. bytes.items ≡ text) (λ _. ⊥)) self }
-        ensures faults { IfErr result (λ fault. (fault ≡ RunFault.Memory) ⊎ IsReadFault fault) }
+        ensures faults { IfErr result (λ fault. (fault ≡ InputFault.Memory) ⊎ IsReadFault fault) }
     {
         match self {
             Operand::Whole(text) => Ok(text),
@@ -144,11 +149,11 @@ impl Operand {
 }
 
 /// Returns all bytes of a file, with one read.
-fn read_all(alloc: Global, file: FileSource) -> Result<Vec<u8>, RunFault>
-    ensures { IfErr result (λ fault. (fault ≡ RunFault.Memory) ⊎ IsReadFault fault) }
+fn read_all(alloc: Global, file: FileSource) -> Result<Vec<u8>, InputFault>
+    ensures { IfErr result (λ fault. (fault ≡ InputFault.Memory) ⊎ IsReadFault fault) }
 {
     let mut file = file;
-    let mut bytes = vec![in alloc; 0u8; file.len() as usize].map_err(|_| RunFault::Memory)?;
+    let mut bytes = vec![in alloc; 0u8; file.len() as usize].map_err(|_| InputFault::Memory)?;
     file.read_at(0, &mut bytes)?;
     Ok(bytes)
 }
@@ -188,7 +193,7 @@ fn open_operand<R: Files<File = File> + Input>(
     alloc: Global,
     name: &str,
     hex: bool,
-) -> Result<Operand, RunFault>
+) -> Result<Operand, InputFault>
     ensures hex { hex ≡ true → IfOk result IsReadWhole }
     ensures input { bytes_eq name.now (codes "-") ≡ true → IfOk result IsReadWhole }
     ensures faults { IfErr result IsInputFault }
@@ -205,7 +210,7 @@ fn open_file<R: Files<File = File>>(
     alloc: Global,
     name: &str,
     hex: bool,
-) -> Result<Operand, RunFault>
+) -> Result<Operand, InputFault>
     ensures hex { hex ≡ true → IfOk result IsReadWhole }
     ensures faults { IfErr result IsInputFault }
 {
@@ -214,7 +219,7 @@ fn open_file<R: Files<File = File>>(
     }
     match FileSource::open(rt, name) {
         Ok(file) => Ok(Operand::File(file)),
-        Err(_) => Err(RunFault::Open),
+        Err(_) => Err(InputFault::Open),
     }
 }
 
@@ -226,11 +231,15 @@ fn has_length<R: Files<File = File>>(rt: &R, name: &str) -> bool {
     }
 }
 
-fn read_file<R: Files<File = File>>(rt: &R, alloc: Global, name: &str) -> Result<Vec<u8>, RunFault>
+fn read_file<R: Files<File = File>>(
+    rt: &R,
+    alloc: Global,
+    name: &str,
+) -> Result<Vec<u8>, InputFault>
     ensures bounded { IfOk result (λ v. vec_len v ≤ WHOLE_LIMIT) }
     ensures faults { IfErr result IsInputFault }
 {
-    let mut file = File::open(rt, name).map_err(|_| RunFault::Open)?;
+    let mut file = File::open(rt, name).map_err(|_| InputFault::Open)?;
     read_whole(alloc, &mut file)
 }
 
@@ -241,7 +250,7 @@ fn open_certificate<R: Files<File = File>>(
     alloc: Global,
     name: Option<&str>,
     hex: bool,
-) -> Result<Operand, RunFault>
+) -> Result<Operand, InputFault>
     ensures none { name.entry ≡ None → MatchResult result IsNothing (λ _. ⊥) }
     ensures hex { hex ≡ true → IfOk result IsReadWhole }
     ensures short { IfOk result IsShort }
@@ -252,7 +261,7 @@ fn open_certificate<R: Files<File = File>>(
     };
     let cert = open_file(rt, alloc, name, hex)?;
     if cert.len() > WHOLE_LIMIT as u64 {
-        return Err(RunFault::InputTooLong);
+        return Err(InputFault::TooLong);
     }
     Ok(cert)
 }

@@ -6,6 +6,7 @@ ghost use Rattle.std.specs.Prelude.{◌≤◌, ◌≡◌, max};
 use crate::args::{Job, Lint, Operands, Request};
 use crate::folders::{Entry, entry_at, is_folder, paths_in, shown_name, shown_octets};
 use crate::input::{Inputs, open_inputs};
+use crate::input_fault::InputFault;
 use crate::output::{LineOut, NoOut, end};
 use crate::runs::{Ending, answer};
 use crate::unread::Unread;
@@ -92,7 +93,7 @@ impl<'a, R: Files<File = File> + Input + Print + Eprint> Linter<'a, R> {
     /// Pushes all entries of a folder on the stack of pending paths.
     fn enter(&mut self, folder: &str, pending: &mut Vec<Vec<u8>>) {
         let entered = match paths_in(self.rt, self.alloc, folder) {
-            Ok(mut paths) => pending.append(&mut paths).map_err(|_| RunFault::Memory),
+            Ok(mut paths) => pending.append(&mut paths).map_err(|_| InputFault::Memory),
             Err(fault) => Err(fault),
         };
         if let Err(fault) = entered {
@@ -142,7 +143,7 @@ impl<'a, R: Files<File = File> + Input + Print + Eprint> Linter<'a, R> {
     /// Lints an input. Prints its line after the prefix if it holds a value.
     fn lint_inputs(&mut self, name: &str, inputs: Inputs) {
         let Ok(prefix) = self.prefix_of(name) else {
-            return self.end("", Ending::with(self.alloc, RunFault::Memory));
+            return self.end_without_memory();
         };
         let ending = if self.lint.quiet {
             answer(self.alloc, &self.request, inputs, &mut NoOut)
@@ -165,7 +166,7 @@ impl<'a, R: Files<File = File> + Input + Print + Eprint> Linter<'a, R> {
     /// Ends the run for an input that could not be read.
     fn end_unread(&mut self, unread: Unread<'_>) {
         let Ok(prefix) = self.prefix_of(unread.name) else {
-            return self.end("", Ending::with(self.alloc, RunFault::Memory));
+            return self.end_without_memory();
         };
         let ending = unread.ending(self.rt, self.alloc, self.lint.explain);
         self.end(&prefix, ending);
@@ -173,19 +174,15 @@ impl<'a, R: Files<File = File> + Input + Print + Eprint> Linter<'a, R> {
 
     /// Ends the run for a path that is not UTF-8, which cannot be opened.
     fn end_unnamed(&mut self, path: &[u8]) {
-        let Ok(prefix) = unnamed_prefix(self.alloc, path) else {
-            return self.end("", Ending::with(self.alloc, RunFault::Memory));
-        };
-        let mut ending = Ending::with(self.alloc, RunFault::Open);
-        if self.lint.explain
-            && ending
-                .under
-                .push_str("  file: its name is not UTF-8\n")
-                .is_err()
-        {
-            ending = Ending::with(self.alloc, RunFault::Memory);
+        match unnamed_ending(self.alloc, path, self.lint.explain) {
+            Ok((prefix, ending)) => self.end(&prefix, ending),
+            Err(_) => self.end_without_memory(),
         }
-        self.end(&prefix, ending);
+    }
+
+    /// Ends the run after memory for its lines was refused.
+    fn end_without_memory(&mut self) {
+        self.end("", Ending::with(self.alloc, RunFault::Memory));
     }
 
     /// Prints how a run ended, and counts it.
@@ -200,14 +197,24 @@ impl<'a, R: Files<File = File> + Input + Print + Eprint> Linter<'a, R> {
             Ok(line) => {
                 let _ = self.rt.eprintln(line);
             }
-            Err(_) => self.end("", Ending::with(self.alloc, RunFault::Memory)),
+            Err(_) => self.end_without_memory(),
         }
     }
 }
 
-fn unnamed_prefix(alloc: Global, path: &[u8]) -> Result<String, AllocError> {
+/// Returns the prefix of the lines for a path that is not UTF-8, and how its run ends.
+fn unnamed_ending(
+    alloc: Global,
+    path: &[u8],
+    explain: bool,
+) -> Result<(String, Ending), AllocError> {
     let shown = shown_octets(alloc, path)?;
-    format!(in alloc; "{shown}: ")
+    let prefix = format!(in alloc; "{shown}: ")?;
+    let mut ending = Ending::with(alloc, RunFault::Open);
+    if explain {
+        ending.under.push_str("  file: its name is not UTF-8\n")?;
+    }
+    Ok((prefix, ending))
 }
 
 /// The counts so far.

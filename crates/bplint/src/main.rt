@@ -15,6 +15,7 @@
 //! | `arguments` | their arguments |
 //! | `args` | what a command line asks for |
 //! | `input` | FILE and CERT: opened and read by place, or read as a whole |
+//! | `input_fault` | why an input cannot be read |
 //! | `runs` | one request about one FILE |
 //! | `output` | OUT, which is created when its first byte is written; the line of a fault, and the exit status |
 //! | `unread` | inputs that could not be read |
@@ -28,6 +29,7 @@ mod args;
 mod arguments;
 mod folders;
 mod input;
+mod input_fault;
 mod linting;
 mod output;
 mod runs;

@@ -5,6 +5,7 @@ ghost use Rattle.bplint.specs.ExitStatuses.{LeavesShown};
 
 use crate::args::{Job, Request, Run, Shown};
 use crate::input::{Inputs, Operand, open_inputs};
+use crate::input_fault::InputFault;
 use crate::output::OutFile;
 use bplint_engine::{list_all_on, list_on, run_certified, show_on, show_raw_on, show_text_on};
 use bplint_lines::{RawFault, RunFault, Said, explain};
@@ -66,7 +67,7 @@ pub fn answer<W: Write>(
 ) -> Ending {
     match try_answer(alloc, request, inputs, out) {
         Ok(ending) => ending,
-        Err(fault) => Ending::with(alloc, fault),
+        Err(fault) => Ending::with(alloc, RunFault::from(fault)),
     }
 }
 
@@ -75,13 +76,13 @@ fn try_answer<W: Write>(
     request: &Request<'_>,
     inputs: Inputs,
     out: &mut W,
-) -> Result<Ending, RunFault> {
+) -> Result<Ending, InputFault> {
     let Inputs { file, cert } = inputs;
     match file {
         Operand::Whole(file) => answer_on(alloc, request, SliceSource::new(&file), cert, out),
         Operand::File(file) => {
             let mut file = Window::new(file);
-            let mut panes = vec![in alloc; Pane::EMPTY; PANES].map_err(|_| RunFault::Memory)?;
+            let mut panes = vec![in alloc; Pane::EMPTY; PANES].map_err(|_| InputFault::Memory)?;
             let src = Panes::new(&mut file, &mut panes);
             answer_on(alloc, request, src, cert, out)
         }
@@ -95,7 +96,7 @@ fn answer_on<S: Source + Drop, W: Write>(
     src: S,
     cert: Operand,
     out: &mut W,
-) -> Result<Ending, RunFault> {
+) -> Result<Ending, InputFault> {
     match request {
         Request::Command(job) => command_on(alloc, job, src, cert, out),
         Request::Show(shown) => Ok(Ending::of(alloc, shown_on(alloc, shown, src, out))),
@@ -113,7 +114,7 @@ fn command_on<S: Source + Drop, W: Write>(
     src: S,
     cert: Operand,
     out: &mut W,
-) -> Result<Ending, RunFault> {
+) -> Result<Ending, InputFault> {
     let mut cert = cert;
     let decoded = cert.decode(alloc)?;
     let (answer, mut src) = run_certified(alloc, &job.command, src, decoded, out);

@@ -1,6 +1,7 @@
 //! Inputs that could not be read, and why.
 
 use crate::folders::shown_name;
+use crate::input_fault::InputFault;
 use crate::runs::Ending;
 use bplint_lines::{RawFault, RunFault};
 use bplist_octets::ReadFault;
@@ -14,25 +15,25 @@ pub struct Unread<'a> {
     /// Its name.
     pub name: &'a str,
     /// The fault.
-    pub fault: RunFault,
+    pub fault: InputFault,
 }
 
 impl<'a> Unread<'a> {
     /// The input with this name and this fault.
-    pub fn new(name: &'a str, fault: RunFault) -> Unread<'a> {
+    pub fn new(name: &'a str, fault: InputFault) -> Unread<'a> {
         Unread { name, fault }
     }
 
     /// Returns how the run ends. With `explain`, adds the name and the reason to the line of a failed open or read.
     pub fn ending<R: Files<File = File>>(self, rt: &R, alloc: Global, explain: bool) -> Ending {
         let why = match self.fault {
-            RunFault::Open if explain => why_not_open(rt, self.name),
-            RunFault::Read(ReadFault::Device) if explain => why_not_read(rt, self.name),
-            _ => return Ending::with(alloc, self.fault),
+            InputFault::Open if explain => why_not_open(rt, self.name),
+            InputFault::Read(ReadFault::Device) if explain => why_not_read(rt, self.name),
+            _ => return Ending::with(alloc, RunFault::from(self.fault)),
         };
         match file_line(alloc, self.name, why) {
             Ok(under) => Ending {
-                answer: Err(RawFault::Run(self.fault)),
+                answer: Err(RawFault::Run(RunFault::from(self.fault))),
                 under,
             },
             Err(_) => Ending::with(alloc, RunFault::Memory),

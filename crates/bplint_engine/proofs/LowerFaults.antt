@@ -1,4 +1,5 @@
 -- The faults of a run for each fault of the crates below.
+use Rattle.std.proofs.Common.{refl}
 use Rattle.bplist_cert.specs.declared.certificate.CertRefusal.{CertRefusal}
 use Rattle.bplist_cert.specs.declared.certificate.CertRefusal.TheVariants as cert_refusals
 use Rattle.bplist_cert.specs.declared.refusal.Refusal.{Refusal}
@@ -13,6 +14,8 @@ use Rattle.bplist_cursor.specs.declared.path.PathFault.{PathFault}
 use Rattle.bplist_cursor.specs.declared.path.PathFault.TheVariants as path_faults
 use Rattle.bplist_ascii.specs.declared.printer.PrintFault.{PrintFault}
 use Rattle.bplist_ascii.specs.declared.printer.PrintFault.TheVariants as print_faults
+use Rattle.bplist_cursor.proofs.Causes.{IsUnread, IsExcused as IsCursorExcused}
+use Rattle.bplint_lines.specs.Faults.{IsExcused}
 use Rattle.bplint_lines.specs.declared.fault.RunFault.{RunFault}
 use Rattle.bplint_lines.specs.declared.fault.RunFault.TheVariants as faults
 
@@ -49,6 +52,17 @@ cursor_fault cursor_faults.Memory = faults.Memory
 abbrev pub unread_fault : Unread → RunFault
 unread_fault (unread.Read fault) = faults.Read fault
 unread_fault unread.Changed = faults.Changed
+
+-- if an object could not be read, and the file is the one that was checked, then a read failed
+pub unread_excused : (fault : Unread) → IsUnread fault → IsExcused (unread_fault fault)
+unread_excused (unread.Read _) h = tt
+unread_excused unread.Changed h = absurd (h refl)
+
+-- if a call of the cursor failed, and the file is the one that was checked, then a read failed or memory was refused
+pub cursor_excused : (fault : CursorFault) → IsCursorExcused fault → IsExcused (cursor_fault fault)
+cursor_excused (cursor_faults.Read _) h = tt
+cursor_excused cursor_faults.Changed h = absurd (h refl)
+cursor_excused cursor_faults.Memory h = tt
 
 -- the fault for a printer's fault
 abbrev pub print_fault : PrintFault → RunFault

@@ -7,17 +7,12 @@ use Rattle.bplist_objects.specs.Heads.{Content, Spells, content_at}
 use Rattle.bplist_cert.specs.CheckedFile.{CheckedFile}
 use Rattle.bplist_cert.specs.Valid.{IsVouchedBy}
 use Rattle.bplist_cursor.specs.declared.node.Node.{Node}
-use Rattle.bplist_cursor.specs.declared.faults.Unread.{Unread}
-use Rattle.bplist_cursor.specs.declared.faults.Unread.TheVariants as unread
-use Rattle.bplist_cursor.proofs.Causes.{IsUnread}
 use Rattle.std.specs.List.{enumerate_from, flat_map}
 use Rattle.bplist_cursor.specs.Members.{HoldsMember, entries, member_of, member_reference, members, named}
 use Rattle.bplist_cursor.proofs.Membership.{held_members, in_turn}
 use Rattle.bplist_cursor.specs.Replies.{face}
-use Rattle.bplint_engine.specs.declared.ls.Members.{Members}
-use Rattle.bplint_engine.specs.declared.ls.Members.TheVariants.{Array, Set, Dict}
-use Rattle.bplint_lines.specs.Faults.{IsExcused}
-use Rattle.bplint_engine.proofs.LowerFaults.{unread_fault}
+use Rattle.bplint_engine.specs.declared.members.Members.{Members}
+use Rattle.bplint_engine.specs.declared.members.Members.TheVariants.{Array, Set, Dict}
 use Rattle.bplint_engine.specs.Ls.{IsContainer, IsHeadFor, IsLeaf, first_lines, item_name, line_of_member, line_of_pair, listed, member_line, named_line}
 use Rattle.bplint_lines.specs.MemberNames.{bracketed, index_name, key_name}
 use Rattle.bplint_lines.specs.OutputLines.{face_line}
@@ -180,11 +175,6 @@ container_listed _ n path _ is = absurd is
 pub leaf_listed : (path : List ℕ) (w : Value) → IsLeaf w → named_line path w ≡ listed path (Ok w)
 leaf_listed path (leaf x) is = refl
 leaf_listed path _ is = absurd is
-
--- an object could not be read because a read failed
-pub unread_excused : (fault : Unread) → IsUnread fault → IsExcused (unread_fault fault)
-unread_excused (unread.Read _) h = tt
-unread_excused unread.Changed h = absurd (h refl)
 
 -- if member_by_head finds a member, it holds member i of the value
 pub found_member : (checked : CheckedFile) (head : Head) (w : Value) (i : ℕ) (found : Option Node) → IsHeadFor checked head w

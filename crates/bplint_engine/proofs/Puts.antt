@@ -5,13 +5,12 @@ use Rattle.std.specs.Io.KnownBytes.{Appends}
 use Rattle.bplist_octets.specs.Sending.{Sending, SendsSome, Takes, TakesPart}
 use Rattle.bplist_octets.proofs.SinkSteps.{out_end, out_start, out_takes, part_of_more, some_of_takes, takes_nothing, takes_then_part, takes_then_some}
 use Rattle.bplist_cursor.specs.declared.faults.CursorFault.{CursorFault}
-use Rattle.bplist_cursor.specs.declared.faults.CursorFault.TheVariants as cursor_faults
 use Rattle.bplist_cursor.proofs.Causes.{IsExcused as IsCursorExcused}
 use Rattle.bplint_lines.specs.declared.fault.RunFault.{RunFault}
 use Rattle.bplint_lines.specs.declared.fault.RunFault.TheVariants as faults
 use Rattle.bplint_lines.specs.Faults.{IsExcused}
 use Rattle.bplint_engine.specs.Streams.{Fails, begun}
-use Rattle.bplint_engine.proofs.LowerFaults.{cursor_fault}
+use Rattle.bplint_engine.proofs.LowerFaults.{cursor_excused, cursor_fault}
 
 -- the first bytes were put in, the next ones failed, and others would have followed
 pub fails_behind : (old mid new : Option (List ℕ)) {s t : Sending} {xs : List ℕ} (ys zs whole : List ℕ) (fault : RunFault) → Takes old mid s t xs
@@ -60,6 +59,4 @@ pub excused_stops : (now : Option (List ℕ)) (s : Sending) (bytes : List ℕ) (
 excused_stops now s bytes fault excused = stopped_behind now now bytes bytes fault (takes_nothing now s) excused refl
 
 pub cursor_stops : (now : Option (List ℕ)) (s : Sending) (bytes : List ℕ) (fault : CursorFault) → IsCursorExcused fault → Fails now now s bytes (cursor_fault fault)
-cursor_stops now s bytes (cursor_faults.Read fault) h = excused_stops now s bytes (faults.Read fault) tt
-cursor_stops now s bytes cursor_faults.Changed h = absurd (h refl)
-cursor_stops now s bytes cursor_faults.Memory h = excused_stops now s bytes faults.Memory tt
+cursor_stops now s bytes fault h = excused_stops now s bytes (cursor_fault fault) (cursor_excused fault h)

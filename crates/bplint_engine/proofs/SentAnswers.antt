@@ -6,7 +6,6 @@ use Rattle.bplist_objects.specs.declared.frame.Frame.{Frame}
 use Rattle.bplist_objects.specs.Holds.{Holds}
 use Rattle.bplist_objects.specs.Value.{Value}
 use Rattle.bplist_cursor.specs.declared.faults.CursorFault.{CursorFault}
-use Rattle.bplist_cursor.specs.declared.faults.CursorFault.TheVariants as cursor_faults
 use Rattle.bplist_cursor.specs.declared.node.Why.{Why}
 use Rattle.bplist_cursor.proofs.Causes.{IsExcused as IsCursorExcused}
 use Rattle.bplist_cursor.specs.Path.{IsPathOf}
@@ -27,7 +26,7 @@ use Rattle.bplint_engine.specs.Tree.{ListsAll, PathLists}
 use Rattle.bplint_engine.proofs.PathAnswers.{IsThere, IsYes}
 use Rattle.bplint_engine.proofs.EqualAnswers.{same_gives}
 use Rattle.bplint_engine.proofs.LeftBytes.{kept_self, said_within}
-use Rattle.bplint_engine.proofs.LowerFaults.{cursor_fault}
+use Rattle.bplint_engine.proofs.LowerFaults.{cursor_excused, cursor_fault}
 
 -- only a first part of an answer was written
 pub some_failed : (Says : Answer → Type 0) (said : Said) (bytes : List ℕ) (old new : Option (List ℕ)) (fault : RunFault) → Says (gives said bytes)
@@ -44,9 +43,7 @@ excused_leaves Says old faults.Memory h = (tt, inl (kept_self old))
 excused_leaves Says old _ h = absurd h
 
 pub cursor_leaves : (Says : Answer → Type 0) (old : Option (List ℕ)) (fault : CursorFault) → IsCursorExcused fault → LeavesSomeBy Says old old (Err (cursor_fault fault))
-cursor_leaves Says old (cursor_faults.Read _) h = (tt, inl (kept_self old))
-cursor_leaves Says old cursor_faults.Changed h = absurd (h refl)
-cursor_leaves Says old cursor_faults.Memory h = (tt, inl (kept_self old))
+cursor_leaves Says old fault h = excused_leaves Says old (cursor_fault fault) (cursor_excused fault h)
 
 -- the same under another description of the answer
 pub some_as : (P Q : Answer → Type 0) (old new : Option (List ℕ)) (result : Result Said RunFault) → ((a : Answer) → P a → Q a)

@@ -11,8 +11,8 @@ use Rattle.bplist_cursor.specs.Members.{entries, member_of, members}
 use Rattle.bplist_cursor.specs.Nodes.{nodes, nodes_of, nodes_of_pairs}
 use Rattle.bplist_cursor.proofs.Membership.{in_turn}
 use Rattle.bplint_lines.specs.MemberNames.{bracketed, index_name, key_name}
-use Rattle.bplint_engine.specs.declared.ls.Members.{Members}
-use Rattle.bplint_engine.specs.declared.ls.Members.TheVariants.{Array, Set, Dict}
+use Rattle.bplint_engine.specs.declared.members.Members.{Members}
+use Rattle.bplint_engine.specs.declared.members.Members.TheVariants.{Array, Set, Dict}
 use Rattle.bplint_engine.specs.Ls.{IsContainer, IsLeaf, listed, named_line}
 use Rattle.bplint_engine.specs.Tree.{array_lines, dict_lines, joined_lines, named_members, set_lines, tree_lines}
 use Rattle.bplint_engine.proofs.MemberLines.{array_member, dict_member, set_member}

@@ -9,8 +9,8 @@ use Rattle.bplist_cert.specs.CheckedFile.{CheckedFile}
 use Rattle.bplist_cert.specs.Valid.{IsVouchedBy}
 use Rattle.bplist_cursor.specs.declared.node.Why.{Why}
 use Rattle.bplist_cursor.specs.Members.{entries, members, member_of}
-use Rattle.bplint_engine.specs.declared.ls.Members.{Members}
-use Rattle.bplint_engine.specs.declared.ls.Members.TheVariants.{Array, Set, Dict}
+use Rattle.bplint_engine.specs.declared.members.Members.{Members}
+use Rattle.bplint_engine.specs.declared.members.Members.TheVariants.{Array, Set, Dict}
 use Rattle.bplint_lines.specs.MemberNames.{bracketed, index_name, key_name}
 use Rattle.bplint_engine.specs.Get.{found_line}
 

@@ -7,7 +7,7 @@ use Rattle.bplist_objects.specs.Value.{Value}
 use Rattle.bplist_cert.specs.CheckedFile.{CheckedFile}
 use Rattle.bplist_cursor.specs.Found.{IsHeld}
 use Rattle.bplist_octets.specs.Sending.{Takes}
-use Rattle.bplint_engine.specs.declared.ls.Members.TheVariants.{Dict}
+use Rattle.bplint_engine.specs.declared.members.Members.TheVariants.{Dict}
 use Rattle.bplint_engine.specs.declared.tree_walk.Listing.{Listing}
 use Rattle.bplint_engine.specs.declared.tree_walk.Named.{Named}
 use Rattle.bplint_engine.specs.declared.tree_walk.Opened.{Opened}

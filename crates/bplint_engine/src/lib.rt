@@ -29,7 +29,8 @@
 //! - `lint`, `check`, `print`: one command each.
 //! - `certify`: the command, and a file together with a checked certificate, or with the linter's own.
 //! - `get`: the command, and the paths and queries that path texts mean.
-//! - `show`, `ls`, `tree`, `raw`: the calls that need no certificate. `ls` also has the lines of members.
+//! - `show`, `ls`, `tree`, `raw`: the calls that need no certificate.
+//! - `members`: the members of a container.
 //! - `tree_walk`, `names`: the recursive walk, and the names in it.
 //! - `raw_bytes`: which raw bytes a value has, and how they are sent in parts.
 //! - `output`: the bytes of an answer, and how they are written.
@@ -42,6 +43,7 @@ mod get;
 mod laws;
 mod lint;
 mod ls;
+mod members;
 mod names;
 mod output;
 mod print;

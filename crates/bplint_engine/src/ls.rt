@@ -1,35 +1,25 @@
 //! The command `ls`: lists the members of one value in a file that has no certificate. A recursive listing
-//! takes the kinds of members and the values of lines from here.
+//! takes the values of lines from here.
 
-ghost use Rattle.std.specs.Prelude.{◌≡◌, ◌∷◌, [], ◌*◌, ◌^◌, ◌<◌, Ok, IfSome, IsTrue, MatchOption, ◌++◌, OnOk, Some};
-ghost use Rattle.std.specs.Prelude.{codes, ℕ, IfOk, List};
+ghost use Rattle.std.specs.Prelude.{◌≡◌, ◌∷◌, [], ◌*◌, ◌^◌, ◌<◌, ◌++◌, IfOk, IsTrue, Ok, OnOk, codes};
+ghost use Rattle.bplist_cursor.specs.Causes.{GivesCursor, cursor_read};
 ghost use Rattle.bplint_engine.specs.Prelude.{OnlyReads, Holds, Value, IsVouchedBy, OnlyReadsFile, look};
-ghost use Rattle.bplint_engine.specs.Prelude.{face as face_of, HasRoom, Leaves, read_failed, Answers, Gives, said_of};
-ghost use Rattle.bplint_engine.specs.Prelude.{IsContainer, IsLeaf, LinesSay, LintSays, listed, IsSafeHead, member_of};
-ghost use Rattle.bplint_engine.specs.Prelude.{IsHeadFor, first_lines, item_name, member_line, face_line, leaf, text};
+ghost use Rattle.bplint_engine.specs.Prelude.{Leaves, read_failed, Answers, Gives, IsSafeHead, said_of};
+ghost use Rattle.bplint_engine.specs.Prelude.{IsContainer, LinesSay, LintSays, listed};
+ghost use Rattle.bplint_engine.specs.Prelude.{IsHeadFor, first_lines, item_name, member_line, face_line};
 
 use crate::certify::checked_by_lint;
 use crate::get::path_in;
+use crate::members::{Members, member_face, member_text, members_of};
 use crate::output::{Output, send_made};
 use crate::print::missing_output;
 use bplint_lines::{RunFault, Said, add_face, add_index, add_index_name, add_key_name};
 use bplist_cert::Checked;
-use bplist_cursor::{Face, Found, Node, Path, face, locate, member_by_head, node_head};
+use bplist_cursor::{CursorFault, Face, Found, Node, Path, face, locate, node_head};
 use bplist_objects::Head;
 use bplist_octets::Source;
 use std::alloc::{AllocError, Global};
 use std::io::Write;
-
-/// The kind of members that a container has.
-#[derive(Clone, Copy, Drop)]
-pub(crate) enum Members {
-    /// Members of an array; an index is the last step of their path.
-    Array,
-    /// Members of a set, which have an index but no path.
-    Set,
-    /// Pairs of a dictionary; the key is the last step of the value's path.
-    Dict,
-}
 
 /// A container whose members are to be listed.
 #[derive(Clone, Copy, Drop)]
@@ -124,11 +114,11 @@ fn lines_at<S: Source>(
     checked: &mut Checked<S>,
     node: Node,
     path: &str,
-) -> Result<Vec<u8>, RunFault>
-    ensures reads { OnlyReadsFile (read_failed result) checked.old checked.new }
+) -> Result<Vec<u8>, CursorFault>
+    ensures reads { OnlyReadsFile (cursor_read result) checked.old checked.new }
     ensures exact { IsTrue checked.old.source.honest → IsVouchedBy checked.old.certificate.heights node.object.0 → (w : Value)
         → Holds checked.old.source.octets checked.old.frame node.object.0 w
-        → Gives (λ lines. lines.items ≡ listed path.now (Ok w)) result }
+        → GivesCursor (λ lines. lines.items ≡ listed path.now (Ok w)) result }
 {
     let length = checked.len();
     let shown = face(alloc, checked, node)?;
@@ -160,32 +150,17 @@ fn lines_of_members<S: Source>(
     alloc: Global,
     checked: &mut Checked<S>,
     container: &Container<'_>,
-) -> Result<Vec<u8>, RunFault>
+) -> Result<Vec<u8>, CursorFault>
     requires head { IsSafeHead checked.old.frame container.now.head }
     requires few { container.now.members ≡ Members.Dict → 2 * container.now.count < 2 ^ 64 }
-    ensures reads { OnlyReadsFile (read_failed result) checked.old checked.new }
+    ensures reads { OnlyReadsFile (cursor_read result) checked.old checked.new }
     ensures exact { IsTrue checked.old.source.honest → (w : Value) → IsHeadFor checked.old container.now.head w
         → IsContainer container.now.members container.now.count w
-        → Gives (λ lines. lines.items ≡ listed container.now.path.now (Ok w)) result }
+        → GivesCursor (λ lines. lines.items ≡ listed container.now.path.now (Ok w)) result }
 {
     let mut lines = Vec::new(alloc);
     add_members(alloc, checked, container, &mut lines)?;
     Ok(lines)
-}
-
-/// Returns the kind and number of members that a face shows, in a file of `length` bytes. Returns `None` for a leaf.
-pub(crate) fn members_of(shown: &Face, length: u64) -> Option<(Members, u64)>
-    requires { HasRoom length shown.now }
-    ensures exact { (w : Value) → shown.now ≡ face_of w
-        → MatchOption result (IsLeaf w) (λ found. IsContainer found.0 found.1 w) }
-    ensures room { IfSome result (λ found. found.0 ≡ Members.Dict → 2 * found.1 < 2 ^ 64) }
-{
-    match shown {
-        Face::Array(count) => Some((Members::Array, *count)),
-        Face::Set(count) => Some((Members::Set, *count)),
-        Face::Dict(count) => Some((Members::Dict, *count)),
-        _ => None,
-    }
 }
 
 /// Adds the lines of all members of a container, in order.
@@ -194,13 +169,13 @@ pub(crate) fn add_members<S: Source>(
     checked: &mut Checked<S>,
     container: &Container<'_>,
     lines: &mut Vec<u8>,
-) -> Result<(), RunFault>
+) -> Result<(), CursorFault>
     requires head { IsSafeHead checked.old.frame container.now.head }
     requires few { container.now.members ≡ Members.Dict → 2 * container.now.count < 2 ^ 64 }
-    ensures reads { OnlyReadsFile (read_failed result) checked.old checked.new }
+    ensures reads { OnlyReadsFile (cursor_read result) checked.old checked.new }
     ensures exact { IsTrue checked.old.source.honest → (w : Value) → IsHeadFor checked.old container.now.head w
         → IsContainer container.now.members container.now.count w
-        → Gives (λ _. lines.new.items ≡ lines.old.items ++ first_lines container.now.path.now w container.now.count) result }
+        → GivesCursor (λ _. lines.new.items ≡ lines.old.items ++ first_lines container.now.path.now w container.now.count) result }
 {
     for i in 0..container.count {
         add_member(alloc, checked, container, i, lines)?;
@@ -215,14 +190,14 @@ fn add_member<S: Source>(
     container: &Container<'_>,
     i: u64,
     lines: &mut Vec<u8>,
-) -> Result<(), RunFault>
+) -> Result<(), CursorFault>
     requires head { IsSafeHead checked.old.frame container.now.head }
     requires few { container.now.members ≡ Members.Dict → 2 * container.now.count < 2 ^ 64 }
     requires within { i < container.now.count }
-    ensures reads { OnlyReadsFile (read_failed result) checked.old checked.new }
+    ensures reads { OnlyReadsFile (cursor_read result) checked.old checked.new }
     ensures exact { IsTrue checked.old.source.honest → (w : Value) → IsHeadFor checked.old container.now.head w
         → IsContainer container.now.members container.now.count w
-        → Gives (λ _. lines.new.items ≡ lines.old.items ++ member_line container.now.path.now w i) result }
+        → GivesCursor (λ _. lines.new.items ≡ lines.old.items ++ member_line container.now.path.now w i) result }
 {
     match container.members {
         Members::Dict => add_pair(alloc, checked, container, i, lines),
@@ -237,14 +212,14 @@ fn add_item<S: Source>(
     container: &Container<'_>,
     i: u64,
     lines: &mut Vec<u8>,
-) -> Result<(), RunFault>
+) -> Result<(), CursorFault>
     requires head { IsSafeHead checked.old.frame container.now.head }
     requires item { container.now.members ≡ Members.Dict → ⊥ }
     requires within { i < container.now.count }
-    ensures reads { OnlyReadsFile (read_failed result) checked.old checked.new }
+    ensures reads { OnlyReadsFile (cursor_read result) checked.old checked.new }
     ensures exact { IsTrue checked.old.source.honest → (w : Value) → IsHeadFor checked.old container.now.head w
         → IsContainer container.now.members container.now.count w
-        → Gives (λ _. lines.new.items ≡ lines.old.items ++ member_line container.now.path.now w i) result }
+        → GivesCursor (λ _. lines.new.items ≡ lines.old.items ++ member_line container.now.path.now w i) result }
 {
     let shown = member_face(alloc, checked, &container.head, i)?;
     add_item_name(alloc, container, i, lines)?;
@@ -273,56 +248,20 @@ fn add_pair<S: Source>(
     container: &Container<'_>,
     i: u64,
     lines: &mut Vec<u8>,
-) -> Result<(), RunFault>
+) -> Result<(), CursorFault>
     requires head { IsSafeHead checked.old.frame container.now.head }
     requires dict { container.now.members ≡ Members.Dict }
     requires few { 2 * container.now.count < 2 ^ 64 }
     requires within { i < container.now.count }
-    ensures reads { OnlyReadsFile (read_failed result) checked.old checked.new }
+    ensures reads { OnlyReadsFile (cursor_read result) checked.old checked.new }
     ensures exact { IsTrue checked.old.source.honest → (w : Value) → IsHeadFor checked.old container.now.head w
         → IsContainer container.now.members container.now.count w
-        → Gives (λ _. lines.new.items ≡ lines.old.items ++ member_line container.now.path.now w i) result }
+        → GivesCursor (λ _. lines.new.items ≡ lines.old.items ++ member_line container.now.path.now w i) result }
 {
     let units = member_text(alloc, checked, &container.head, 2 * i)?;
     let shown = member_face(alloc, checked, &container.head, 2 * i + 1)?;
     add_key_name(alloc, container.path, i, units.as_slice(), lines)?;
     Ok(add_value(alloc, &shown, lines)?)
-}
-
-/// Returns the units of member `i` of the object with this head. The member is a text.
-pub(crate) fn member_text<S: Source>(
-    alloc: Global,
-    checked: &mut Checked<S>,
-    head: &Head,
-    i: u64,
-) -> Result<bplist_cursor::List<u16>, RunFault>
-    requires { IsSafeHead checked.old.frame head.now }
-    ensures reads { OnlyReadsFile (read_failed result) checked.old checked.new }
-    ensures exact { IsTrue checked.old.source.honest → (w : Value) (u : List ℕ) → IsHeadFor checked.old head.now w
-        → member_of w i ≡ Some (leaf (text u)) → Gives (λ units. units ≡ u) result }
-{
-    match member_face(alloc, checked, head, i)? {
-        Face::Text(units) => Ok(units),
-        _ => Err(RunFault::Changed),
-    }
-}
-
-/// Returns the face of member `i` of the object with this head.
-pub(crate) fn member_face<S: Source>(
-    alloc: Global,
-    checked: &mut Checked<S>,
-    head: &Head,
-    i: u64,
-) -> Result<Face, RunFault>
-    requires { IsSafeHead checked.old.frame head.now }
-    ensures reads { OnlyReadsFile (read_failed result) checked.old checked.new }
-    ensures exact { IsTrue checked.old.source.honest → (w m : Value) → IsHeadFor checked.old head.now w → member_of w i ≡ Some m
-        → Gives (λ shown. shown ≡ face_of m) result }
-{
-    match member_by_head(checked, head, i)? {
-        Some(member) => Ok(face(alloc, checked, member)?),
-        None => Err(RunFault::Changed),
-    }
 }
 
 /// Adds a tab, the line of `get` for this face, and a line feed.

@@ -6,17 +6,17 @@ ghost use Rattle.std.specs.Prelude.{encode_utf8_all};
 ghost use Rattle.std.specs.Char.Utf16.{has_unpaired_surrogate, is_high_surrogate, utf16_lossy_chars};
 ghost use Rattle.bplist_objects.specs.Safe.{IsSafeBody};
 ghost use Rattle.bplist_objects.specs.Units.{IsTextKind, units_of};
-ghost use Rattle.bplint_engine.specs.Prelude.{Gives, Holds, Value, IsVouchedBy, OnlyReadsFile, read_failed};
+ghost use Rattle.bplint_engine.specs.Prelude.{Holds, Value, IsVouchedBy, OnlyReadsFile, read_failed};
 ghost use Rattle.bplint_engine.specs.Raw.{IsRawOf, IsSafeRaw, raw_word, IsPairedRaw, raw_in};
 ghost use Rattle.bplist_octets.specs.Octets.{part};
 ghost use Rattle.bplist_cert.specs.CheckedFile.{HonestlyChecked};
-ghost use Rattle.bplist_cursor.specs.Causes.{GivesRead, read_failed as part_unread};
+ghost use Rattle.bplist_cursor.specs.Causes.{GivesCursor, GivesRead, cursor_read, read_failed as part_unread};
 ghost use Rattle.bplint_engine.specs.Streams.{IsCut, Puts, SendsAll};
 ghost use Rattle.bplist_objects.specs.declared.head.Kind.TheVariants.{Bytes};
 
 use bplint_lines::RunFault;
 use bplist_cert::Checked;
-use bplist_cursor::{Face, Node, Unread, body_bytes, body_units, face, node_head};
+use bplist_cursor::{CursorFault, Face, Node, Unread, body_bytes, body_units, face, node_head};
 use bplist_objects::{Head, Kind};
 use bplist_octets::{Sink, Source};
 use std::alloc::{AllocError, Global};
@@ -42,12 +42,12 @@ pub(crate) fn raw_of<S: Source>(
     alloc: Global,
     checked: &mut Checked<S>,
     node: Node,
-) -> Result<Option<Raw>, RunFault>
-    ensures reads { OnlyReadsFile (read_failed result) checked.old checked.new }
+) -> Result<Option<Raw>, CursorFault>
+    ensures reads { OnlyReadsFile (cursor_read result) checked.old checked.new }
     ensures safe { IfOk result (λ found. IfSome found (IsSafeRaw (length checked.old.source.octets))) }
     ensures exact { IsTrue checked.old.source.honest → IsVouchedBy checked.old.certificate.heights node.object.0
         → (w : Value) → Holds checked.old.source.octets checked.old.frame node.object.0 w
-        → Gives (IsRawOf checked.old.source.octets w) result }
+        → GivesCursor (IsRawOf checked.old.source.octets w) result }
 {
     let head = node_head(checked, node)?;
     match head.kind {
@@ -87,12 +87,12 @@ fn is_paired<S: Source>(
     alloc: Global,
     checked: &mut Checked<S>,
     head: &Head,
-) -> Result<bool, RunFault>
+) -> Result<bool, CursorFault>
     requires kind { IsTextKind head.now.kind }
     requires head { IsSafeBody (length checked.old.source.octets) head.now }
-    ensures reads { OnlyReadsFile (read_failed result) checked.old checked.new }
+    ensures reads { OnlyReadsFile (cursor_read result) checked.old checked.new }
     ensures exact { IsTrue checked.old.source.honest
-        → Gives (λ paired. paired ≡ not (has_unpaired_surrogate (units_of checked.old.source.octets head.now))) result }
+        → GivesCursor (λ paired. paired ≡ not (has_unpaired_surrogate (units_of checked.old.source.octets head.now))) result }
 {
     let count = head.count;
     let mut buffer = [0; PART];

@@ -4,20 +4,22 @@
 ghost use Rattle.std.specs.Prelude.{ℕ, List, ◌≡◌, ◌↔◌, ◌∷◌, ◌++◌, ◌*◌, ◌+◌, ◌^◌, ◌<◌, ◌≤◌, [], IfOk, IfSome, IsTrue};
 ghost use Rattle.std.specs.Prelude.{OnOk, Some, MatchOption, MatchResult, codes, length, reverse};
 ghost use Rattle.bplist_octets.specs.Sending.{Takes};
+ghost use Rattle.bplist_cursor.specs.Causes.{GivesCursor, cursor_read};
 ghost use Rattle.bplist_cursor.specs.Found.{IsHeld};
 ghost use Rattle.bplint_engine.specs.Ls.{named_line};
 ghost use Rattle.bplint_engine.specs.Names.{Extends, IsNameIn, name_in};
-ghost use Rattle.bplint_engine.specs.Prelude.{Gives, IsContainer, IsHeadFor, IsLeaf, IsSafeHead, OnlyReadsFile, Value};
-ghost use Rattle.bplint_engine.specs.Prelude.{face_line, member_of, read_failed};
+ghost use Rattle.bplint_engine.specs.Prelude.{IsContainer, IsHeadFor, IsLeaf, OnlyReadsFile, Value};
+ghost use Rattle.bplint_engine.specs.Prelude.{face_line, read_failed};
 ghost use Rattle.bplint_engine.specs.Streams.{Fails, Puts, SendsAll, begun};
 ghost use Rattle.bplint_engine.specs.Tree.{joined_lines, tree_lines};
 ghost use Rattle.bplint_engine.specs.TreeWalks.{AreOpen, GoesOn, IsKept, IsMemberAt, IsOpen, StackLeft};
 
-use crate::ls::{Members, add_value, member_text, members_of};
+use crate::ls::add_value;
+use crate::members::{Members, member_node, member_text, members_of};
 use crate::names::{Name, Names};
 use bplint_lines::RunFault;
 use bplist_cert::Checked;
-use bplist_cursor::{Face, Node, face, member_by_head, node_head};
+use bplist_cursor::{CursorFault, Face, Node, face, node_head};
 use bplist_objects::Head;
 use bplist_octets::{Sink, Source};
 use std::alloc::{AllocError, Global};
@@ -211,15 +213,15 @@ fn name_member<S: Source>(
     checked: &mut Checked<S>,
     opened: &Opened,
     listing: &mut Listing,
-) -> Result<Named, RunFault>
+) -> Result<Named, CursorFault>
     requires stack { IsOpen checked.old.frame listing.old.names opened.now }
     requires within { opened.now.next < opened.now.count }
-    ensures reads { OnlyReadsFile (read_failed result) checked.old checked.new }
+    ensures reads { OnlyReadsFile (cursor_read result) checked.old checked.new }
     ensures rest { IsKept listing.old listing.new }
     ensures name { IfOk result (λ at. Extends listing.old.names listing.new.names opened.now.name at.name) }
     ensures exact { IsTrue checked.old.source.honest → (w : Value) → IsHeadFor checked.old opened.now.head w
         → IsContainer opened.now.members opened.now.count w
-        → Gives (IsMemberAt checked.old w (name_in listing.old.names opened.now.name) opened.now.next listing.new.names)
+        → GivesCursor (IsMemberAt checked.old w (name_in listing.old.names opened.now.name) opened.now.next listing.new.names)
         result }
 {
     match opened.members {
@@ -246,16 +248,16 @@ fn name_value<S: Source>(
     checked: &mut Checked<S>,
     opened: &Opened,
     listing: &mut Listing,
-) -> Result<Named, RunFault>
+) -> Result<Named, CursorFault>
     requires stack { IsOpen checked.old.frame listing.old.names opened.now }
     requires within { opened.now.next < opened.now.count }
     requires dict { opened.now.members ≡ Members.Dict }
-    ensures reads { OnlyReadsFile (read_failed result) checked.old checked.new }
+    ensures reads { OnlyReadsFile (cursor_read result) checked.old checked.new }
     ensures rest { IsKept listing.old listing.new }
     ensures name { IfOk result (λ at. Extends listing.old.names listing.new.names opened.now.name at.name) }
     ensures exact { IsTrue checked.old.source.honest → (w : Value) → IsHeadFor checked.old opened.now.head w
         → IsContainer opened.now.members opened.now.count w
-        → Gives (IsMemberAt checked.old w (name_in listing.old.names opened.now.name) opened.now.next listing.new.names)
+        → GivesCursor (IsMemberAt checked.old w (name_in listing.old.names opened.now.name) opened.now.next listing.new.names)
         result }
 {
     let i = opened.next;
@@ -265,19 +267,6 @@ fn name_value<S: Source>(
         .names
         .push_key(listing.alloc, opened.name, i, units.as_slice())?;
     Ok(Named { node, name })
-}
-
-/// Returns the node of member `i` of the object with this head.
-fn member_node<S: Source>(checked: &mut Checked<S>, head: &Head, i: u64) -> Result<Node, RunFault>
-    requires { IsSafeHead checked.old.frame head.now }
-    ensures reads { OnlyReadsFile (read_failed result) checked.old checked.new }
-    ensures exact { IsTrue checked.old.source.honest → (w m : Value) → IsHeadFor checked.old head.now w
-        → member_of w i ≡ Some m → Gives (λ node. IsHeld checked.old node.object.0 m) result }
-{
-    match member_by_head(checked, head, i)? {
-        Some(member) => Ok(member),
-        None => Err(RunFault::Changed),
-    }
 }
 
 impl Listing {

@@ -12,6 +12,8 @@ use Rattle.bplint_lines.specs.Faults.{IsExcused}
 use Rattle.bplist_objects.specs.Frame.{IsFrame}
 use Rattle.bplist_octets.specs.Sending.{Sending, SendsPart, SendsSome, Takes, TakesPart, IsOut}
 use Rattle.bplist_octets.proofs.SinkSteps.{out_end, out_part, out_start, out_takes, part_of_more, takes_then_part, takes_then_some}
+use Rattle.bplist_objects.specs.declared.fault.Failure.{Failure}
+use Rattle.bplist_objects.specs.declared.fault.Failure.TheVariants as failures
 use Rattle.bplint_lines.specs.declared.fault.RunFault.{RunFault}
 use Rattle.bplint_lines.specs.declared.fault.RunFault.TheVariants as faults
 use Rattle.bplint_map.specs.declared.object_order.ObjectOffset.{ObjectOffset}
@@ -146,6 +148,15 @@ pub excused_out : (f : List ℕ) (old : Option (List ℕ)) (fault : RunFault) �
 excused_out f old (faults.Read _) h = (tt, inl (kept_self old))
 excused_out f old faults.Memory h = (tt, inl (kept_self old))
 excused_out f old _ h = absurd h
+
+-- the fault of a run for a failure
+abbrev pub failure_fault : Failure → RunFault
+failure_fault (failures.Read fault) = faults.Read fault
+failure_fault failures.Memory = faults.Memory
+
+pub failed_out : (f : List ℕ) (old : Option (List ℕ)) (failure : Failure) → LeavesMap f old old (Err (failure_fault failure))
+failed_out f old (failures.Read fault) = excused_out f old (faults.Read fault) tt
+failed_out f old failures.Memory = excused_out f old faults.Memory tt
 
 module _ (f : List ℕ) (F : Frame) (frame : IsFrame f F) (verdict : Verdict) (linted : IsVerdict f verdict) (order : List ℕ) (by_place : IsByPlace f F order) where
   -- the map of the file

@@ -3,13 +3,11 @@
 ghost use Rattle.std.specs.Prelude.{◌≡◌, ℕ, List, ◌<◌, ◌≤◌, All, IfOk, map};
 ghost use Rattle.std.specs.List.{range_with_len};
 ghost use Rattle.bplist_octets.specs.Meaning.{OnlyReads};
+ghost use Rattle.bplist_objects.specs.Failures.{failed_to_read};
 ghost use Rattle.bplist_objects.specs.Framed.{HonestlyIn, frame_in};
-ghost use Rattle.bplint_lines.specs.Answers.{read_failed};
-ghost use Rattle.bplint_lines.specs.Faults.{Gives};
 ghost use Rattle.bplint_map.specs.Rows.{IsByPlace, placed};
 
-use bplint_lines::RunFault;
-use bplist_objects::{Framed, read_offsets_in};
+use bplist_objects::{Failure, Framed, read_offsets_in};
 use std::alloc::Global;
 
 /// The number of entries of the offset table that one read takes.
@@ -28,12 +26,12 @@ pub(crate) struct ObjectOffset {
 pub(crate) fn objects_in_order<P: Framed>(
     alloc: Global,
     src: &mut P,
-) -> Result<Vec<ObjectOffset>, RunFault>
-    ensures reads { OnlyReads (read_failed result) (P.means src.old) (P.means src.new) }
+) -> Result<Vec<ObjectOffset>, Failure>
+    ensures reads { OnlyReads (failed_to_read result) (P.means src.old) (P.means src.new) }
     ensures within { IfOk result (λ objects.
         All (λ object. object.number < (frame_in (P.means src.old)).objects) objects.items) }
-    ensures exact { HonestlyIn (P.means src.old) (λ f F. Gives (λ objects. (order : List ℕ) × IsByPlace f F order
-        × (objects.items ≡ map (placed f F) order)) result) }
+    ensures exact { HonestlyIn (P.means src.old) (λ f F. IfOk result (λ objects. (order : List ℕ) × IsByPlace f F order
+        × (objects.items ≡ map (placed f F) order))) }
 {
     let mut objects = objects_by_number(alloc, src)?;
     objects.sort_unstable();
@@ -45,14 +43,14 @@ fn add_block<P: Framed>(
     src: &mut P,
     from: u32,
     objects: &mut Vec<ObjectOffset>,
-) -> Result<u32, RunFault>
+) -> Result<u32, Failure>
     requires { from < (frame_in (P.means src.old)).objects }
-    ensures reads { OnlyReads (read_failed result) (P.means src.old) (P.means src.new) }
+    ensures reads { OnlyReads (failed_to_read result) (P.means src.old) (P.means src.new) }
     ensures next { IfOk result (λ next. (from < next) × (next ≤ (frame_in (P.means src.old)).objects)) }
     ensures within { All (λ object. object.number < (frame_in (P.means src.old)).objects) objects.old.items
         → IfOk result (λ _. All (λ object. object.number < (frame_in (P.means src.old)).objects) objects.new.items) }
     ensures exact { HonestlyIn (P.means src.old) (λ f F. objects.old.items ≡ map (placed f F) (range_with_len 0 from)
-        → Gives (λ next. objects.new.items ≡ map (placed f F) (range_with_len 0 next)) result) }
+        → IfOk result (λ next. objects.new.items ≡ map (placed f F) (range_with_len 0 next))) }
 {
     let count = (src.frame().objects - from).min(BLOCK as u32);
     let mut places = [0; BLOCK];
@@ -68,12 +66,12 @@ fn add_block<P: Framed>(
 }
 
 /// Returns the objects of a file, sorted by number.
-fn objects_by_number<P: Framed>(alloc: Global, src: &mut P) -> Result<Vec<ObjectOffset>, RunFault>
-    ensures reads { OnlyReads (read_failed result) (P.means src.old) (P.means src.new) }
+fn objects_by_number<P: Framed>(alloc: Global, src: &mut P) -> Result<Vec<ObjectOffset>, Failure>
+    ensures reads { OnlyReads (failed_to_read result) (P.means src.old) (P.means src.new) }
     ensures within { IfOk result (λ objects.
         All (λ object. object.number < (frame_in (P.means src.old)).objects) objects.items) }
     ensures exact { HonestlyIn (P.means src.old) (λ f F.
-        Gives (λ objects. objects.items ≡ map (placed f F) (range_with_len 0 F.objects)) result) }
+        IfOk result (λ objects. objects.items ≡ map (placed f F) (range_with_len 0 F.objects))) }
 {
     let count = src.frame().objects;
     let mut objects = Vec::with_capacity(alloc, count as usize)?;

@@ -3,9 +3,8 @@
 
 ghost use Rattle.std.specs.Prelude.{IsTrue, ◌≡◌, ℕ, List, ◌∷◌, ◌<◌, IfOk, is_err};
 ghost use Rattle.bplist_octets.specs.Meaning.{OnlyReads};
-ghost use Rattle.bplint_lines.specs.Answers.{read_failed};
-ghost use Rattle.bplint_lines.specs.Faults.{Gives};
 ghost use Rattle.bplint_map.specs.Map.{IsVerdict};
+ghost use Rattle.bplist_objects.specs.Failures.{failed_to_read};
 ghost use Rattle.bplist_objects.specs.Frame.{off};
 ghost use Rattle.bplist_objects.specs.Framed.{HonestlyIn, frame_in};
 ghost use Rattle.bplist_objects.specs.Heads.{HasShape};
@@ -15,9 +14,8 @@ ghost use Rattle.bplist_objects.specs.Safe.{IsSafeHead};
 ghost use Rattle.bplint_map.specs.Rows.{AreFindings, IsFinding, placed, rows};
 
 use crate::object_order::ObjectOffset;
-use bplint_lines::RunFault;
 use bplist_lint::{LintRefusal, lint};
-use bplist_objects::{Fault, Framed, Head, ObjectFault, ObjectNo, check_body, shape_in};
+use bplist_objects::{Failure, Fault, Framed, Head, ObjectFault, ObjectNo, check_body, shape_in};
 use bplist_octets::{ReadFault, Source};
 use std::alloc::Global;
 
@@ -33,16 +31,16 @@ pub(crate) enum Verdict {
 }
 
 /// Lints a file. Returns what the linter says of its objects.
-pub(crate) fn verdict_of<S: Source>(alloc: Global, src: &mut S) -> Result<Verdict, RunFault>
-    ensures reads { OnlyReads (read_failed result) (S.means src.old) (S.means src.new) }
-    ensures exact { IsTrue (S.means src.old).honest → Gives (IsVerdict (S.means src.old).octets) result }
+pub(crate) fn verdict_of<S: Source>(alloc: Global, src: &mut S) -> Result<Verdict, Failure>
+    ensures reads { OnlyReads (failed_to_read result) (S.means src.old) (S.means src.new) }
+    ensures exact { IsTrue (S.means src.old).honest → IfOk result (IsVerdict (S.means src.old).octets) }
 {
     match lint(alloc, src) {
         Ok(found) => Ok(Verdict::Heights(found.certificate.heights)),
         Err(LintRefusal::Fault(fault)) => Ok(Verdict::Fault(fault)),
         Err(LintRefusal::Circle(_)) => Ok(Verdict::Circle),
-        Err(LintRefusal::Read(fault)) => Err(RunFault::Read(fault)),
-        Err(LintRefusal::Memory) => Err(RunFault::Memory),
+        Err(LintRefusal::Read(fault)) => Err(Failure::Read(fault)),
+        Err(LintRefusal::Memory) => Err(Failure::Memory),
     }
 }
 

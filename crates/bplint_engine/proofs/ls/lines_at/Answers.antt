@@ -1,6 +1,6 @@
 use Rattle.std.proofs.lemmas.Result.{err_from_is_err_and}
+use Rattle.bplist_cursor.proofs.Causes.{unread_excused}
 use Rattle.bplist_cursor.proofs.Membership.{held_members}
-use Rattle.bplint_engine.proofs.MemberLines.{unread_excused}
 use Rattle.bplint_engine.proofs.ls.lines_at.Goals as goal
 
 pub members_of-requires : goal.members_of-requires

@@ -3,13 +3,13 @@ use Rattle.std.proofs.lemmas.Result.{err_from_is_err_and}
 use Rattle.bplint_lines.specs.declared.fault.Said.TheVariants.{All}
 use Rattle.bplint_engine.specs.Raw.{NodeShowsRaw, raw_in}
 use Rattle.bplint_engine.proofs.LeftBytes.{kept_self}
-use Rattle.bplint_engine.proofs.SentAnswers.{excused_leaves, some_failed}
+use Rattle.bplint_engine.proofs.SentAnswers.{cursor_leaves, some_failed}
 use Rattle.bplint_engine.proofs.raw.raw_node.Goals as goal
 
 pub returns-in_err-raw-clause-exact : goal.returns-in_err-raw-clause-exact
 returns-in_err-raw-clause-exact g c = λ honest vouched w holds.
     let p = err_from_is_err_and c.from_residual.result c.from_residual.ensures.1 in
-    rw (p.1, p.2) (excused_leaves (NodeShowsRaw w) _ _ (c.in_err-raw.ensures.exact honest vouched w holds))
+    rw (p.1, p.2) (cursor_leaves (NodeShowsRaw w) _ c.in_err-raw.field-0.0 (c.in_err-raw.ensures.exact honest vouched w holds))
 
 pub returns-in_err-send_raw-in-Some-clause-exact : goal.returns-in_err-send_raw-in-Some-clause-exact
 returns-in_err-send_raw-in-Some-clause-exact g c = λ honest vouched w holds.

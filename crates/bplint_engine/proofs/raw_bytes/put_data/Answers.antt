@@ -8,7 +8,7 @@ use Rattle.bplist_octets.specs.Sending.{Takes}
 use Rattle.bplist_octets.proofs.SinkSteps.{takes_more}
 use Rattle.bplist_ascii.proofs.WriteSteps.{parts_of}
 use Rattle.bplint_lines.specs.declared.fault.RunFault.TheVariants.{Write}
-use Rattle.bplint_engine.proofs.MemberLines.{unread_excused}
+use Rattle.bplint_engine.proofs.LowerFaults.{unread_excused}
 use Rattle.bplint_engine.proofs.Puts.{fails_behind, stopped_behind}
 use Rattle.bplint_engine.proofs.raw_bytes.put_data.Goals as goal
 

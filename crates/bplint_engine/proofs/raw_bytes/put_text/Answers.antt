@@ -7,7 +7,7 @@ use Rattle.bplist_objects.proofs.Units.{length-units_at}
 use Rattle.bplist_octets.specs.Sending.{Takes}
 use Rattle.bplist_octets.proofs.SinkSteps.{takes_more}
 use Rattle.bplint_lines.specs.declared.fault.RunFault.TheVariants.{Memory, Write}
-use Rattle.bplint_engine.proofs.MemberLines.{unread_excused}
+use Rattle.bplint_engine.proofs.LowerFaults.{unread_excused}
 use Rattle.bplint_engine.proofs.Puts.{fails_behind, stopped_behind}
 use Rattle.bplint_engine.proofs.ReadCharacters.{lone_in_part, read_end, read_on, utf8_append, utf8_of, utf8_parts, utf8_rest}
 use Rattle.bplint_engine.proofs.raw_bytes.put_text.Goals as goal

@@ -3,9 +3,9 @@ use Rattle.std.specs.Prelude.{option_map}
 use Rattle.std.proofs.lemmas.Result.{err_from_is_err_and}
 use Rattle.bplist_objects.specs.Units.{units_of}
 use Rattle.bplist_objects.proofs.Units.{text_kind}
+use Rattle.bplist_cursor.proofs.Causes.{unread_excused}
 use Rattle.bplist_cursor.proofs.Membership.{held_members}
 use Rattle.bplint_engine.specs.Raw.{raw_word}
-use Rattle.bplint_engine.proofs.MemberLines.{unread_excused}
 use Rattle.bplint_engine.proofs.RawForms.{data_raw, other_raw, paired_raw, text_raw}
 use Rattle.bplint_engine.proofs.ReadCharacters.{not_lone}
 use Rattle.bplint_engine.proofs.raw_bytes.raw_of.Goals as goal

@@ -1,6 +1,6 @@
-use Rattle.std.proofs.Common.{subst}
+use Rattle.std.proofs.Common.{arith, subst}
 use Rattle.std.proofs.Math.Logic.{∥∥₁_map}
-use Rattle.std.proofs.lemmas.Grind.{merely}
+use Rattle.std.proofs.lemmas.Grind.{common_steps, merely}
 use Rattle.bplint_lines.specs.Answers.{Leaves}
 use Rattle.bplint_engine.specs.Certify.{CertifySays}
 use Rattle.bplint_engine.specs.Commands.{Asked}
@@ -33,3 +33,6 @@ returns-in-Certify-clause-exact g c =
     let view = c.command.view_is in
     let made = c.certify_output.ensures.exact honest in
     rw (← view) (rw is (merely (sent (CertifySays _ _ (g.S.Source.means c.args.src).octets) 0 _ _ _ _ made c.send_made-in-Certify.ensures.sent)))
+
+pub print_answer-requires : goal.print_answer-requires
+print_answer-requires g c = grind (arith, common_steps)

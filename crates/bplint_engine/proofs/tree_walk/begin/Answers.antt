@@ -3,7 +3,7 @@ use Rattle.std.proofs.lemmas.Result.{err_from_is_err_and}
 use Rattle.bplist_cursor.proofs.Membership.{held_members}
 use Rattle.bplint_lines.specs.declared.fault.RunFault.TheVariants.{Memory}
 use Rattle.bplint_engine.specs.Names.{name_in}
-use Rattle.bplint_engine.proofs.MemberLines.{unread_excused}
+use Rattle.bplint_engine.proofs.LowerFaults.{unread_excused}
 use Rattle.bplint_engine.proofs.SinkLines.{line_fails, line_stopped}
 use Rattle.bplint_engine.proofs.TreeSteps.{begun_container}
 use Rattle.bplint_engine.specs.declared.tree_walk.Opened.{Opened}

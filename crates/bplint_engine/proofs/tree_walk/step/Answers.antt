@@ -9,7 +9,7 @@ use Rattle.bplint_engine.specs.declared.tree_walk.Opened.{Opened}
 use Rattle.bplint_engine.specs.Names.{name_in}
 use Rattle.bplint_engine.specs.Tree.{joined_lines, tree_lines}
 use Rattle.bplint_engine.specs.TreeWalks.{StackLeft}
-use Rattle.bplint_engine.proofs.Puts.{excused_stops}
+use Rattle.bplint_engine.proofs.Puts.{cursor_stops, excused_stops}
 use Rattle.bplint_engine.proofs.TreeSteps.{left_next, open_in_all, step_ends, step_goes}
 use Rattle.bplint_engine.proofs.tree_walk.step.Goals as goal
 
@@ -26,7 +26,7 @@ pub returns-in_err-at-clause-exact : goal.returns-in_err-at-clause-exact
 returns-in_err-at-clause-exact g c = λ honest left stands.
     let of = stands.2 in
     let p = err_from_is_err_and c.from_residual.result c.from_residual.ensures.1 in
-    rw (p.1, p.2) (λ few. excused_stops (g.W.Write.contents c.args.out.now) c.args.listing.now.sink (joined_lines left) _ (c.in_err-at.ensures.exact honest of.0 of.1 of.2))
+    rw (p.1, p.2) (λ few. cursor_stops (g.W.Write.contents c.args.out.now) c.args.listing.now.sink (joined_lines left) c.in_err-at.field-0.0 (c.in_err-at.ensures.exact honest of.0 of.1 of.2))
 
 pub returns-in_err-push-clause-exact : goal.returns-in_err-push-clause-exact
 returns-in_err-push-clause-exact g c = λ honest left stands.

@@ -1,4 +1,5 @@
-use Rattle.std.proofs.Common.{rules, ◌≡◌, Err}
+use Rattle.std.proofs.Common.{arith, rules, ◌≡◌, Err}
+use Rattle.std.proofs.lemmas.Grind.{common_steps}
 use Rattle.std.proofs.lemmas.Result.{err_from_is_err_and}
 use Rattle.bplint_lines.specs.declared.fault.RunFault.TheVariants.{Memory}
 use Rattle.bplint_engine.specs.Ls.{named_line}
@@ -18,3 +19,6 @@ returns-in_err-make_line-clause-exact g c = λ honest w held.
 
 pub members_of-requires : goal.members_of-requires
 members_of-requires g c = rw c.len-length.ensures c.in_ok-shown.ensures.room
+
+pub returns-clause-exact : goal.returns-clause-exact
+returns-clause-exact g c = grind (arith, common_steps)

@@ -3,7 +3,7 @@ use Rattle.std.proofs.lemmas.Result.{err_from_is_err_and}
 use Rattle.bplist_octets.specs.Meaning.{Meaning}
 use Rattle.bplist_objects.specs.Framed.{frame_in}
 use Rattle.bplint_map.proofs.Findings.{findings_of}
-use Rattle.bplint_map.proofs.MapText.{all_out, end_cut, excused_out, fault_out, map_cut}
+use Rattle.bplint_map.proofs.MapText.{all_out, end_cut, excused_out, failed_out, fault_out, map_cut}
 use Rattle.bplint_lines.specs.declared.fault.RunFault.TheVariants as faults
 use Rattle.bplint_map.proofs.map.map_on.Goals as goal
 
@@ -18,14 +18,12 @@ returns-in-Err-Read-clause-exact g c = λ honest. excused_out (g.S.Source.means 
 pub returns-in_err-verdict-clause-exact : goal.returns-in_err-verdict-clause-exact
 returns-in_err-verdict-clause-exact g c = λ honest.
     let p = err_from_is_err_and c.from_residual.result c.from_residual.ensures.1 in
-    let excused = rw c.in-Ok.ensures.reads at c.in_err-verdict.ensures.exact in
-    rw (p.1, p.2) (excused_out _ _ _ (excused honest))
+    rw (p.1, p.2) (failed_out _ _ c.in_err-verdict.field-0.0)
 
 pub returns-in_err-objects-clause-exact : goal.returns-in_err-objects-clause-exact
 returns-in_err-objects-clause-exact g c = λ honest.
     let p = err_from_is_err_and c.from_residual-in_err-objects.result c.from_residual-in_err-objects.ensures.1 in
-    let excused = rw (c.new-plist.ensures.means, c.in_ok-verdict.ensures.reads, c.in-Ok.ensures.reads) at c.in_err-objects.ensures.exact in
-    rw (p.1, p.2) (excused_out _ _ _ (excused honest))
+    rw (p.1, p.2) (failed_out _ _ c.in_err-objects.field-0.0)
 
 pub returns-in_err-put_map-clause-exact : goal.returns-in_err-put_map-clause-exact
 returns-in_err-put_map-clause-exact g c = λ honest.

@@ -1,4 +1,5 @@
-use Rattle.std.proofs.Common.{rules, ◌≡◌, [], Err, ap}
+use Rattle.std.proofs.Common.{arith, rules, ◌≡◌, [], Err, ap}
+use Rattle.std.proofs.lemmas.Grind.{common_steps}
 use Rattle.bplist_octets.specs.Sending.{Sending}
 use Rattle.bplist_ascii.specs.declared.printer.PrintFault.TheVariants.{Write}
 use Rattle.bplist_octets.proofs.SinkSteps.{cut_bounded}
@@ -32,3 +33,6 @@ returns-clause-bounded g c =
     let sent : c.new-sink.result.sent ≡ 0 = ap (λ (s : Sending). s.sent) c.new-sink.ensures in
     let held : c.new-sink.result.held ≡ [] = ap (λ (s : Sending). s.held) c.new-sink.ensures in
     most_of_flush _ _ _ c.new-sink.result c.print_into.new.sink c.flush.new.self c.args.limit sent held c.in_ok-print_into.ensures.fits c.in_ok-flush.ensures.taken
+
+pub returns-clause-exact : goal.returns-clause-exact
+returns-clause-exact g c = grind (arith, common_steps)

@@ -1,5 +1,5 @@
 use Rattle.std.proofs.Common.{◌≡◌, ap, length, slice_index, inr, arith}
-use Rattle.std.proofs.lemmas.Grind.{get_or_default_zero}
+use Rattle.std.proofs.lemmas.Grind.{common_steps, get_or_default_zero}
 use Rattle.std.proofs.lemmas.Result.{err_from_is_err_and}
 use Rattle.bplist_cert.specs.Lists.{Lists}
 use Rattle.bplist_cert.specs.Valid.{IsVouchedBy}
@@ -21,3 +21,6 @@ returns-in_err-check_objects-clause-exact g c = λ honest.
     let exact = (rw (c.new-plist.ensures.frame, c.new-plist.ensures.means, c.in_ok-frame.ensures.reads) at c.in_err-check_objects.ensures.exact) honest in
     let p = err_from_is_err_and c.from_residual-in_err-check_objects.result c.from_residual-in_err-check_objects.ensures.1 in
     rw (p.1, p.2) (refused_weaker _ _ c.in_err-check_objects.field-0.0 (λ fault h. inr (frame, c.in_ok-frame.ensures.exact honest, inr (count, top, h))) exact)
+
+pub returns-clause-exact : goal.returns-clause-exact
+returns-clause-exact g c = grind (arith, common_steps)

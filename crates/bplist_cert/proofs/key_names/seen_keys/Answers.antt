@@ -1,4 +1,5 @@
 use Rattle.std.proofs.Common.{◌≡◌, ◌∙◌, inl, inr, length, arith}
+use Rattle.std.proofs.lemmas.Grind.{common_steps}
 use Rattle.std.proofs.lemmas.List.{length-take-le}
 use Rattle.std.proofs.lemmas.Result.{err_from_is_err_and}
 use Rattle.bplist_objects.specs.Answers.{Never}
@@ -37,3 +38,6 @@ pub returns-clause-exact : goal.returns-clause-exact
 returns-clause-exact g c = λ honest seen given.
     let named = c.loop-done.invariant.named honest seen in
     (named.0, λ n low vouched. named.1 n (omega (arith, low, c.loop-done-test.false)) vouched)
+
+pub loop-done-init : goal.loop-done-init
+loop-done-init g c = grind (arith, common_steps)

@@ -1,4 +1,5 @@
-use Rattle.std.proofs.Common.{◌≡◌, ◌∷◌, ◌++◌, [], ap, ◌∙◌, slice_index_or}
+use Rattle.std.proofs.Common.{arith, ◌≡◌, ◌∷◌, ◌++◌, [], ap, ◌∙◌, slice_index_or}
+use Rattle.std.proofs.lemmas.Grind.{common_steps}
 use Rattle.std.proofs.lemmas.Result.{err_from_is_err_and}
 use Rattle.bplist_cursor.specs.Replies.{reply}
 use Rattle.bplist_cursor.proofs.FoundSteps.{excused_for, top_vouched}
@@ -30,3 +31,6 @@ loop-k-preserved g c = record {
       let more : c.push.new.self.items ≡ c.loop-k.replies.items ++ c.in_ok-told.told ∷ [] = c.in_ok-push.ensures.items in
       (told.1, more ∙ asked (reply v) c.loop-k.replies.items c.args.queries.now c.loop-k.k c.in_ok-told.told c.index-queries-k.result c.loop-k-test.true before.1 (told.0 ∙ ap (reply v) query));
 }
+
+pub returns-clause-exact : goal.returns-clause-exact
+returns-clause-exact g c = grind (arith, common_steps)

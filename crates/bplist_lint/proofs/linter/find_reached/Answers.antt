@@ -1,4 +1,5 @@
-use Rattle.std.proofs.Common.{◌∙◌, false, sym}
+use Rattle.std.proofs.Common.{arith, ◌∙◌, false, sym}
+use Rattle.std.proofs.lemmas.Grind.{common_steps}
 use Rattle.std.proofs.lemmas.Bool.{false≢true}
 use Rattle.bplist_objects.specs.declared.frame.Frame.{Frame}
 use Rattle.bplist_objects.specs.Framed.{frame_in}
@@ -19,3 +20,9 @@ returns-clause-exact g c = λ honest.
       record { marked = marked; childless = λ n is. absurd (false≢true (sym (unwritten F.objects n false) ∙ (rw childless at is))); tallied = tallied },
       rw named (all_named f F framed tallied.kept),
     )
+
+pub returns-clause-fits : goal.returns-clause-fits
+returns-clause-fits g c = grind (arith, common_steps)
+
+pub returns-clause-all_named : goal.returns-clause-all_named
+returns-clause-all_named g c = grind (arith, common_steps)

@@ -118,3 +118,6 @@ loop-m-preserved g c =
           rw (settled.states, settled.heights, settled.stack)
           (walking_settle _ _ _ _ _ _ m s w Founded _ (λ _. least_height _ _ _ _ _ _ m s w c.in-Founded.best shows.0 shows.1) (λ e. cc e));
     }
+
+pub loop-m-init : goal.loop-m-init
+loop-m-init g c = grind (arith, common_steps)

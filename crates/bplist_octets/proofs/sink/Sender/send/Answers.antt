@@ -1,4 +1,5 @@
 use Rattle.std.proofs.Common.{arith}
+use Rattle.std.proofs.lemmas.Grind.{common_steps}
 use Rattle.bplist_octets.proofs.SentParts.{sends_on}
 use Rattle.bplist_octets.proofs.sink.Sender.send.Goals as goal
 
@@ -11,3 +12,6 @@ loop-sent-preserved g c =
       counted = omega (arith, c.in_ok-sent.ensures.counted, v.counted);
       appended = more.1;
     }
+
+pub returns-clause-appended : goal.returns-clause-appended
+returns-clause-appended g c = grind (arith, common_steps)
