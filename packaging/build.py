@@ -4,9 +4,10 @@
 Proves and builds a crate and the crates below it, if they are older than their sources or than a crate below. A library becomes
 out/rlib/NAME.rlib in the folder of its crate, the C library out/libNAME.a, a program out/NAME.
 
-As in `rt ci`, a library hands on its statements alone, without the proofs. Unlike `rt ci`, the script shares the processors
-out to the crates that are next, builds a program once, and works in the folders of the crates. It runs no test, and its proofs do
-not count for the gate. It prints a line for each crate, or what the prover says if it refuses one; then the exit status is 1.
+As in `rt ci`, a library hands on its statements alone, without the proofs, and is refused if a tactic chose a term that a crate
+above may read. Unlike `rt ci`, the script shares the processors out to the crates that are next, builds a program once, and
+works in the folders of the crates. It runs no test, and its proofs do not count for the gate. It prints a line for each crate, or
+what the prover says if it refuses one; then the exit status is 1.
 """
 import concurrent.futures
 import dataclasses
@@ -20,6 +21,7 @@ import time
 
 ROOT = pathlib.Path(__file__).resolve().parents[1]
 TARGET = "x86_64-unknown-linux-gnu"
+CHOSEN = re.compile(r"^(?:\./)?proofs/\S+ note: `\S+` has chosen a term.*\n", re.M)
 
 
 @dataclasses.dataclass(frozen=True)
@@ -36,6 +38,10 @@ class Crate:
     @property
     def is_program(self):
         return (self.folder / "src/main.rt").exists()
+
+    @property
+    def is_library(self):
+        return not self.is_program and not self.is_static
 
     @property
     def made(self):
@@ -115,13 +121,17 @@ def run(words, crate):
 def build(crate, jobs, kit):
     """Proves and builds a crate, and returns whether it could."""
     begin = time.monotonic()
-    if not crate.is_program and not crate.is_static:
+    if crate.is_library:
         shutil.rmtree(crate.made.parent, ignore_errors=True)  # with the mark of `rt` that the library is its own
     crate.made.parent.mkdir(parents=True, exist_ok=True)
     status, said = run(command(crate, jobs, kit), crate)
     if status < 0 and jobs > 1:  # killed, most likely for memory
         status, said = run(command(crate, 1, kit), crate)
     functions = re.search(r"^logic=proved functions=(\d+)", said, re.M)
+    chosen = CHOSEN.search(said)
+    if not status and crate.is_library and chosen:
+        shutil.rmtree(crate.made)
+        status, said = 1, chosen[0]
     if not status and crate.is_program:
         status, said = run(link(crate, kit), crate)
     if status:

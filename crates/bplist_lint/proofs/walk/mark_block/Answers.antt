@@ -57,6 +57,3 @@ loop-number-preserved c =
         noted = note_old _ _ _ _ _ _ _ i.noted (subst (IsMarked c.loop-number.worklist.marks.items) is (sym read ∙ w.if-not-index.false));
       })
     ]
-
-pub returns-clause-reads : goal.returns-clause-reads
-returns-clause-reads g c = grind (arith, common_steps)
