@@ -1,16 +1,17 @@
 ## bplint: `rt` of the kit proves and builds; python3 runs the tests on what is built.
 ##
 ##   make build          proves and builds the program, crates/bplint/out/bplint; half an hour the first time
-##   make look FILE=F    lints F with the program unproved, in a minute and a half
+##   make look FILE=F    lints F with the program as it is built, or if a source is newer, unproved, in a minute and a half
 ##   make lib            proves and builds the C library, into crates/bplist_c/out
 ##   make wheel          the Python package for pip, with the library in it, into dist/
 ##   make dist           archive, Debian packages, wheel and SHA256SUMS, into dist/
 ##   make install        program, manual page, completions, C library, header and bplist.pc, below PREFIX
 ##   make uninstall      removes all of it; give it the same words as install
-##   make check          for every day: proves what changed, builds it and runs the quick tests; three minutes and the proofs
+##   make check          for every day: `make build lib` and the quick tests; three minutes and the proofs of what changed
 ##   make gate           runs every test, as .ci/run does, before a push; `make test` is the same
 ##   make edits          tries every must-fail edit, also those that the gate leaves out
-##   make bench          times program and library
+##   make fuzz CASES=N   all calls of the Python package on N changed files, with ASAN and UBSAN
+##   make bench          times program and library, and writes docs/BENCHMARKS.md; ten minutes on a quiet machine
 ##   make clean          removes what was built
 ##
 ## PREFIX is /usr/local. DESTDIR, bindir, libdir, includedir, datadir, mandir, INSTALL, CC, AR, LD and LDFLAGS mean what they
@@ -24,11 +25,14 @@ DIST = dist
 # functions.
 LIBRARY = crates/bplist_c/out
 SONAME = libbplist.so.0
-IN_PLACE = $(addprefix bplist_,octets objects keys cert lint cursor ascii c) $(addprefix bplint_,lines map engine)
 HEAP = $(dir $(shell rt doc))c/liblibc_c.a
 
-# What is built is at least as new as these.
-SOURCES := crates.txt HANDLES $(shell find crates -name out -prune -o -type f -print)
+# What is built is at least as new as these files and folders. The crates of tests and examples are not among them.
+PARTS = $(foreach part,src specs proofs,$(filter-out $(addprefix crates/,bplist_calls/% bplist_samples/% bplint_tests/% \
+  examples/%),$(wildcard crates/*/$(part))))
+SOURCES := crates.txt HANDLES $(if $(PARTS),$(shell find $(PARTS)))
+PROGRAM_SOURCES = $(filter-out crates/bplist_c/%,$(SOURCES))
+LIBRARY_SOURCES = $(filter-out crates/bplint%,$(SOURCES)) bplist.map
 
 # The Python that builds the wheel and runs its tests: Debian's, which python3-dev gives headers, setuptools and wheel.
 PYTHON = /usr/bin/python3
@@ -49,35 +53,44 @@ below = $(patsubst $(PREFIX)/%,$${prefix}/%,$(1))
 
 INSTALLED = $(addprefix $(DESTDIR),$(bindir)/bplint $(mandir)/man1/bplint.1 $(bashdir)/bplint $(zshdir)/_bplint \
   $(fishdir)/bplint.fish $(includedir)/bplist.h $(libdir)/libbplist.a $(libdir)/$(SONAME) $(libdir)/libbplist.so \
-  $(pkgconfigdir)/bplist.pc)
+  $(pkgconfigdir)/bplist.pc $(datadir)/bplint/problem-matcher.json)
 # The folders that `make install` made.
 MADE = $(DESTDIR)$(datadir)/bplint/folders
 FOLDERS = $(sort $(patsubst %/,%,$(dir $(INSTALLED) $(MADE))))
 
-.PHONY: build help look lib in-place link-lib wheel test-wheel dist install uninstall check gate test edits bench clean
+.PHONY: build help look lib link-lib wheel pack-wheel test-wheel dist install uninstall check gate test edits fuzz bench clean
 
 build: $(BPLINT)
 
-$(BPLINT): $(SOURCES)
-	python3 -B packaging/build.py bplint
+NEED_RT = @command -v rt >/dev/null || { echo 'rt is not on PATH: install the Rattle kit, as README.md says' >&2; exit 1; }
+
+# `rt` builds the crates below first. It proves only what changed since it last proved them, by this or another command.
+$(BPLINT): $(PROGRAM_SOURCES)
+	$(NEED_RT)
+	cd crates/bplint && rt run -- --version
+	@touch $@
 
 help:
 	@sed -n 's/^## \{0,1\}//p' $(firstword $(MAKEFILE_LIST))
 
+# `rt try` keeps no program, so only the proved one serves for a second file.
 look:
-	@test -f '$(FILE)' || { echo 'make look FILE=F: F is the file to lint' >&2; exit 2; }
-	@file=$$(realpath '$(FILE)') && cd crates/bplint && rt try --data Info.plist="$$file" -- lint Info.plist
+	@test -f '$(FILE)' || { echo "make look FILE=F: there is no file '$(FILE)'" >&2; exit 2; }
+	$(NEED_RT)
+	@file=$$(realpath '$(FILE)'); status=0; \
+	if $(MAKE) -q --no-print-directory $(BPLINT) 2>/dev/null; then \
+	  echo 'make look: by $(BPLINT), which is proved and newer than its sources'; $(BPLINT) lint "$$file" || status=$$?; \
+	else \
+	  echo 'make look: compiles the program unproved, which takes a minute or two. After `make build` it need not'; \
+	  cd crates/bplint && rt try --data Info.plist="$$file" -- lint Info.plist || status=$$?; \
+	fi; \
+	echo "make look: bplint lint $(FILE) ended with status $$status"; exit $$status
 
 lib: $(LIBRARY)/libbplist.a
 
-$(LIBRARY)/libbplist.a: $(SOURCES) bplist.map
-	python3 -B packaging/build.py bplist_c
-	$(MAKE) link-lib
-
-# With `rt lib`: one crate after the other, but of a crate that it proved before only the functions that changed.
-in-place:
-	for crate in $(IN_PLACE); do (cd crates/$$crate && rt lib) || exit; done
-	cd crates/bplint && rt run -- --version
+$(LIBRARY)/libbplist.a: $(LIBRARY_SOURCES)
+	$(NEED_RT)
+	cd crates/bplist_c && rt lib
 	$(MAKE) link-lib
 
 # From what is proved and built.
@@ -90,8 +103,11 @@ link-lib:
 	  -Wl,--version-script=bplist.map -Wl,-z,relro,-z,now -Wl,--no-undefined $(LDFLAGS)
 	cp -f $(LIBRARY)/$(SONAME) $(LIBRARY)/libbplist.so
 
+wheel: lib
+	$(MAKE) pack-wheel
+
 # From the library as it is built. pip leaves folders in the one that it builds in, so that it gets a copy.
-wheel:
+pack-wheel:
 	mkdir -p $(DIST) && rm -f $(DIST)/bplist-*.whl
 	@umask 022; copy=$$(mktemp -d) && trap 'rm -rf "$$copy"' EXIT && cp -r python include VERSION "$$copy" && \
 	  cp LICENSE "$$copy/python" && \
@@ -99,18 +115,18 @@ wheel:
 	  --no-index --no-deps --no-build-isolation --no-cache-dir -w $(DIST) "$$copy/python"
 
 # The package's tests, over the wheel in a folder of its own.
-test-wheel: wheel
+test-wheel: pack-wheel
 	$(PYTHON) -B tests/gate/python_package.py $(DIST)/bplist-*.whl
 
 # What is made depends on the commit and its date alone; outside a clone it is the date of today.
-dist wheel: export SOURCE_DATE_EPOCH ?= $(or $(shell git log -1 --format=%ct 2>/dev/null),$(shell date +%s))
+dist pack-wheel: export SOURCE_DATE_EPOCH ?= $(or $(shell git log -1 --format=%ct 2>/dev/null),$(shell date +%s))
 
 dist: build lib
-	$(MAKE) wheel
+	$(MAKE) pack-wheel
 	packaging/dist.sh $(DIST)
 
 # The parts of both stand in .ci/run.
-check: in-place
+check: build lib
 	cd crates/bplist_calls && rt run <stdin >/dev/null
 	.ci/run --daily
 
@@ -120,9 +136,11 @@ gate test:
 edits: build
 	python3 -B tests/gate/edits.py --all
 
+fuzz: lib
+	$(PYTHON) -B tests/gate/fuzz_python.py --cases $(or $(CASES),1000000) --seed $(or $(SEED),2)
+
 bench: build lib wheel
-	python3 -B tests/benchmarks/bench.py $(BPLINT)
-	$(PYTHON) -B tests/benchmarks/bench_library.py $(LIBRARY) $(DIST)/bplist-*.whl
+	$(PYTHON) -B tests/benchmarks/page.py $(BPLINT) $(LIBRARY) $(DIST)/bplist-*.whl
 
 install: build lib
 	@made=$$(for folder in $(FOLDERS); do \
@@ -133,6 +151,7 @@ install: build lib
 	$(INSTALL) -m 644 completions/bplint.bash $(DESTDIR)$(bashdir)/bplint
 	$(INSTALL) -m 644 completions/_bplint $(DESTDIR)$(zshdir)/_bplint
 	$(INSTALL) -m 644 completions/bplint.fish $(DESTDIR)$(fishdir)/bplint.fish
+	$(INSTALL) -m 644 packaging/problem-matcher.json $(DESTDIR)$(datadir)/bplint/problem-matcher.json
 	$(INSTALL) -m 644 include/bplist.h $(DESTDIR)$(includedir)/bplist.h
 	$(INSTALL) -m 644 $(LIBRARY)/libbplist.a $(DESTDIR)$(libdir)/libbplist.a
 	$(INSTALL) -m 755 $(LIBRARY)/$(SONAME) $(DESTDIR)$(libdir)/$(SONAME)

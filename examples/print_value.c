@@ -42,12 +42,13 @@ static int refuse(const char *name, bplist_status status, const bplist_verdict *
     uint64_t count;
 
     if (status != BPLIST_FAULT) {
-        bplist_status_text(status, text, sizeof text - 1, &count);
-        fprintf(stderr, "%s: %s\n", name, text);
+        if (bplist_status_text(status, text, sizeof text - 1, &count) == BPLIST_OK)
+            fprintf(stderr, "%s: %s\n", name, text);
         return 4;
     }
-    bplist_rule_name(verdict->rule, rule, sizeof rule - 1, &count);
-    bplist_rule_text(verdict->rule, text, sizeof text - 1, &count);
+    if (bplist_rule_name(verdict->rule, rule, sizeof rule - 1, &count) != BPLIST_OK
+        || bplist_rule_text(verdict->rule, text, sizeof text - 1, &count) != BPLIST_OK)
+        return 4;
     fprintf(stderr, "%s: breaks rule %" PRIu32 " (%s)", name, verdict->rule, rule);
     if (verdict->has_object)
         fprintf(stderr, " at object %" PRIu32, verdict->object);

@@ -33,12 +33,13 @@
  *   prints, exits, or keeps a pointer that it was given.
  *
  * WHAT THE CALLER MUST ENSURE
- *   1. No pointer is NULL. Each pointer points to as many elements as the call says,
- *      and nobody else writes to them during the call. If that number is 0, it may
- *      point anywhere. Memory that the call writes to does not overlap any other
- *      memory that is passed to the call.
+ *   1. Each pointer points to as many elements as the call says, and nobody else writes
+ *      to them during the call. If that number is 0, the pointer may be NULL or point
+ *      anywhere; otherwise it is not NULL. Memory that the call writes to does not
+ *      overlap any other memory that is passed to the call.
  *   2. A handle is all zeros before it is opened for the first time. Only the calls
- *      below change it. It is not used after a copy of it was passed to a call.
+ *      below change it. It may be moved, but not copied: if its two members are copied
+ *      to other memory, only the copy is used from then on.
  *   3. The file passed with an open handle is the file that was opened: the same bytes,
  *      at the same or at another place in memory. (If the length differs, the call
  *      returns BPLIST_OTHER_FILE.)
@@ -46,6 +47,19 @@
  *      handler, or in the child of a fork() of a process with threads.
  *   Everything else may be passed: any bytes as file, certificate or path, a closed
  *   handle, an object number that does not exist, a buffer that is too short.
+ *
+ * A FILE THAT CHANGES
+ *   The proofs cover a file that keeps conditions 1 and 3. If another thread or process
+ *   writes to its bytes, as to those of a mapped file, before or during a call, then
+ *   tests show what is still so. Every call may be used. It returns, frees what it took,
+ *   and reads and writes only inside what it is given. Its answer may be that of the old
+ *   bytes, of the new ones, or of a mixture of both. Or there is none, and the status is
+ *   BPLIST_OTHER_FILE or another that the call can return. With BPLIST_OK a count is at
+ *   most the room, a body ends within the file, and the top of a verdict is below the
+ *   number of objects. An object number that a call gives may be one that does not exist;
+ *   the other calls then return BPLIST_NO_OBJECT. Calls on a handle do not find out that
+ *   the bytes have changed: to check them again, close the handle and open it again.
+ *   If a mapped file becomes shorter, a read past its new end raises SIGBUS.
  *
  * THREADS
  *   The proofs cover one thread. A caller with several threads must also ensure:
@@ -69,17 +83,24 @@
 extern "C" {
 #endif
 
-/* The version of this header: 0.3.0. */
+/* The version of this header: 0.4.0. */
 #define BPLIST_VERSION_MAJOR 0
-#define BPLIST_VERSION_MINOR 3
+#define BPLIST_VERSION_MINOR 4
 #define BPLIST_VERSION_PATCH 0
-#define BPLIST_VERSION "0.3.0"
+#define BPLIST_VERSION "0.4.0"
 
-/* The version as one number, for comparing versions: 0x000300. */
+/* The version as one number, for comparing versions: 0x000400. */
 #define BPLIST_VERSION_NUM (BPLIST_VERSION_MAJOR << 16 | BPLIST_VERSION_MINOR << 8 | BPLIST_VERSION_PATCH)
 
-/* The status that a call returns. */
+/* The status that a call returns. Compilers that can, warn if a program ignores it; not for
+   bplist_close, which frees everything in each case. */
 typedef uint32_t bplist_status;
+
+#if defined(__GNUC__)
+#define BPLIST_LOOK_AT __attribute__((__warn_unused_result__))
+#else
+#define BPLIST_LOOK_AT
+#endif
 
 enum {
     /* The answer is in the outputs. */
@@ -93,9 +114,11 @@ enum {
     BPLIST_CLOSED = 3,
     /* The handle to open is already open. */
     BPLIST_OPENED = 4,
-    /* The file is not the one that was opened. */
+    /* The file has changed, or is not the one that was opened. */
     BPLIST_OTHER_FILE = 5,
-    /* The object number does not exist, or the object is not reachable from the top. */
+    /* The file has no checked object with that number. bplist_open checks the objects that
+       are reachable from the top, and bplist_open_certified those that the certificate
+       gives a height. */
     BPLIST_NO_OBJECT = 6,
     /* The object is not of the kind that the call needs. */
     BPLIST_OTHER_KIND = 7,
@@ -235,9 +258,12 @@ typedef struct bplist_written {
  * Decides whether a file holds a value. Returns BPLIST_OK, BPLIST_FAULT or
  * BPLIST_MEMORY, and writes `out` in each case. If it returns BPLIST_FAULT, bplist_open
  * refuses the file too, and so does bplist_open_certified with any certificate. Takes
- * memory in proportion to the number of objects.
+ * memory in proportion to the number of objects. BPLIST_OTHER_FILE: somebody has changed
+ * the file during the call; `out` is all zeros. The two calls that open a file can return
+ * it too, and the handle is then closed.
  */
-bplist_status bplist_lint(const uint8_t *file, size_t length, bplist_verdict *out);
+bplist_status bplist_lint(const uint8_t *file, size_t length, bplist_verdict *out)
+    BPLIST_LOOK_AT;
 
 /*
  * Lists the objects of the circle for which bplist_lint refuses a file (rule 23). Each
@@ -249,7 +275,21 @@ bplist_status bplist_lint(const uint8_t *file, size_t length, bplist_verdict *ou
  * BPLIST_MEMORY. This call lints the file.
  */
 bplist_status bplist_circle(const uint8_t *file, size_t length, uint32_t *objects, size_t room,
-                            uint64_t *count);
+                            uint64_t *count)
+    BPLIST_LOOK_AT;
+
+/*
+ * Writes what a file looks like that is no sound property list, for example "an XML
+ * property list" or "1 byte too many after a trailer at 289": at most 200 bytes of ASCII,
+ * written like a name by bplist_rule_name. It is a guess by a few bytes. The call reads
+ * the first and the last 4,096 bytes, and more only where these are zeros alone.
+ *
+ * `*count` is 0 if that is not known, and for each file with a right header, trailer and
+ * offset table. BPLIST_SHORT. BPLIST_MEMORY.
+ */
+bplist_status bplist_looks_like(const uint8_t *file, size_t length, char *words, size_t room,
+                                uint64_t *count)
+    BPLIST_LOOK_AT;
 
 /*
  * Writes the name of a rule, 1 to 32, for example "Marker", to the first `*count` of
@@ -258,21 +298,24 @@ bplist_status bplist_circle(const uint8_t *file, size_t length, uint32_t *object
  * BPLIST_SHORT: the name has `*count` letters, more than `room`, and none was written.
  * BPLIST_NO_RULE.
  */
-bplist_status bplist_rule_name(uint32_t rule, char *name, size_t room, uint64_t *count);
+bplist_status bplist_rule_name(uint32_t rule, char *name, size_t room, uint64_t *count)
+    BPLIST_LOOK_AT;
 
 /*
  * Writes what a rule, 1 to 32, requires of a file, for example "The keys of a dictionary
  * differ.": one sentence of at most 200 bytes of ASCII, written like a name by
  * bplist_rule_name. BPLIST_SHORT, BPLIST_NO_RULE.
  */
-bplist_status bplist_rule_text(uint32_t rule, char *text, size_t room, uint64_t *count);
+bplist_status bplist_rule_text(uint32_t rule, char *text, size_t room, uint64_t *count)
+    BPLIST_LOOK_AT;
 
 /*
  * Writes what a status means, for example "The handle is closed.": one sentence of at
  * most 200 bytes of ASCII, written like a name by bplist_rule_name. BPLIST_SHORT.
  * BPLIST_NO_STATUS: `status` is not one of BPLIST_OK to BPLIST_NO_STATUS.
  */
-bplist_status bplist_status_text(bplist_status status, char *text, size_t room, uint64_t *count);
+bplist_status bplist_status_text(bplist_status status, char *text, size_t room, uint64_t *count)
+    BPLIST_LOOK_AT;
 
 /* Returns the version of the library: BPLIST_VERSION_NUM of the header it was built with. */
 uint32_t bplist_version(void);
@@ -287,7 +330,8 @@ uint32_t bplist_version(void);
  * `out` in each case.
  */
 bplist_status bplist_open(bplist_handle *handle, const uint8_t *file, size_t length, bool sorted,
-                          bplist_verdict *out);
+                          bplist_verdict *out)
+    BPLIST_LOOK_AT;
 
 /*
  * Opens a file with a certificate, as `bplint certify` or bplist_certificate writes it.
@@ -298,7 +342,8 @@ bplist_status bplist_open(bplist_handle *handle, const uint8_t *file, size_t len
  */
 bplist_status bplist_open_certified(bplist_handle *handle, const uint8_t *file, size_t length,
                                     const uint8_t *certificate, size_t certificate_length,
-                                    bool sorted, bplist_verdict *out);
+                                    bool sorted, bplist_verdict *out)
+    BPLIST_LOOK_AT;
 
 /*
  * Closes a handle and frees what it holds. The handle is then all zeros, and may be
@@ -315,13 +360,14 @@ bplist_status bplist_close(bplist_handle *handle);
  * written. BPLIST_CLOSED. BPLIST_MEMORY.
  */
 bplist_status bplist_certificate(bplist_handle *handle, uint8_t *buffer, size_t room,
-                                 uint64_t *count);
+                                 uint64_t *count)
+    BPLIST_LOOK_AT;
 
 /*
  * For the calls below, `handle` is open, and `file` of `length` bytes is the file that
  * it was opened with. Each call can return BPLIST_CLOSED or BPLIST_OTHER_FILE, and leaves
- * the handle unchanged. BPLIST_NO_OBJECT: the object number does not exist, or the object
- * is not reachable from the top and was therefore not checked.
+ * the handle unchanged. BPLIST_NO_OBJECT: the file has no checked object with that number.
+ * A call whose description names no memory takes none.
  */
 
 /*
@@ -329,7 +375,9 @@ bplist_status bplist_certificate(bplist_handle *handle, uint8_t *buffer, size_t 
  * Pointer (RFC 6901) of `path_length` bytes of UTF-8. The empty path leads to the top.
  * Otherwise each step is a '/' and a key, or a '/' and an index of an array in decimal
  * digits. "~0" stands for '~', and "~1" for '/'. Takes memory in proportion to the length
- * of the path.
+ * of the path. In each dictionary it compares the key with all keys, one by one, up to the
+ * one that it finds. If the handle has sorted keys, it compares with as many as the count
+ * of the dictionary has binary digits.
  *
  * BPLIST_OK: the object is `out->object`. BPLIST_NO_KEY, BPLIST_NO_INDEX,
  * BPLIST_NOT_STEPPABLE: step `out->step` fails. BPLIST_PATH_TEXT: the path text is wrong
@@ -337,44 +385,51 @@ bplist_status bplist_certificate(bplist_handle *handle, uint8_t *buffer, size_t 
  * BPLIST_NOT_UTF8. BPLIST_MEMORY.
  */
 bplist_status bplist_find(bplist_handle *handle, const uint8_t *file, size_t length,
-                          const char *path, size_t path_length, bplist_found *out);
+                          const char *path, size_t path_length, bplist_found *out)
+    BPLIST_LOOK_AT;
 
 /*
  * Takes one step from an object. For a dictionary the step is a key: `count` UTF-16
  * units at `units`, which may be any units. For an array it is an index in decimal digits.
+ * Compares as many keys as bplist_find.
  *
  * BPLIST_OK: `*out` is the object of the value or member. BPLIST_NO_KEY, BPLIST_NO_INDEX,
  * BPLIST_NOT_STEPPABLE, BPLIST_NO_OBJECT.
  */
 bplist_status bplist_find_key(bplist_handle *handle, const uint8_t *file, size_t length,
                               uint32_t object, const uint16_t *units, size_t count,
-                              uint32_t *out);
+                              uint32_t *out)
+    BPLIST_LOOK_AT;
 
 /*
  * Gives the kind of an object, and the count, place and length of its body. The bytes of
  * a real, a date, data or a text are in the file from `place` on. BPLIST_NO_OBJECT.
  */
 bplist_status bplist_face(bplist_handle *handle, const uint8_t *file, size_t length,
-                          uint32_t object, bplist_body *out);
+                          uint32_t object, bplist_body *out)
+    BPLIST_LOOK_AT;
 
 /*
  * Gives the same of each of `object_count` objects: body k is that of object k. Writes as
  * many as there are and as fit to the first `*count` of the `room` elements at `bodies`,
- * and leaves the other elements unchanged. The members of a body are all 0 if the object
- * number does not exist, or if the object is not reachable from the top. With
- * bplist_members, a caller walks a tree with two calls for each block of members.
+ * and leaves the other elements unchanged. The members of a body are all 0 if the file has
+ * no checked object with that number. With bplist_members, a caller walks a tree with two
+ * calls for each block of members.
  */
 bplist_status bplist_faces(bplist_handle *handle, const uint8_t *file, size_t length,
                            const uint32_t *objects, size_t object_count, bplist_body *bodies,
-                           size_t room, uint64_t *count);
+                           size_t room, uint64_t *count)
+    BPLIST_LOOK_AT;
 
 /* Gives the value of a BPLIST_INT. BPLIST_OTHER_KIND, BPLIST_NO_OBJECT. */
 bplist_status bplist_int(bplist_handle *handle, const uint8_t *file, size_t length,
-                         uint32_t object, bplist_integer *out);
+                         uint32_t object, bplist_integer *out)
+    BPLIST_LOOK_AT;
 
 /* Gives the value of a BPLIST_UID. BPLIST_OTHER_KIND, BPLIST_NO_OBJECT. */
 bplist_status bplist_uid(bplist_handle *handle, const uint8_t *file, size_t length,
-                         uint32_t object, uint32_t *out);
+                         uint32_t object, uint32_t *out)
+    BPLIST_LOOK_AT;
 
 /*
  * Gives the object of member `i`, counted from 0. Members of an array or a set are in the
@@ -386,7 +441,8 @@ bplist_status bplist_uid(bplist_handle *handle, const uint8_t *file, size_t leng
  * BPLIST_NO_OBJECT.
  */
 bplist_status bplist_member(bplist_handle *handle, const uint8_t *file, size_t length,
-                            uint32_t object, uint64_t i, uint32_t *out);
+                            uint32_t object, uint64_t i, uint32_t *out)
+    BPLIST_LOOK_AT;
 
 /*
  * Gives the objects of the members from number `from` on, in the order of bplist_member.
@@ -396,7 +452,8 @@ bplist_status bplist_member(bplist_handle *handle, const uint8_t *file, size_t l
  */
 bplist_status bplist_members(bplist_handle *handle, const uint8_t *file, size_t length,
                              uint32_t object, uint64_t from, uint32_t *objects, size_t room,
-                             uint64_t *count);
+                             uint64_t *count)
+    BPLIST_LOOK_AT;
 
 /*
  * Reads the bytes of an object's body from byte `from` on, as they are in the file.
@@ -405,7 +462,8 @@ bplist_status bplist_members(bplist_handle *handle, const uint8_t *file, size_t 
  */
 bplist_status bplist_read(bplist_handle *handle, const uint8_t *file, size_t length,
                           uint32_t object, uint64_t from, uint8_t *bytes, size_t room,
-                          uint64_t *count);
+                          uint64_t *count)
+    BPLIST_LOOK_AT;
 
 /*
  * Reads the units of a text, a BPLIST_ASCII or a BPLIST_WIDE, from unit `from` on, in the
@@ -414,14 +472,16 @@ bplist_status bplist_read(bplist_handle *handle, const uint8_t *file, size_t len
  */
 bplist_status bplist_units(bplist_handle *handle, const uint8_t *file, size_t length,
                            uint32_t object, uint64_t from, uint16_t *units, size_t room,
-                           uint64_t *count);
+                           uint64_t *count)
+    BPLIST_LOOK_AT;
 
 /*
  * Measures the value of an object. Looks at every object of the file once, and takes
  * memory in proportion to their number. BPLIST_NO_OBJECT. BPLIST_MEMORY.
  */
 bplist_status bplist_size(bplist_handle *handle, const uint8_t *file, size_t length,
-                          uint32_t object, bplist_sizes *out);
+                          uint32_t object, bplist_sizes *out)
+    BPLIST_LOOK_AT;
 
 /*
  * Writes the old-style text of the value of an object to the first `out->length` of the
@@ -436,7 +496,8 @@ bplist_status bplist_size(bplist_handle *handle, const uint8_t *file, size_t len
  * depth of the value and, if the text fits, to its length.
  */
 bplist_status bplist_text(bplist_handle *handle, const uint8_t *file, size_t length,
-                          uint32_t object, char *buffer, size_t room, bplist_written *out);
+                          uint32_t object, char *buffer, size_t room, bplist_written *out)
+    BPLIST_LOOK_AT;
 
 #ifdef __cplusplus
 }

@@ -1,6 +1,8 @@
 """Builds the extension module with the C library libbplist.a from the folder that BPLIST_LIBRARY names."""
 import os
 import pathlib
+import sys
+import sysconfig
 
 from setuptools import Extension, setup
 from wheel.bdist_wheel import bdist_wheel
@@ -12,13 +14,16 @@ LIBRARY = pathlib.Path(os.environ.get("BPLIST_LIBRARY", ROOT / "crates/bplist_c/
 PYTHON = (3, 10)
 GLIBC = "2_14"
 
+if sysconfig.get_config_var("Py_GIL_DISABLED"):
+    sys.exit("bplist does not support free-threaded Python: its module needs the GIL")
+
 
 class Wheel(bdist_wheel):
     """A wheel whose name also tells which glibc its module needs."""
 
     def get_tag(self):
         python, abi, platform = super().get_tag()
-        return python, abi, f"{platform.replace('linux', f'manylinux_{GLIBC}')}.{platform}"
+        return python, abi, platform.replace("linux", f"manylinux_{GLIBC}")
 
 
 setup(
@@ -33,7 +38,7 @@ setup(
             extra_objects=[str(LIBRARY / "libbplist.a")],
             # With -g0 and -s the module contains no paths, so it is the same wherever it is built.
             extra_compile_args=[*"-std=gnu11 -Wall -Wextra -g0 -fvisibility=hidden".split(), f"-ffile-prefix-map={HERE}=."],
-            extra_link_args=["-s", "-Wl,-z,relro,-z,now"],
+            extra_link_args=["-s", "-Wl,-z,relro,-z,now", "-Wl,--exclude-libs,ALL"],
             py_limited_api=True,
         )
     ],

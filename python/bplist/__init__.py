@@ -14,10 +14,15 @@ gives the whole tree.
 
 The package calls the C library libbplist, which has a proved core.
 """
-from ._bplist import VERSION as __version__
-from .faults import Closed, Error, OutOfMemory, PathError, Refused, TooLarge
-from .plist import Plist, Verdict, lint, lint_bytes, load, loads, open, to_python
-from .values import Array, Date, Dict, Kind, Set
+import sys
+
+if "t" in sys.abiflags:
+    raise ImportError("bplist does not support free-threaded Python: its module needs the GIL")
+
+from ._bplist import VERSION as __version__  # noqa: E402
+from .faults import Closed, Error, OutOfMemory, PathError, Refused, TooLarge  # noqa: E402
+from .plist import Found, Plist, Verdict, lint, lint_bytes, load, loads, looks_like, open, to_python  # noqa: E402
+from .values import Array, Date, Dict, Kind, Set  # noqa: E402
 
 __all__ = [
     "Array",
@@ -25,6 +30,7 @@ __all__ = [
     "Date",
     "Dict",
     "Error",
+    "Found",
     "Kind",
     "OutOfMemory",
     "PathError",
@@ -38,6 +44,7 @@ __all__ = [
     "lint_bytes",
     "load",
     "loads",
+    "looks_like",
     "open",
     "to_python",
 ]

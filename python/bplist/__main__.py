@@ -1,81 +1,228 @@
-"""A quick look at binary property lists: lints files, lists the members of a value, or shows the tree of one."""
+"""bplint's commands lint, ls and show, with its lines and exit statuses."""
 from __future__ import annotations
 
 import argparse
 import collections.abc
-import pprint
+import os
+import re
 import sys
-import typing
 
 import bplist
+from bplist.values import Kind
+
+# The library's statuses of a path: it leads to a value, or one of its steps fails.
+FOUND = 0
+REASONS = {9: "NoKey", 10: "NoIndex", 11: "NotSteppable"}
+WORDS = {kind: kind.name.lower() for kind in Kind} | {Kind.ASCII: "text", Kind.WIDE: "text"}
+ESCAPED = {0x22: '\\"', 0x5C: "\\\\", 0x0A: "\\n"}
+# Characters that could begin a line, give a command to a terminal, or change the direction of a line; and surrogates.
+UNSHOWN = re.compile("[\0-\x1f\x7f-\x9f\u061c\u200e\u200f\u2028-\u202e\u2066-\u2069\ud800-\udfff]")
+CONTROLS = re.compile("[\0-\x1f\x7f-\x9f]")
+
+
+class Ended(Exception):
+    """A run has no answer. line: why, for standard error, or nothing. status: the exit status."""
+
+    def __init__(self, line: str, status: int):
+        super().__init__(line)
+        self.line = line
+        self.status = status
+
+
+def put(octets: bytes) -> None:
+    """Writes to standard output. If nobody reads it any more, the run ends without a word."""
+    sent = 0
+    try:
+        while sent < len(octets):
+            sent += os.write(sys.stdout.fileno(), octets[sent:])
+    except BrokenPipeError:
+        raise Ended("", 3) from None
+    except OSError:
+        raise Ended(f"write {sent}", 3) from None
+
+
+def complain(line: str) -> None:
+    print(line, file=sys.stderr)
+
+
+def bytes_of(name: str) -> bytes:
+    """The bytes of a file, or of standard input for `-`."""
+    try:
+        file = sys.stdin.buffer if name == "-" else open(name, "rb")
+    except IsADirectoryError:
+        raise Ended("read Device", 3) from None
+    except (OSError, ValueError):
+        raise Ended("read Open", 3) from None
+    try:
+        with file:
+            return file.read()
+    except OSError:
+        raise Ended("read Device", 3) from None
+
+
+def shown_name(name: str) -> str:
+    """The name of a file, on one line."""
+    return CONTROLS.sub(lambda found: f"\\x{ord(found[0]):02x}", name)
+
+
+def quoted(text: str) -> str:
+    """A text in old-style form."""
+    if text.isascii() and text.isalnum():
+        return text
+    octets = text.encode("utf-16-be", "surrogatepass")
+    units = [octets[i] << 8 | octets[i + 1] for i in range(0, len(octets), 2)]
+    return f'"{"".join(ESCAPED.get(u) or (chr(u) if 0x20 <= u <= 0x7E else f"{chr(92)}U{u:04x}") for u in units)}"'
+
+
+class File:
+    """An open file, whose lines are printed."""
+
+    def __init__(self, name: str):
+        self.octets = bytes_of(name)
+        try:
+            self.plist = bplist.loads(self.octets)
+        except bplist.Refused as fault:
+            raise Ended(fault._line(), 1) from None
+
+    def line_of(self, number: int) -> str:
+        """The line of an object."""
+        body, place, length = self.plist._body(number)
+        kind = Kind(body)
+        value = self.plist._value(number)
+        if kind in (Kind.REAL, Kind.DATE):
+            said = self.octets[place : place + length].hex()
+        elif kind == Kind.DATA:
+            said = f"<{value.hex()}>"
+        elif kind in (Kind.ASCII, Kind.WIDE):
+            said = quoted(value)
+        elif kind == Kind.UID:
+            said = str(value.data)
+        elif kind >= Kind.ARRAY:
+            said = str(len(value))
+        else:
+            said = str(value) if kind == Kind.INT else ""
+        return f"{WORDS[kind]} {said}".rstrip(" ")
+
+    def line_at(self, path: str) -> tuple[str, bool]:
+        """The line for a path, and whether it leads to a value."""
+        status, number = self.plist._found(path)
+        if status == FOUND:
+            return self.line_of(number), True
+        return f"missing {number} {REASONS[status]}", False
+
+    def member_lines(self, path: str, number: int) -> collections.abc.Iterator[str]:
+        """A line for each member of a value, or the line of a leaf."""
+        value = self.plist._value(number)
+        if isinstance(value, bplist.Dict):
+            for i, key in enumerate(value):
+                yield f"{key_name(path, key, i)}\t{self.line_of(value._member_object(2 * i + 1))}"
+        elif isinstance(value, (bplist.Array, bplist.Set)):
+            for i in range(len(value)):
+                name = f"{path}/{i}" if isinstance(value, bplist.Array) else f"[{i}]"
+                yield f"{name}\t{self.line_of(value._member_object(i))}"
+        else:
+            yield f"{path}\t{self.line_of(number)}"
+
+
+def key_name(path: str, key: str, i: int) -> str:
+    """The path of the value of a key, or its index in brackets if the key can't be shown."""
+    if UNSHOWN.search(key):
+        return f"[{i}]"
+    return f"{path}/{key.replace('~', '~0').replace('/', '~1')}"
+
+
+def check_path(path: str) -> None:
+    """Ends the run if the text of a path is wrong, before a file is opened. `/` begins a step, 0 or 1 follows `~`."""
+    octets = path.encode()
+    wrong = re.search(rb"^[^/]|~(?![01])", octets)
+    if wrong:
+        raise Ended(f"fault PathText object none place {wrong.start()}", 2)
+
+
+def verdict_line(name: str) -> str:
+    """The line of a sound file."""
+    verdict = bplist.lint_bytes(bytes_of(name))
+    if verdict.fault:
+        raise Ended(verdict.fault._line(), 1)
+    assert verdict.kind
+    return f"ok reached {verdict.reached} height {verdict.height} top {WORDS[verdict.kind]}"
 
 
 def lint(line: argparse.Namespace) -> int:
-    """Says of each file whether it holds a value, and if not why."""
+    """Writes for each file whether it holds a value, and if not why."""
     status = 0
-    for file in line.files:
-        fault = bplist.lint(file).fault
-        print(f"{file}: {fault or 'ok'}")
-        if fault:
-            status = 1
+    for name in line.files:
+        prefix = f"{shown_name(name)}: " if len(line.files) > 1 else ""
+        try:
+            said = verdict_line(name)
+            if not line.quiet:
+                put(os.fsencode(f"{prefix}{said}\n"))
+        except Ended as ended:
+            if not ended.line:
+                raise
+            complain(f"{prefix}{ended.line}")
+            status = max(status, ended.status)
     return status
 
 
-def members_of(value: typing.Any) -> collections.abc.Iterable[str]:
-    """A line for each member of a container, or the line of a leaf."""
-    if isinstance(value, bplist.Dict):
-        return (f"{key!r}: {member!r}" for key, member in value.items())
-    if isinstance(value, (bplist.Array, bplist.Set)):
-        return (f"{i}: {member!r}" for i, member in enumerate(value))
-    return [repr(value)]
-
-
 def ls(line: argparse.Namespace) -> int:
-    """Lists the members of the value at a path."""
-    with bplist.open(line.file) as plist:
-        for member in members_of(plist.at(line.path)):
-            print(member)
+    """Writes a line for each member of the value at a path."""
+    file = File(line.file)
+    status, number = file.plist._found(line.path)
+    if status != FOUND:
+        put(f"{file.line_at(line.path)[0]}\n".encode())
+        return 1
+    put("".join(f"{said}\n" for said in file.member_lines(line.path, number)).encode())
     return 0
 
 
 def show(line: argparse.Namespace) -> int:
-    """Prints the tree of the value at a path."""
-    with bplist.open(line.file) as plist:
-        value = plist.at(line.path)
-        is_container = isinstance(value, (bplist.Dict, bplist.Array, bplist.Set))
-        pprint.pp(value.plain() if is_container else value)
-    return 0
+    """Writes a line for the value at each path."""
+    file = File(line.file)
+    said = [file.line_at(path) for path in line.paths or [""]]
+    put("".join(f"{words}\n" for words, _ in said).encode())
+    return 0 if all(is_found for _, is_found in said) else 1
 
 
 def reader() -> argparse.ArgumentParser:
-    parser = argparse.ArgumentParser(prog="python -m bplist", description=__doc__)
+    parser = argparse.ArgumentParser(prog="python -m bplist", description=__doc__, allow_abbrev=False)
+    parser.add_argument("-V", "--version", action="version", version=f"bplist {bplist.__version__}")
     verbs = parser.add_subparsers(required=True, metavar="lint|ls|show")
     verb = verbs.add_parser("lint", help=lint.__doc__)
-    verb.add_argument("files", metavar="FILE", nargs="+")
+    verb.add_argument("-q", "--quiet", action="store_true", help="print nothing for a sound file")
+    verb.add_argument("files", metavar="FILE", nargs="+", help="a file, or - for standard input")
     verb.set_defaults(run=lint)
-    for run in (ls, show):
-        verb = verbs.add_parser(run.__name__, help=run.__doc__)
-        verb.add_argument("file", metavar="FILE")
-        verb.add_argument("path", metavar="PATH", nargs="?", default="", help='a JSON Pointer, for example /items/0')
-        verb.set_defaults(run=run)
+    verb = verbs.add_parser("ls", help=ls.__doc__)
+    verb.add_argument("file", metavar="FILE")
+    verb.add_argument("path", metavar="PATH", nargs="?", default="", help="a JSON Pointer, for example /items/0")
+    verb.set_defaults(run=ls)
+    verb = verbs.add_parser("show", help=show.__doc__)
+    verb.add_argument("file", metavar="FILE")
+    verb.add_argument("paths", metavar="PATH", nargs="*", help="JSON Pointers; without any, the whole value")
+    verb.set_defaults(run=show)
     return parser
 
 
 def main(words: collections.abc.Sequence[str] | None = None) -> int:
-    """Runs a command, and returns its status: 1 if a file or a value is not as it should be, 2 if it can't be looked for."""
-    line = reader().parse_args(words)
+    """Runs a command, and returns its exit status: 0 for yes, 1 for no, 2 for wrong words, 3 for a failed read or write,
+    4 for refused memory."""
+    parser = reader()
+    line = parser.parse_args(words)
     try:
-        return line.run(line)
-    except (bplist.PathError, UnicodeEncodeError, OSError) as fault:
-        status, said = 2, fault
-    except bplist.Error as fault:
-        status, said = 1, fault
-    except (LookupError, TypeError) as fault:
-        status, said = 1, f"missing: {fault}"
-    print(said, file=sys.stderr)
-    return status
+        for path in [getattr(line, "path", ""), *getattr(line, "paths", [])]:
+            check_path(path)
+        status: int = line.run(line)
+        return status
+    except UnicodeEncodeError:
+        parser.error("a path is UTF-8")
+    except Ended as ended:
+        if ended.line:
+            complain(ended.line)
+        return ended.status
+    except MemoryError:
+        complain("memory")
+        return 4
 
 
 if __name__ == "__main__":
-    sys.stdout.reconfigure(errors="backslashreplace")
     sys.exit(main())

@@ -3,6 +3,9 @@ from __future__ import annotations
 
 from ._bplist import rule_name, rule_text
 
+# The largest number of objects of a circle that the text of an exception has.
+SHOWN = 16
+
 
 class Error(Exception):
     """The base class of all exceptions about a file or a property list."""
@@ -18,22 +21,37 @@ class Refused(Error, ValueError):
     place: the place of the fault, as the number of a byte in the file (in the certificate for rules 24 to 27 and 32),
     or None for a circle.
     circle: the objects of a circle of references, each of which refers to the next, or an empty tuple.
+    looks_like: what the file looks like in place of a property list, in words, or None if that is not known.
     """
 
-    def __init__(self, number: int, broken_by: int | None, place: int | None, circle: tuple[int, ...] = ()):
-        super().__init__(number, broken_by, place, circle)
+    def __init__(
+        self,
+        number: int,
+        broken_by: int | None,
+        place: int | None,
+        circle: tuple[int, ...] = (),
+        looks_like: str | None = None,
+    ):
+        super().__init__(number, broken_by, place, circle, looks_like)
         self.number = number
         self.rule = rule_name(number)
         self.sentence = rule_text(number)
         self.object = broken_by
         self.place = place
         self.circle = circle
+        self.looks_like = looks_like
+
+    def _line(self, most: int | None = None) -> str:
+        """The line that bplint prints, with at most so many objects of a circle."""
+        if self.circle:
+            more = "" if most is None or len(self.circle) <= most else f" .. ({len(self.circle)} objects)"
+            return f"circle {' '.join(map(str, self.circle[:most]))}{more}"
+        of = "none" if self.object is None else self.object
+        return f"fault {self.rule} object {of} place {self.place}"
 
     def __str__(self) -> str:
-        if self.circle:
-            return f"circle {' '.join(map(str, self.circle))}: {self.sentence}"
-        of = "none" if self.object is None else self.object
-        return f"fault {self.rule} object {of} place {self.place}: {self.sentence}"
+        looks = f" It looks like: {self.looks_like}" if self.looks_like else ""
+        return f"{self._line(SHOWN)}: {self.sentence}{looks}"
 
 
 class PathError(Error, ValueError):

@@ -8,15 +8,10 @@ import stat
 
 from . import _bplist
 from .faults import Refused, TooLarge
-from .values import Kind
+from .values import MOST_NODES, NODES, Kind
 
-#: The default limit of `plain`, in nodes.
-NODES = 10_000_000
 #: The default limit of `text`, in bytes.
 TEXT = 1_048_576
-
-# The largest size that the library gives.
-MOST_NODES = 2**64 - 1
 
 # For type checkers alone: `typing` takes as much memory as the rest of the package.
 TYPE_CHECKING = False
@@ -24,16 +19,33 @@ if TYPE_CHECKING:
     import typing
 
 Octets = bytes | bytearray | memoryview
-Path = str | os.PathLike
+Path = str | os.PathLike[str]
+
+if TYPE_CHECKING:
+
+    class _Verdict(typing.NamedTuple):
+        fault: Refused | None
+        objects: int
+        reached: int
+        references: int
+        height: int
+        top: int
+        kind: Kind | None
+
+    class _Found(typing.NamedTuple):
+        object: int
+        place: int
+
+else:
+    # What typing.NamedTuple makes of them.
+    _Verdict = collections.namedtuple(
+        "Verdict", "fault objects reached references height top kind"
+    )
+    _Found = collections.namedtuple("Found", "object place")
 
 
-_VERDICT = collections.namedtuple(
-    "Verdict", "fault objects reached references height top kind", defaults=(0, 0, 0, 0, 0, None)
-)
-
-
-class Verdict(_VERDICT):
-    """The verdict of the linter on a file.
+class Verdict(_Verdict):
+    """The verdict of the linter on a file. It is true if the file holds a value: `if bplist.lint(path): ..`.
 
     fault: None if the file holds a value, otherwise the first broken rule. If there is a fault, the numbers are 0 and
     kind is None.
@@ -47,17 +59,27 @@ class Verdict(_VERDICT):
 
     __slots__ = ()
 
-    fault: Refused | None
-    objects: int
-    reached: int
-    references: int
-    height: int
-    top: int
-    kind: Kind | None
-
     @property
     def ok(self) -> bool:
         return self.fault is None
+
+    def __bool__(self) -> bool:
+        return self.fault is None
+
+
+class Found(_Found):
+    """Where a value stands in the file.
+
+    object: the number of its object.
+    place: the place of the object, as the number of its first byte in the file.
+    """
+
+    __slots__ = ()
+
+
+def _octets(data: Octets) -> bytes:
+    """The bytes of an object that has some. Only `bytes` itself cannot change, and refers to nothing."""
+    return data if type(data) is bytes else bytes(memoryview(data))
 
 
 def _read(path: Path) -> bytes:
@@ -82,10 +104,19 @@ def lint(path: Path) -> Verdict:
 def lint_bytes(data: Octets) -> Verdict:
     """Lints bytes in memory."""
     try:
-        *numbers, kind = _bplist.lint(bytes(data))
+        objects, reached, references, height, top, kind = _bplist.lint(_octets(data))
     except Refused as fault:
-        return Verdict(fault.with_traceback(None))
-    return Verdict(None, *numbers, Kind(kind))
+        return Verdict(fault.with_traceback(None), 0, 0, 0, 0, 0, None)
+    return Verdict(None, objects, reached, references, height, top, Kind(kind))
+
+
+def looks_like(file: Path | Octets) -> str | None:
+    """What a file looks like that holds no value, in words, for example `an XML property list`. None if that is not
+    known, and for a file with a right header, trailer and offset table.
+
+    file: the bytes, or a path. The words are a guess from the first and the last bytes. `Refused` has them too.
+    """
+    return _bplist.looks_like(_read(file) if isinstance(file, (str, os.PathLike)) else _octets(file))
 
 
 def open(path: Path, *, map: bool = False, certificate: Octets | None = None, sorted_keys: bool = False) -> Plist:
@@ -93,7 +124,8 @@ def open(path: Path, *, map: bool = False, certificate: Octets | None = None, so
 
     certificate: a certificate from `bplint certify` or `Plist.certificate`. The file is checked against it instead of
     being linted. The bytes may come from anywhere: if they are no valid certificate of the file, `Refused` is raised.
-    sorted_keys: keep the keys of each dictionary in sorted order, so that a key is found by binary search.
+    sorted_keys: sort the keys of each dictionary now, so that a key is found by binary search. Otherwise they are sorted
+    when the look-ups in large dictionaries have taken as long as that takes.
     map: map the file into memory instead of reading it, which saves memory. The file must then not change while the
     property list is open. If it is written to, the values that are read are meaningless. If it is cut short, reading
     past the new end ends the interpreter with SIGBUS.
@@ -108,7 +140,7 @@ def load(fp: typing.BinaryIO, *, certificate: Octets | None = None, sorted_keys:
 
 def loads(data: Octets, *, certificate: Octets | None = None, sorted_keys: bool = False) -> Plist:
     """Like `open`, for bytes in memory. An object that is not `bytes` is copied, because it may change."""
-    return _opened(bytes(data), certificate, sorted_keys)
+    return _opened(_octets(data), certificate, sorted_keys)
 
 
 def to_python(source: Path | Octets, *, limit: int = NODES) -> typing.Any:
@@ -118,7 +150,7 @@ def to_python(source: Path | Octets, *, limit: int = NODES) -> typing.Any:
 
 
 def _opened(source: bytes | _bplist.MappedFile, certificate: Octets | None, sorted_keys: bool) -> Plist:
-    return _bplist.open(Plist, source, None if certificate is None else bytes(certificate), sorted_keys)
+    return _bplist.open(Plist, source, None if certificate is None else _octets(certificate), sorted_keys)
 
 
 class Plist(_bplist.Handle):
@@ -139,10 +171,14 @@ class Plist(_bplist.Handle):
         """The value of the file: a leaf, or a container that is read on access."""
         return self._value(self._top)
 
+    def find(self, path: str) -> Found:
+        """Returns the object that a path leads to, and its place in the file. Raises as `at` does."""
+        return Found(*self._place(path))
+
     @property
     def size(self) -> int:
         """The number of nodes in the tree of the file, including the keys of dictionaries; at most 2^64 - 1."""
-        return self._nodes(self._top)
+        return self._sizes(self._top)[0]
 
     def text(self, limit: int = TEXT) -> str:
         """Returns the value of the file as old-style text.
@@ -163,10 +199,4 @@ class Plist(_bplist.Handle):
 
         Raises `TooLarge` if the tree has more nodes than the limit, and does not build more than that.
         """
-        return self._plain(self._top, limit)
-
-    def _nodes(self, number: int) -> int:
-        return self._sizes(number)[0]
-
-    def _plain(self, number: int, limit: int) -> typing.Any:
-        return self._tree(number, max(0, min(limit, MOST_NODES)))
+        return self._tree(self._top, max(0, min(limit, MOST_NODES)))

@@ -12,6 +12,7 @@ from __future__ import annotations
 import collections.abc
 import datetime
 import enum
+import operator
 import plistlib
 
 from . import _bplist
@@ -24,9 +25,18 @@ if TYPE_CHECKING:
     SequenceBase = collections.abc.Sequence[typing.Any]
     MappingBase = collections.abc.Mapping[str, typing.Any]
     IterableBase = collections.abc.Iterable[typing.Any]
+    ItemsBase = collections.abc.ItemsView[str, typing.Any]
+    ValuesBase = collections.abc.ValuesView[typing.Any]
 else:
     # The classes are registered with collections.abc instead: `isinstance` is slow for a class with its metaclass.
     SequenceBase = MappingBase = IterableBase = object
+    ItemsBase, ValuesBase = collections.abc.ItemsView, collections.abc.ValuesView
+
+
+#: The default limit of `plain`, in nodes.
+NODES = 10_000_000
+# The largest size that the library gives.
+MOST_NODES = 2**64 - 1
 
 
 class Kind(enum.IntEnum):
@@ -51,29 +61,48 @@ class Date(float):
     """A date that datetime.datetime cannot hold, in seconds since 2001-01-01 00:00:00 UTC."""
 
 
-def _are_equal(one: Container, other: Container) -> bool:
-    """Returns True if two containers have equal members. Compares each pair of containers once, without recursion."""
-    pairs: list[tuple[typing.Any, typing.Any]] = [(one, other)]
-    met = set()
-    while pairs:
-        a, b = pairs.pop()
-        if not (isinstance(a, Container) and isinstance(b, Container)):
-            if a != b:
-                return False
-            continue
-        if a._is(b) or (a.object, b.object) in met:
-            continue
-        met.add((a.object, b.object))
-        if type(a) is not type(b) or len(a) != len(b):
+class _Comparison:
+    """Compares two trees of containers, or of containers and plain values. Compares each pair of containers once, and
+    keeps the pairs that it still has to compare in a list instead of recursing."""
+
+    def __init__(self, one: Container, other: object):
+        self.pairs: list[tuple[typing.Any, typing.Any]] = []
+        # What was met, by numbers. It is kept, so that no other object gets the number of one.
+        self.met: dict[object, object] = {}
+        self.is_equal = self.take(one, other)
+        while self.is_equal and self.pairs:
+            self.is_equal = self.have_equal_members(*self.pairs.pop())
+
+    def take(self, one: typing.Any, other: typing.Any) -> bool:
+        """Returns False if two values differ. If they have members, these are compared later."""
+        if isinstance(other, Container) and not isinstance(one, Container):
+            one, other = other, one
+        if not isinstance(one, Container) or not one._is_like(other):
+            return one is other or bool(one == other)
+        if len(one) != len(other):
             return False
-        if isinstance(a, Dict):
-            mine, others = dict(a.items()), dict(b.items())
-            if mine.keys() != others.keys():
-                return False
-            pairs.extend((mine[key], others[key]) for key in mine)
-        else:
-            pairs.extend(zip(a, b))
-    return True
+        place = _place_of(one) + _place_of(other)
+        if place not in self.met:
+            self.met[place] = other
+            self.pairs.append((one, other))
+        return True
+
+    def have_equal_members(self, one: typing.Any, other: typing.Any) -> bool:
+        if isinstance(one, Container) and isinstance(other, Container) and one._is(other):
+            return True
+        if isinstance(one, Dict):
+            mine, others = dict(one.items()), dict(other.items())
+            if CLASSES.isdisjoint(map(type, mine.values())):
+                return mine == others
+            return mine.keys() == others.keys() and all(map(self.take, mine.values(), map(others.__getitem__, mine)))
+        members = list(one)
+        if CLASSES.isdisjoint(map(type, members)):
+            return members == list(other)
+        return all(map(self.take, members, other))
+
+
+def _place_of(value: object) -> tuple[int, ...]:
+    return (id(value._plist), value.object) if isinstance(value, Container) else (id(value),)
 
 
 class Container(_bplist.Container):
@@ -87,13 +116,15 @@ class Container(_bplist.Container):
     __slots__ = ()
 
     def __eq__(self, other: object) -> bool:
-        return _are_equal(self, other) if isinstance(other, Container) else self._equals_plain(other)
+        if not self._is_like(other):
+            return NotImplemented
+        return _Comparison(self, other).is_equal
 
     __hash__ = None  # type: ignore[assignment]
 
-    def _equals_plain(self, other: object) -> bool:
-        """Compares with a value that is not a container of a property list."""
-        return NotImplemented
+    def _is_like(self, other: object) -> bool:
+        """Returns True if the members of both can be compared."""
+        return type(self) is type(other)
 
     def _is(self, other: Container) -> bool:
         """Returns True if both are the same object of the same property list."""
@@ -102,11 +133,11 @@ class Container(_bplist.Container):
     @property
     def size(self) -> int:
         """The number of nodes in the tree of this value, including the keys of dictionaries; at most 2^64 - 1."""
-        return self._plist._nodes(self.object)
+        return self._plist._sizes(self.object)[0]
 
-    def plain(self, limit: int = 10_000_000) -> typing.Any:
+    def plain(self, limit: int = NODES) -> typing.Any:
         """Returns the tree of this value as plistlib would load it (`Plist.plain`)."""
-        return self._plist._plain(self.object, limit)
+        return self._plist._tree(self.object, max(0, min(limit, MOST_NODES)))
 
     def __repr__(self) -> str:
         return f"<{type(self).__name__} of {len(self)}, object {self.object}>"
@@ -117,15 +148,17 @@ class Array(Container, SequenceBase):
 
     __slots__ = ()
 
-    def __getitem__(self, index):
+    def __getitem__(self, index: typing.Any) -> typing.Any:
         if isinstance(index, slice):
             return list(map(self._member, range(*index.indices(len(self)))))
-        at = index + len(self) if index < 0 else index
+        at = operator.index(index)
+        if at < 0:
+            at += len(self)
         if not 0 <= at < len(self):
             raise IndexError("array index out of range")
         return self._member(at)
 
-    def __iter__(self):
+    def __iter__(self) -> collections.abc.Iterator[typing.Any]:
         return self._members(0, 1)
 
     __contains__ = collections.abc.Sequence.__contains__
@@ -133,8 +166,8 @@ class Array(Container, SequenceBase):
     index = collections.abc.Sequence.index
     count = collections.abc.Sequence.count
 
-    def _equals_plain(self, other: object) -> bool:
-        return list(self) == other if isinstance(other, list) else NotImplemented
+    def _is_like(self, other: object) -> bool:
+        return isinstance(other, (Array, list))
 
 
 class Set(Container, IterableBase):
@@ -142,35 +175,54 @@ class Set(Container, IterableBase):
 
     __slots__ = ()
 
-    def __iter__(self):
+    def __iter__(self) -> collections.abc.Iterator[typing.Any]:
         return self._members(0, 1)
 
 
-class Items(collections.abc.ItemsView):
+class Items(ItemsBase):
     """The pairs of a dictionary, read without searching for the keys."""
 
-    def __iter__(self):
+    _mapping: Dict
+
+    def __iter__(self) -> collections.abc.Iterator[tuple[str, typing.Any]]:
         return self._mapping._pairs()
 
+    def __contains__(self, item: object) -> bool:
+        return isinstance(item, tuple) and len(item) == 2 and super().__contains__(item)
 
-class Values(collections.abc.ValuesView):
+
+class Values(ValuesBase):
     """The values of a dictionary, read without searching for their keys."""
 
-    def __iter__(self):
+    _mapping: Dict
+
+    def __iter__(self) -> collections.abc.Iterator[typing.Any]:
         return self._mapping._members(1, 2)
+
+    def __contains__(self, value: object) -> bool:
+        for member in self:
+            if member is value or member == value:
+                return True
+        return False
 
 
 class Dict(Container, MappingBase):
-    """A dictionary whose keys are str, in the order of the file."""
+    """A dictionary whose keys are str, in the order of the file.
+
+    A key is looked for among all keys of the dictionary. When the look-ups of a property list have taken as long as it
+    takes to sort its keys, they are sorted once, and from then on a key is found by binary search.
+    """
 
     __slots__ = ()
 
     __getitem__ = _bplist.Container._value_of
     __contains__ = _bplist.Container._has
-    __reversed__ = None
 
-    def __iter__(self):
+    def __iter__(self) -> collections.abc.Iterator[str]:
         return self._members(0, 2)
+
+    def __reversed__(self) -> collections.abc.Iterator[str]:
+        return reversed(list(self))
 
     get = collections.abc.Mapping.get
     keys = collections.abc.Mapping.keys
@@ -181,10 +233,11 @@ class Dict(Container, MappingBase):
     def values(self) -> Values:
         return Values(self)
 
-    def _equals_plain(self, other: object) -> bool:
-        return collections.abc.Mapping.__eq__(self, other)
+    def _is_like(self, other: object) -> bool:
+        return isinstance(other, collections.abc.Mapping)
 
 
+CLASSES = {Array, Set, Dict}
 collections.abc.Sequence.register(Array)
 collections.abc.Mapping.register(Dict)
 _bplist.bind(

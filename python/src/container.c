@@ -3,23 +3,27 @@
 
 #include <structmember.h>
 
+/* The length of the header of a file. */
+#define HEADER 8
+
 int references_of(const bplist_body *body, References *out)
 {
     uint64_t count;
 
     out->place = body->place;
     out->count = body->count;
-    out->width = 0;
+    out->mask = out->width = 0;
     out->is_dict = body->kind == BPLIST_DICT;
     if (body->count == 0)
         return 0;
-    /* Only a file that was changed has other lengths. */
-    if (body->count > body->length)
+    /* Only a file that was changed has other lengths, or references in its header. */
+    if (body->count > body->length || body->place < HEADER)
         return raise_changed();
     count = reference_count(out);
     if (body->length % count != 0 || body->length / count > sizeof(uint64_t))
         return raise_changed();
     out->width = (uint8_t)(body->length / count);
+    out->mask = UINT64_MAX >> (64 - 8 * out->width);
     return 0;
 }
 
@@ -89,17 +93,28 @@ static Py_ssize_t container_length(PyObject *object)
     return (Py_ssize_t)((Container *)object)->references.count;
 }
 
-static PyObject *member_of(PyObject *object, PyObject *number)
+/* Gives the object of the member with this number. */
+static int member_with(PyObject *object, PyObject *number, uint32_t *out)
 {
-    Container *self = (Container *)object;
     unsigned long long asked = PyLong_AsUnsignedLongLong(number);
-    uint32_t member;
 
     if (asked == (unsigned long long)-1 && PyErr_Occurred())
-        return NULL;
-    if (member_at(self, asked, &member) < 0)
-        return NULL;
-    return handle_value(self->plist, member);
+        return -1;
+    return member_at((Container *)object, asked, out);
+}
+
+static PyObject *member_of(PyObject *object, PyObject *number)
+{
+    uint32_t member;
+
+    return member_with(object, number, &member) < 0 ? NULL : handle_value(((Container *)object)->plist, member);
+}
+
+static PyObject *member_object(PyObject *object, PyObject *number)
+{
+    uint32_t member;
+
+    return member_with(object, number, &member) < 0 ? NULL : PyLong_FromUnsignedLong(member);
 }
 
 /* Copies the UTF-16 units of a text to new memory. Returns their number, or -1. An unpaired surrogate is a unit. */
@@ -126,7 +141,8 @@ static Py_ssize_t units_of(PyObject *text, uint16_t **out)
     return units ? count : -1;
 }
 
-/* Looks up the value of a key. Returns 1 if it was found, 0 if not, -1 with an exception set. Only a str is a key. */
+/* Looks up the value of a key. Returns 1 if it was found, 0 if not, -1 with an exception set. Only a str is a key. What
+   has no hash is refused, as by a dict. */
 static int find_key(Container *self, PyObject *key, uint32_t *out)
 {
     Handle *plist = self->plist;
@@ -135,10 +151,11 @@ static int find_key(Container *self, PyObject *key, uint32_t *out)
     Py_ssize_t count;
 
     if (!PyUnicode_Check(key))
-        return 0;
+        return PyObject_Hash(key) == -1 ? -1 : 0;
     count = units_of(key, &units);
     if (count < 0)
         return -1;
+    handle_compare(plist, self->references.count, 1);
     if (handle_ready(plist) < 0) {
         PyMem_Free(units);
         return -1;
@@ -173,7 +190,9 @@ static PyObject *has_key(PyObject *object, PyObject *key)
 }
 
 static PyMethodDef methods[] = {
-    {"_member", member_of, METH_O, "The value of a member. In a dictionary member 2j is key j, and member 2j + 1 is its value."},
+    {"_member", member_of, METH_O,
+     "The value of a member. In a dictionary member 2j is key j, and member 2j + 1 is its value."},
+    {"_member_object", member_object, METH_O, "The object of the same member."},
     {"_members", members_from, METH_VARARGS, "The values of every `step`th member from number `first` on."},
     {"_pairs", members_pairs, METH_NOARGS, "The pairs of a dictionary."},
     {"_value_of", value_of_key, METH_O, "The value of a key of a dictionary, or KeyError."},

@@ -8,6 +8,8 @@
 #define BEHIND 2921574
 /* The number of days from 1 March of the year 0 to 1 January of the year 1. */
 #define FROM_MARCH 306
+/* The length of the form in which datetime pickles a date. */
+#define PICKLED 10
 
 /* Rounds to microseconds, halves to the even one, as datetime.timedelta does. */
 static int64_t micros_of(double seconds)
@@ -27,7 +29,7 @@ static int64_t micros_of(double seconds)
 /* Writes a date, given in microseconds since the year 1, in the form in which datetime pickles it. Making a datetime
    from that form takes a fifth of the time that making it from numbers takes. Years begin in March here, so that the
    leap day is the last day of its year. An era is 400 years, or 146097 days. */
-static void pickled(int64_t micros, unsigned char out[10])
+static void pickled(int64_t micros, unsigned char out[PICKLED])
 {
     int days = (int)(micros / DAY) + FROM_MARCH;
     int of_era = days % 146097;
@@ -51,19 +53,41 @@ static void pickled(int64_t micros, unsigned char out[10])
     out[9] = (unsigned char)rest;
 }
 
-/* Makes a datetime. Its __new__ is called without its type, which takes a third of the time. */
-static PyObject *moment(PyObject *class, int64_t micros)
+PyObject *date_arguments(void)
 {
-    newfunc make = (newfunc)PyType_GetSlot((PyTypeObject *)class, Py_tp_new);
-    unsigned char bytes[10];
-    PyObject *given, *arguments, *date;
+    PyObject *given = PyBytes_FromStringAndSize(NULL, PICKLED);
+    PyObject *arguments = given ? PyTuple_Pack(1, given) : NULL;
 
-    pickled(micros, bytes);
-    given = PyBytes_FromStringAndSize((const char *)bytes, sizeof bytes);
-    arguments = given ? PyTuple_Pack(1, given) : NULL;
-    date = arguments ? make((PyTypeObject *)class, arguments, NULL) : NULL;
-    Py_XDECREF(arguments);
     Py_XDECREF(given);
+    return arguments;
+}
+
+/* Returns arguments that nobody else refers to: those of the last date, or new ones if a subclass of datetime kept
+   them. */
+static PyObject *arguments_of(State *state)
+{
+    PyObject *arguments = state->held[DATE_ARGUMENTS];
+
+    if (arguments && Py_REFCNT(arguments) == 1 && Py_REFCNT(PyTuple_GetItem(arguments, 0)) == 1) {
+        Py_INCREF(arguments);
+        return arguments;
+    }
+    return date_arguments();
+}
+
+/* Makes a datetime. Its __new__ is called without its type, which takes a third of the time. */
+static PyObject *moment(State *state, int64_t micros)
+{
+    PyTypeObject *class = (PyTypeObject *)state->held[DATETIME];
+    newfunc make = (newfunc)PyType_GetSlot(class, Py_tp_new);
+    PyObject *arguments = arguments_of(state);
+    PyObject *date;
+
+    if (arguments == NULL)
+        return NULL;
+    pickled(micros, (unsigned char *)PyBytes_AsString(PyTuple_GetItem(arguments, 0)));
+    date = make(class, arguments, NULL);
+    Py_DECREF(arguments);
     return date;
 }
 
@@ -71,11 +95,13 @@ PyObject *date_of(State *state, double seconds)
 {
     int64_t micros;
 
+    if (state->held[DATETIME] == NULL)
+        return raise_cleared();
     /* One day too many at either end. This only excludes what is far out of range or is not a number. */
     if (seconds > -86400.0 * (BEFORE + 1) && seconds < 86400.0 * (BEHIND + 1)) {
         micros = micros_of(seconds) + BEFORE * DAY;
         if (micros >= 0 && micros < (BEFORE + BEHIND) * DAY)
-            return moment(state->held[DATETIME], micros);
+            return moment(state, micros);
     }
     return PyObject_CallFunction(state->held[FAR_DATE], "d", seconds);
 }

@@ -12,6 +12,13 @@
 #define PY_SSIZE_T_CLEAN
 #include <Python.h>
 #include <bplist.h>
+#include <endian.h>
+#include <stdatomic.h>
+#include <string.h>
+
+#ifdef Py_GIL_DISABLED
+#error "bplist needs a Python with the GIL: it does not support the free-threaded build"
+#endif
 
 /* The state of the module: its own types, and what was passed to `bind`. */
 enum {
@@ -28,6 +35,8 @@ enum {
     UID,
     /* datetime.datetime. */
     DATETIME,
+    /* Arguments for datetime.datetime, which are used again and again. */
+    DATE_ARGUMENTS,
     /* The name of the only attribute of a UID, or None if a UID has other attributes. */
     UID_DATA,
     HELD
@@ -50,19 +59,30 @@ typedef struct Handle {
     State *state;
     Source source;
     bplist_handle handle;
-    /* The number of objects in the file, and the number of the top. */
+    /* The number of objects in the file, and the number of the top, which is below it. */
     uint64_t objects;
     uint32_t top;
-    /* True during a call that has released the GIL. That call holds the lock. */
-    int is_busy;
+    /* Whether the handle has sorted keys, or is not to get them. */
+    int is_sorted;
+    /* How many keys were compared, at most, to find one without sorted keys; and how often `at` was called. */
+    uint64_t compared;
+    uint64_t asked;
+    /* The process of the call that has released the GIL, during that call, otherwise 0. That call holds the lock. It
+       clears this without the GIL, which it may never get again when the interpreter ends. In the child of a fork this
+       is the number of the parent, whose call does not end there. */
+    atomic_int busy;
+    /* The lock, and the process that it belongs to. */
     PyThread_type_lock lock;
+    int process;
 } Handle;
 
-/* The references of a container: from `place` on in the file, each `width` bytes long, big-endian. `count` is its number of
-   members, or of pairs for a dictionary, which has first its keys and then its values. */
+/* The references of a container: from `place` on in the file, each `width` bytes long, big-endian. `count` is its
+   number of members, or of pairs for a dictionary, which has first its keys and then its values. */
 typedef struct References {
     uint64_t place;
     uint64_t count;
+    /* The bits of a reference. */
+    uint64_t mask;
     uint8_t width;
     uint8_t is_dict;
 } References;
@@ -77,7 +97,8 @@ typedef struct Container {
 
 /* module.c */
 
-/* Makes an object of a type, with room for so many items. It is all zeros after its head. */
+/* Makes an object of a type, with room for so many items. It is all zeros after its head. Raises if the module was
+   cleared. */
 void *instance_with(PyObject *type, Py_ssize_t items);
 void *instance_of(PyObject *type);
 
@@ -85,10 +106,21 @@ void *instance_of(PyObject *type);
 
 /* Raises the exception of bplist.faults with this name. Its arguments are given as for Py_BuildValue. */
 int raise_fault(const char *name, const char *arguments, ...);
-/* Raises for a file that the library refuses. Looks up the circle if there is one. */
+/* What a file looks like in place of a property list: no text if that is not known. */
+typedef struct Words {
+    char text[200];
+    uint64_t count;
+} Words;
+
+int words_of(const Source *source, Words *words);
+/* Raises, and returns NULL, if the collector has cleared the module. A finalizer may run after that. */
+void *raise_cleared(void);
+/* Raises for a file that the library refuses. Looks up the circle if there is one, or what the file looks like. */
 int raise_refused(const Source *source, const bplist_verdict *verdict);
 /* Raises for a file that changed after it was opened. */
 int raise_changed(void);
+/* The same, in place of the exception that is set, if that is one of this class. */
+int raise_changed_for(PyObject *class);
 /* Raises for a status that is not BPLIST_OK. */
 int raise_status(bplist_status status);
 
@@ -102,22 +134,24 @@ static inline int expect(bplist_status status)
 extern PyType_Spec mapped_spec;
 /* Maps `length` bytes, at least one, of the open file with this descriptor into memory. */
 PyObject *mapped_new(State *state, int descriptor, size_t length);
-/* Gives the bytes of a bytes object or of a mapped file. Takes no reference. */
+/* Gives the bytes of a mapped file or of a bytes object, which must not be of a subclass: that could refer to anything.
+   Takes no reference. */
 int source_of(State *state, PyObject *owner, Source *out);
 
 /* handle.c */
 
 /* Opens a property list, with a certificate (a bytes object) unless that is None. */
 PyObject *handle_open(State *state, PyObject *class, PyObject *owner, PyObject *certificate, int is_sorted);
-/* Closes a property list on which no call is running. Closing it again does nothing. */
+/* Closes a property list on which no call of this process is running. Closing it again does nothing. */
 void handle_close(Handle *self);
-/* Waits, with the GIL released, until no call that has released it is running. */
-void handle_wait(Handle *self);
+/* Waits, with the GIL released, until no call that has released it is running. Raises in the child of a fork that was
+   made during such a call. */
+int handle_wait(Handle *self);
 /* Waits in the same way, and raises if the property list is closed. */
 static inline int handle_ready(Handle *self)
 {
-    if (self->is_busy)
-        handle_wait(self);
+    if (atomic_load_explicit(&self->busy, memory_order_acquire) != 0 && handle_wait(self) < 0)
+        return -1;
     return self->source.owner ? 0 : raise_status(BPLIST_CLOSED);
 }
 
@@ -126,9 +160,16 @@ PyThreadState *handle_begin(Handle *self);
 void handle_end(Handle *self, PyThreadState *thread);
 /* Measures the value of an object. Releases the GIL. */
 int handle_sizes(Handle *self, uint32_t object, bplist_sizes *out);
-/* Gives the kind of each of these objects, and its body, which is inside the file. The kind is 0 if the top does not reach
-   the object. */
+/* Gives the kind of each of these objects, and its body, which is inside the file. The kind is 0 if the top does not
+   reach the object. */
 int handle_faces(Handle *self, const uint32_t *objects, size_t count, bplist_body *out);
+/* Gives the kind and the body of an object. The body is inside the file. */
+int handle_body(Handle *self, uint32_t object, bplist_body *out);
+/* Gives the place of an object in the file. */
+int handle_place(Handle *self, uint32_t object, uint64_t *out);
+/* Before a key is looked for among `count` keys, `times` times: sorts the keys of the file when that has begun to pay.
+   Releases the GIL for that. Raises nothing. */
+void handle_compare(Handle *self, uint64_t count, uint64_t times);
 /* Returns a leaf, or a container that is read on access. */
 PyObject *handle_value(Handle *self, uint32_t object);
 /* Returns the same of an object with this body. */
@@ -146,6 +187,11 @@ static inline int is_container(uint32_t kind)
     return kind >= BPLIST_ARRAY;
 }
 
+static inline int is_text(uint32_t kind)
+{
+    return kind == BPLIST_ASCII || kind == BPLIST_WIDE;
+}
+
 /* Gives the references of a container with this body. */
 int references_of(const bplist_body *body, References *out);
 
@@ -154,27 +200,19 @@ static inline uint64_t reference_count(const References *references)
     return references->is_dict ? 2 * references->count : references->count;
 }
 
-/* Gives reference `i` of a container in this file, in the order of the file. */
+/* Gives reference `i` of a container in this file, in the order of the file. Reads the eight bytes that end with it:
+   the file begins with eight others. */
 static inline uint64_t reference_at(const References *references, const uint8_t *file, uint64_t i)
 {
-    const uint8_t *at = file + references->place + i * references->width;
-    uint64_t object = 0;
+    const uint8_t *end = file + references->place + (i + 1) * references->width;
+    uint64_t eight;
 
-    switch (references->width) {
-    case 1:
-        return at[0];
-    case 2:
-        return (uint64_t)at[0] << 8 | at[1];
-    case 4:
-        return (uint64_t)at[0] << 24 | (uint64_t)at[1] << 16 | (uint64_t)at[2] << 8 | at[3];
-    default:
-        for (int k = 0; k < references->width; k++)
-            object = object << 8 | at[k];
-        return object;
-    }
+    memcpy(&eight, end - sizeof eight, sizeof eight);
+    return be64toh(eight) & references->mask;
 }
 
-/* Gives the object of member `i` of an open container. In a dictionary member 2j is key j, and member 2j + 1 is value j. */
+/* Gives the object of member `i` of an open container. In a dictionary member 2j is key j, and member 2j + 1 is value
+   j. */
 int member_at(Container *container, uint64_t i, uint32_t *out);
 /* Returns the container of this body. */
 PyObject *container_new(Handle *plist, uint32_t object, const bplist_body *body);
@@ -189,11 +227,15 @@ PyObject *members_pairs(PyObject *container, PyObject *none);
 
 /* date.c */
 
+/* Returns new arguments for datetime.datetime: a tuple of one bytes object, for which dates are written. */
+PyObject *date_arguments(void);
 /* Returns the date this many seconds after 2001-01-01, or a `Date` of the seconds if datetime cannot hold it. */
 PyObject *date_of(State *state, double seconds);
 
 /* leaf.c */
 
+/* Decodes ASCII. Raises the exception for a changed file if it is none. */
+PyObject *ascii_of(const char *bytes, size_t length);
 /* Returns the value of a leaf of this file. */
 PyObject *leaf_of(State *state, const Source *source, const bplist_body *body);
 

@@ -24,6 +24,12 @@ int raise_fault(const char *name, const char *arguments, ...)
     return -1;
 }
 
+void *raise_cleared(void)
+{
+    PyErr_SetString(PyExc_RuntimeError, "the module bplist was cleared");
+    return NULL;
+}
+
 /* Returns the numbers as a tuple. */
 static PyObject *tuple_of(const uint32_t *numbers, uint64_t count)
 {
@@ -62,11 +68,17 @@ int raise_refused(const Source *source, const bplist_verdict *verdict)
 {
     PyObject *circle;
 
-    if (verdict->circle == 0) {
-        if (verdict->has_object)
-            return raise_fault("Refused", "(IIK)", verdict->rule, verdict->object, (unsigned long long)verdict->place);
-        return raise_fault("Refused", "(IOK)", verdict->rule, Py_None, (unsigned long long)verdict->place);
+    if (verdict->circle == 0 && !verdict->has_object) {
+        Words words;
+
+        /* Only a fault of header, trailer or offset table has words. */
+        if (words_of(source, &words) < 0)
+            return -1;
+        return raise_fault("Refused", "(IOK()z#)", verdict->rule, Py_None, (unsigned long long)verdict->place,
+                           words.count ? words.text : NULL, (Py_ssize_t)words.count);
     }
+    if (verdict->circle == 0)
+        return raise_fault("Refused", "(IIK)", verdict->rule, verdict->object, (unsigned long long)verdict->place);
     circle = circle_of(source, verdict->circle);
     if (circle)
         raise_fault("Refused", "(IIOO)", verdict->rule, verdict->object, Py_None, circle);
@@ -74,9 +86,22 @@ int raise_refused(const Source *source, const bplist_verdict *verdict)
     return -1;
 }
 
+int words_of(const Source *source, Words *words)
+{
+    return expect(bplist_looks_like(source->file, source->length, words->text, sizeof words->text, &words->count));
+}
+
 int raise_changed(void)
 {
     return raise_fault("Error", "(s)", "the file was changed while it was open");
+}
+
+int raise_changed_for(PyObject *class)
+{
+    if (!PyErr_ExceptionMatches(class))
+        return -1;
+    PyErr_Clear();
+    return raise_changed();
 }
 
 int raise_status(bplist_status status)
@@ -89,6 +114,7 @@ int raise_status(bplist_status status)
     if (status == BPLIST_CLOSED)
         return raise_fault("Closed", "(s)", "the property list was closed");
     /* While an open file does not change there is no other status. Every text fits the buffer. */
-    bplist_status_text(status, text, sizeof text, &count);
+    if (bplist_status_text(status, text, sizeof text, &count) != BPLIST_OK)
+        count = 0;
     return raise_fault("Error", "(s#)", text, (Py_ssize_t)count);
 }

@@ -1,11 +1,9 @@
 /* The values of leaves, that is of objects that are not containers. */
 #include "extension.h"
 
-#include <endian.h>
-#include <string.h>
 #include <wchar.h>
 
-/* The largest number of units that `few_of` decodes, in a buffer on the stack. */
+/* The largest number of units that are decoded in a buffer on the stack. */
 #define FEW 64
 
 _Static_assert(sizeof(wchar_t) == 4, "a character of wchar_t is one of Python's");
@@ -86,8 +84,11 @@ static PyObject *bare_uid(State *state, PyObject *number)
 
 static PyObject *uid_of(State *state, const uint8_t *bytes, uint64_t length)
 {
-    PyObject *uid, *number = PyLong_FromUnsignedLongLong(number_of(bytes, length));
+    PyObject *uid, *number;
 
+    if (state->held[UID] == NULL)
+        return raise_cleared();
+    number = PyLong_FromUnsignedLongLong(number_of(bytes, length));
     if (number == NULL)
         return NULL;
     if (state->held[UID_DATA] == Py_None)
@@ -98,10 +99,18 @@ static PyObject *uid_of(State *state, const uint8_t *bytes, uint64_t length)
     return uid;
 }
 
-/* Decodes at most FEW units of big-endian UTF-16. Keeps an unpaired surrogate as it is. */
-static PyObject *few_of(const uint8_t *bytes, size_t units)
+PyObject *ascii_of(const char *bytes, size_t length)
 {
-    wchar_t text[FEW];
+    PyObject *text = PyUnicode_DecodeASCII(bytes, (Py_ssize_t)length, NULL);
+
+    if (text == NULL)
+        raise_changed_for(PyExc_UnicodeDecodeError);
+    return text;
+}
+
+/* Decodes big-endian UTF-16 into `text`, which has room for each unit. Keeps an unpaired surrogate as it is. */
+static PyObject *units_of(const uint8_t *bytes, size_t units, wchar_t *text)
+{
     Py_ssize_t length = 0;
 
     for (size_t i = 0; i < units; i++) {
@@ -115,17 +124,36 @@ static PyObject *few_of(const uint8_t *bytes, size_t units)
     return PyUnicode_FromWideChar(text, length);
 }
 
-/* Decodes big-endian UTF-16. For an unpaired surrogate the codec calls its handler, which may be any code, so the bytes
-   are kept alive during the call. A short text needs no codec, which takes four times as long. */
+/* Decodes the same in memory of its own. The codec's own way to keep surrogates takes sixty times as long for each. */
+static PyObject *many_of(const uint8_t *bytes, size_t units)
+{
+    wchar_t *text = PyMem_Malloc(units * sizeof *text);
+    PyObject *decoded;
+
+    if (text == NULL)
+        return PyErr_NoMemory();
+    decoded = units_of(bytes, units, text);
+    PyMem_Free(text);
+    return decoded;
+}
+
+/* Decodes big-endian UTF-16. A short text needs no codec, which takes four times as long. A long one is decoded by the
+   codec, which refuses unpaired surrogates. To make its exception may start the collector, and so run any code: the
+   bytes are kept. */
 static PyObject *wide_of(PyObject *owner, const uint8_t *bytes, size_t units)
 {
     int order = 1;
+    wchar_t few[FEW];
     PyObject *text;
 
     if (units <= FEW)
-        return few_of(bytes, units);
+        return units_of(bytes, units, few);
     Py_INCREF(owner);
-    text = PyUnicode_DecodeUTF16((const char *)bytes, (Py_ssize_t)(2 * units), "surrogatepass", &order);
+    text = PyUnicode_DecodeUTF16((const char *)bytes, (Py_ssize_t)(2 * units), NULL, &order);
+    if (text == NULL && PyErr_ExceptionMatches(PyExc_UnicodeDecodeError)) {
+        PyErr_Clear();
+        text = many_of(bytes, units);
+    }
     Py_DECREF(owner);
     return text;
 }
@@ -153,7 +181,7 @@ PyObject *leaf_of(State *state, const Source *source, const bplist_body *body)
     case BPLIST_DATA:
         return PyBytes_FromStringAndSize((const char *)bytes, length);
     case BPLIST_ASCII:
-        return PyUnicode_DecodeASCII((const char *)bytes, length, NULL);
+        return ascii_of((const char *)bytes, body->length);
     case BPLIST_WIDE:
         return wide_of(source->owner, bytes, (size_t)length / 2);
     default:

@@ -59,6 +59,17 @@ PyObject *members_pairs(PyObject *container, PyObject *none)
     return members_new((Container *)container, 0, 1, 1);
 }
 
+/* Raises if a key in the block is no text: each key was one when the file was checked. */
+static int see_keys(const Members *self, const Container *container, size_t count)
+{
+    if (!container->references.is_dict)
+        return 0;
+    for (size_t k = 0; k < count; k++)
+        if ((self->next + k * self->step) % 2 == 0 && !is_text(self->bodies[k].kind))
+            return raise_changed();
+    return 0;
+}
+
 /* Reads the next block. */
 static int members_read(Members *self, Container *container)
 {
@@ -70,7 +81,7 @@ static int members_read(Members *self, Container *container)
         if (member_at(container, next, &objects[count++]) < 0)
             return -1;
     self->read = self->given = 0;
-    if (handle_faces(container->plist, objects, count, self->bodies) < 0)
+    if (handle_faces(container->plist, objects, count, self->bodies) < 0 || see_keys(self, container, count) < 0)
         return -1;
     self->read = count;
     self->next = next;

@@ -3,6 +3,9 @@
 
 #include <structmember.h>
 
+/* How many paths are looked for before one of them tells how many keys each of them compares. */
+#define PATHS 8
+
 /* Converts an argument to an object number. */
 static int number_of(PyObject *given, uint32_t *out)
 {
@@ -40,19 +43,82 @@ static PyObject *raise_missing(PyObject *path, bplist_status status, uint64_t st
     return NULL;
 }
 
-static PyObject *value_at(PyObject *object, PyObject *path)
+/* Adds up, for the dictionaries that a path leads through, what it takes to look for one key in each. */
+static void compare_on(Handle *self, const char *text, size_t length)
 {
-    Handle *self = (Handle *)object;
-    bplist_found found;
-    bplist_status status;
+    uint64_t compared = 0;
+
+    for (size_t i = 0; i < length; i++) {
+        bplist_found found;
+        bplist_body body;
+
+        if (text[i] != '/')
+            continue;
+        if (bplist_find(&self->handle, self->source.file, self->source.length, text, i, &found) != BPLIST_OK)
+            break;
+        if (bplist_face(&self->handle, self->source.file, self->source.length, found.object, &body) == BPLIST_OK
+            && body.kind == BPLIST_DICT)
+            compared += body.count;
+    }
+    handle_compare(self, compared, PATHS);
+}
+
+/* Finds the object that a path leads to. Returns -1 with an exception set if that cannot be looked for. */
+static int find_path(Handle *self, PyObject *path, bplist_status *status, bplist_found *found)
+{
     Py_ssize_t length;
     /* A path text is UTF-8, and an unpaired surrogate has no UTF-8. */
     const char *text = PyUnicode_AsUTF8AndSize(path, &length);
 
     if (text == NULL || handle_ready(self) < 0)
+        return -1;
+    if (!self->is_sorted && ++self->asked % PATHS == 0) {
+        compare_on(self, text, (size_t)length);
+        if (handle_ready(self) < 0)
+            return -1;
+    }
+    *status = bplist_find(&self->handle, self->source.file, self->source.length, text, (size_t)length, found);
+    return 0;
+}
+
+static PyObject *value_at(PyObject *object, PyObject *path)
+{
+    Handle *self = (Handle *)object;
+    bplist_status status;
+    bplist_found found;
+
+    if (find_path(self, path, &status, &found) < 0)
         return NULL;
-    status = bplist_find(&self->handle, self->source.file, self->source.length, text, (size_t)length, &found);
     return status == BPLIST_OK ? handle_value(self, found.object) : raise_missing(path, status, found.step);
+}
+
+/* Returns the status of the library for a path, and the object that it leads to or the step at which it ends. */
+static PyObject *found_at(PyObject *object, PyObject *path)
+{
+    bplist_status status;
+    bplist_found found = {0};
+
+    if (find_path((Handle *)object, path, &status, &found) < 0)
+        return NULL;
+    if (status == BPLIST_OK)
+        return Py_BuildValue("(II)", status, found.object);
+    return Py_BuildValue("(IK)", status, (unsigned long long)found.step);
+}
+
+static PyObject *place_at(PyObject *object, PyObject *path)
+{
+    Handle *self = (Handle *)object;
+    bplist_status status;
+    bplist_found found;
+    uint64_t place;
+
+    if (find_path(self, path, &status, &found) < 0)
+        return NULL;
+    if (status != BPLIST_OK)
+        return raise_missing(path, status, found.step);
+    if (handle_place(self, found.object, &place) < 0)
+        return NULL;
+    return Py_BuildValue("(IK)", found.object, (unsigned long long)place);
 }
 
 static PyObject *sizes_of(PyObject *object, PyObject *number)
@@ -88,14 +154,16 @@ static PyObject *text_of(PyObject *object, PyObject *arguments)
         status = bplist_text(&self->handle, self->source.file, self->source.length, number, buffer, (size_t)length,
                              &written);
         handle_end(self, thread);
-        if (expect(status) == 0)
-            text = PyUnicode_DecodeASCII(buffer, (Py_ssize_t)written.length, NULL);
+        if (status == BPLIST_OK && written.length > (uint64_t)length)
+            raise_changed();
+        else if (expect(status) == 0)
+            text = ascii_of(buffer, written.length);
     }
     PyMem_Free(buffer);
     return text;
 }
 
-/* Writes the certificate. Releases the GIL. */
+/* Writes the certificate. Releases the GIL. Returns 1 if there is not enough room. */
 static int write_certificate(Handle *self, uint8_t *buffer, size_t room, uint64_t *count)
 {
     bplist_status status;
@@ -105,7 +173,7 @@ static int write_certificate(Handle *self, uint8_t *buffer, size_t room, uint64_
         return -1;
     status = bplist_certificate(&self->handle, buffer, room, count);
     handle_end(self, thread);
-    return status == BPLIST_SHORT ? 0 : expect(status);
+    return status == BPLIST_SHORT ? 1 : expect(status);
 }
 
 static PyObject *certificate_of(PyObject *object, void *closure)
@@ -113,13 +181,21 @@ static PyObject *certificate_of(PyObject *object, void *closure)
     Handle *self = (Handle *)object;
     uint8_t none[1];
     uint64_t count = 0;
-    PyObject *bytes;
+    PyObject *bytes = NULL;
+    int is_short = write_certificate(self, none, 0, &count);
 
     (void)closure;
-    if (write_certificate(self, none, 0, &count) < 0)
-        return NULL;
-    bytes = PyBytes_FromStringAndSize(NULL, (Py_ssize_t)count);
-    if (bytes && write_certificate(self, (uint8_t *)PyBytes_AsString(bytes), (size_t)count, &count) < 0)
+    /* It becomes longer if another thread's look-ups have the keys sorted. */
+    while (is_short > 0) {
+        size_t room = (size_t)count;
+
+        Py_XDECREF(bytes);
+        bytes = PyBytes_FromStringAndSize(NULL, (Py_ssize_t)room);
+        if (bytes == NULL)
+            return NULL;
+        is_short = write_certificate(self, (uint8_t *)PyBytes_AsString(bytes), room, &count);
+    }
+    if (is_short < 0)
         Py_CLEAR(bytes);
     return bytes;
 }
@@ -141,10 +217,23 @@ static PyObject *value_of_number(PyObject *object, PyObject *number)
     return number_of(number, &asked) < 0 ? NULL : handle_value((Handle *)object, asked);
 }
 
+/* Returns the kind, place and length of the body of an object. */
+static PyObject *body_of_number(PyObject *object, PyObject *number)
+{
+    uint32_t asked;
+    bplist_body body;
+
+    if (number_of(number, &asked) < 0 || handle_body((Handle *)object, asked, &body) < 0)
+        return NULL;
+    return Py_BuildValue("(IKK)", body.kind, (unsigned long long)body.place, (unsigned long long)body.length);
+}
+
 static PyObject *close_handle(PyObject *object, PyObject *none)
 {
     (void)none;
-    handle_wait((Handle *)object);
+    /* The child of a fork closes it too. */
+    if (handle_wait((Handle *)object) < 0)
+        PyErr_Clear();
     handle_close((Handle *)object);
     Py_RETURN_NONE;
 }
@@ -174,6 +263,9 @@ static PyMethodDef methods[] = {
      "Raises KeyError if a dictionary has no such key, IndexError if an array has no such index, TypeError if a step\n"
      "continues from any other value, and `PathError` if the path text is wrong."},
     {"close", close_handle, METH_NOARGS, "close()\n--\n\nCloses the property list. Closing it again does nothing."},
+    {"_body", body_of_number, METH_O, "The kind of an object, and the place and length of its body."},
+    {"_found", found_at, METH_O, "The library's status for a path, and the object that it leads to or the step that fails."},
+    {"_place", place_at, METH_O, "The object that a path leads to, and its place in the file; raises as `at` does."},
     {"_sizes", sizes_of, METH_O, "The number of nodes of an object's tree, and the length of its old-style text or None."},
     {"_text", text_of, METH_VARARGS, "The old-style text of an object, which has this length."},
     {"_tree", tree_of_number, METH_VARARGS, "The tree of an object, which may have at most this many nodes."},

@@ -3,8 +3,11 @@
 
 void *instance_with(PyObject *type, Py_ssize_t items)
 {
-    allocfunc alloc = (allocfunc)PyType_GetSlot((PyTypeObject *)type, Py_tp_alloc);
+    allocfunc alloc;
 
+    if (type == NULL)
+        return raise_cleared();
+    alloc = (allocfunc)PyType_GetSlot((PyTypeObject *)type, Py_tp_alloc);
     return alloc((PyTypeObject *)type, items);
 }
 
@@ -33,6 +36,20 @@ static PyObject *lint(PyObject *module, PyObject *owner)
         return NULL;
     return Py_BuildValue("(KKKIII)", (unsigned long long)said.objects, (unsigned long long)said.reached,
                          (unsigned long long)said.references, said.height, said.top, said.top_kind);
+}
+
+static PyObject *looks_like(PyObject *module, PyObject *owner)
+{
+    Source source;
+    Words words;
+
+    if (source_of(PyModule_GetState(module), owner, &source) < 0)
+        return NULL;
+    if (words_of(&source, &words) < 0)
+        return NULL;
+    if (words.count == 0)
+        Py_RETURN_NONE;
+    return ascii_of(words.text, words.count);
 }
 
 /* Returns true if a class is a subclass of one of the module's own. Otherwise raises TypeError. */
@@ -97,22 +114,38 @@ static PyObject *rule_text(PyObject *module, PyObject *number)
     return text_of(bplist_rule_text, number);
 }
 
+/* Returns true if instances of a class can be made without calling it, as is done with dates and UIDs. Otherwise
+   raises. */
+static int is_made(PyObject *class)
+{
+    if (PyType_GetSlot((PyTypeObject *)class, Py_tp_new))
+        return 1;
+    PyErr_Format(PyExc_TypeError, "%R has no instances", class);
+    return 0;
+}
+
 static PyObject *bind(PyObject *module, PyObject *arguments)
 {
     State *state = PyModule_GetState(module);
     PyTypeObject *type = &PyType_Type;
     PyObject *given[HELD];
 
-    if (!PyArg_ParseTuple(arguments, "O!O!O!OO!OO", type, &given[ARRAY], type, &given[SET], type, &given[DICT],
-                          &given[FAR_DATE], type, &given[UID], &given[DATETIME], &given[UID_DATA]))
+    if (!PyArg_ParseTuple(arguments, "O!O!O!O!O!O!O", type, &given[ARRAY], type, &given[SET], type, &given[DICT], type,
+                          &given[FAR_DATE], type, &given[UID], type, &given[DATETIME], &given[UID_DATA]))
+        return NULL;
+    if (!is_made(given[UID]) || !is_made(given[DATETIME]))
         return NULL;
     for (int i = ARRAY; i <= DICT; i++)
         if (!is_below(given[i], state->held[CONTAINER]))
             return NULL;
+    given[DATE_ARGUMENTS] = date_arguments();
+    if (given[DATE_ARGUMENTS] == NULL)
+        return NULL;
     for (int i = ARRAY; i < HELD; i++) {
         PyObject *old = state->held[i];
 
-        Py_INCREF(given[i]);
+        if (i != DATE_ARGUMENTS)
+            Py_INCREF(given[i]);
         state->held[i] = given[i];
         Py_XDECREF(old);
     }
@@ -121,6 +154,7 @@ static PyObject *bind(PyObject *module, PyObject *arguments)
 
 static PyMethodDef functions[] = {
     {"lint", lint, METH_O, "Returns the numbers of a sound file, for `Verdict`. Raises `Refused` if the file holds no value."},
+    {"looks_like", looks_like, METH_O, "What a file looks like that holds no value, in words, or None if that is not known."},
     {"open", open_source, METH_VARARGS, "Opens the bytes of a file as an instance of a subclass of Handle."},
     {"map_file", map_file, METH_VARARGS, "Maps this many bytes of an open file into memory."},
     {"rule_name", rule_name, METH_O, "The name of a rule."},

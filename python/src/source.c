@@ -45,9 +45,11 @@ int source_of(State *state, PyObject *owner, Source *out)
         out->length = ((Mapped *)owner)->length;
         return 0;
     }
-    out->file = (const uint8_t *)PyBytes_AsString(owner);
-    if (out->file == NULL)
+    if (!PyBytes_CheckExact(owner)) {
+        PyErr_Format(PyExc_TypeError, "a file is given as bytes, not as %.200R", Py_TYPE(owner));
         return -1;
+    }
+    out->file = (const uint8_t *)PyBytes_AsString(owner);
     out->length = (size_t)PyBytes_Size(owner);
     return 0;
 }

@@ -1,25 +1,39 @@
 /* Builds trees like those of plistlib: dict, list and leaves.
 
-   Each object is made once, a container without members at first. Containers that need members wait on a stack. A block asks
-   for objects that members of the topmost containers refer to, so one call of the library serves many containers. When the
-   objects of a block are made, these containers get their members, which are then still in the processor's cache. */
+   Each object is made once. A container gets its members in their order, and a member that is itself a container gets
+   its own before the next. In that order most writers number the objects, so the bodies of objects with consecutive
+   numbers are read at once.
+
+   The collector knows nothing of what is made before the tree is whole. So nobody finds a list whose members are
+   missing. Nor is it run: no part of the tree is garbage, and it would look at them again and again. If the containers
+   of the tree have made it due, it runs before it gets to know of them. */
 #include "extension.h"
 
-#include <string.h>
-
-/* The largest number of objects in a block. It is even, because pairs have two. */
+/* The largest number of bodies that are read at once, and the number of those that are read where the order is broken.
+   */
 #define BLOCK 128
-/* What is made for an object that is in the block, but is not made yet. */
-#define ASKED ((PyObject *)1)
+#define FEW 8
+/* Python keeps shorter tuples for later. */
+#define LONG_TUPLE 32
 
-/* A list or a dict that needs members. */
-typedef struct Waiting {
-    PyObject *value;
+/* What was made for an object, or 0. The containers of the tree own it. HIDDEN is set if the collector is to know of it
+   when the tree is whole. */
+typedef uintptr_t Made;
+#define HIDDEN ((Made)1)
+
+/* The bodies of objects with consecutive numbers. */
+typedef struct Block {
+    uint64_t first;
+    uint64_t count;
+    bplist_body bodies[BLOCK];
+} Block;
+
+/* A list or a dict that gets its members, and how many members or pairs it has. */
+typedef struct Filling {
+    uint32_t object;
     References references;
-    /* The number of members or pairs that it has, and the number of those that were asked for. */
     uint64_t filled;
-    uint64_t asked;
-} Waiting;
+} Filling;
 
 typedef struct Tree {
     Handle *handle;
@@ -28,244 +42,298 @@ typedef struct Tree {
     /* The root of the tree, and the largest number of nodes that the tree may have. */
     uint32_t object;
     uint64_t limit;
-    /* The number of nodes so far, if no container occurs twice. */
+    /* The number of nodes so far, if no container occurs twice, and whether one does. */
     uint64_t nodes;
-    /* The number of containers, and how often one is a member of another. */
-    uint64_t containers;
-    uint64_t occurrences;
-    /* By object number: what was made for the object, with a reference to it, or ASKED, or NULL. */
-    PyObject **made;
-    /* The stack. All members of the containers from `asked` on were asked for. */
-    Waiting *waiting;
+    uint64_t is_shared;
+    /* By object number. */
+    Made *made;
+    /* The way from the root to the container that gets members. */
+    Filling *filling;
     size_t height;
     size_t room;
-    size_t asked;
+    /* Whether the collector is to be enabled when the tree is whole. */
+    int is_collecting;
+    /* The bodies of keys, and of all others: a dictionary has its keys before its values. */
+    Block keys;
+    Block values;
 } Tree;
 
-/* Objects to make, and their bodies. */
-typedef struct Block {
-    size_t count;
-    uint32_t objects[BLOCK];
-    bplist_body bodies[BLOCK];
-} Block;
+/* Returns what was made, as a borrowed reference, or NULL. */
+static inline PyObject *value_in(Made made)
+{
+    return (PyObject *)(made & ~HIDDEN);
+}
 
-/* Raises if the tree has too many nodes, by the number that the library gives. */
+/* Hides what was made from the collector, if it knows of it. */
+static inline void hide(Made *made)
+{
+    PyObject *value = value_in(*made);
+
+    if (PyObject_GC_IsTracked(value)) {
+        PyObject_GC_UnTrack(value);
+        *made |= HIDDEN;
+    }
+}
+
+static void stop_collector(Tree *tree)
+{
+    tree->is_collecting = PyGC_Disable();
+}
+
+static void start_collector(const Tree *tree)
+{
+    if (tree->is_collecting)
+        PyGC_Enable();
+}
+
+/* Raises if the tree has too many nodes, by the number that the library gives. Meanwhile other threads run, and they
+   may enable the collector or disable it. */
 static int tree_measure(Tree *tree)
 {
     bplist_sizes sizes;
+    int status;
 
-    if (handle_sizes(tree->handle, tree->object, &sizes) < 0)
+    start_collector(tree);
+    status = handle_sizes(tree->handle, tree->object, &sizes);
+    stop_collector(tree);
+    if (status < 0)
         return -1;
     if (sizes.nodes <= tree->limit)
-        return 0;
+        return tree->nodes <= tree->limit ? 0 : raise_changed();
     return raise_fault("TooLarge", "(KK)", (unsigned long long)sizes.nodes, (unsigned long long)tree->limit);
 }
 
-/* Asks for the object of reference `i`, unless it was asked for before. */
-static inline int ask_for(Tree *tree, Block *block, const References *references, uint64_t i)
+/* Reads the bodies of an object and of those after it: twice as many as last time if it follows on them. */
+static int block_read(const Tree *tree, Block *block, uint64_t object)
 {
-    uint64_t object = reference_at(references, tree->source.file, i);
+    uint32_t objects[BLOCK];
+    uint64_t left = tree->handle->objects - object;
+    uint64_t count = object - block->first < block->count + BLOCK ? 2 * block->count : FEW;
 
-    if (object >= tree->handle->objects)
-        return raise_changed();
-    if (tree->made[object] == NULL) {
-        tree->made[object] = ASKED;
-        block->objects[block->count++] = (uint32_t)object;
-    }
-    return 0;
-}
-
-/* Asks for members of one container, as many as the block has room for. The compiler makes a loop for each kind. */
-static inline int ask_members(Tree *tree, Block *block, Waiting *waiting, int is_dict)
-{
-    const References references = waiting->references;
-    uint64_t i;
-
-    for (i = waiting->asked; i < references.count && block->count + 2 <= BLOCK; i++) {
-        if (ask_for(tree, block, &references, i) < 0)
-            return -1;
-        if (is_dict && ask_for(tree, block, &references, references.count + i) < 0)
-            return -1;
-    }
-    waiting->asked = i;
-    return 0;
-}
-
-/* Asks for members of the topmost containers, until the block is full. */
-static int ask(Tree *tree, Block *block)
-{
+    count = count < FEW ? FEW : count > BLOCK ? BLOCK : count;
+    count = count < left ? count : left;
+    for (uint64_t k = 0; k < count; k++)
+        objects[k] = (uint32_t)(object + k);
     block->count = 0;
-    for (tree->asked = tree->height; tree->asked > 0; tree->asked--) {
-        Waiting *waiting = &tree->waiting[tree->asked - 1];
-
-        if ((waiting->references.is_dict ? ask_members(tree, block, waiting, 1) : ask_members(tree, block, waiting, 0)) < 0)
-            return -1;
-        if (waiting->asked < waiting->references.count)
-            return 0;
-    }
+    if (handle_faces(tree->handle, objects, count, block->bodies) < 0)
+        return -1;
+    block->first = object;
+    block->count = count;
     return 0;
 }
 
-/* Makes a container without members. */
-static PyObject *empty_of(Tree *tree, const bplist_body *body)
+static inline int has_body(const Block *block, uint64_t object)
+{
+    return object - block->first < block->count;
+}
+
+/* Returns the body of an object whose number is below that of the objects. */
+static inline const bplist_body *tree_body(Tree *tree, Block *block, uint64_t object)
+{
+    const bplist_body *body;
+
+    /* Keys follow the dictionary that has them. */
+    if (!has_body(block, object) && has_body(&tree->values, object))
+        block = &tree->values;
+    else if (!has_body(block, object) && block_read(tree, block, object) < 0)
+        return NULL;
+    body = &block->bodies[object - block->first];
+    if (body->kind == 0) {
+        raise_status(BPLIST_NO_OBJECT);
+        return NULL;
+    }
+    return body;
+}
+
+/* Puts a container on the way. */
+static int push(Tree *tree, uint32_t object, const References *references)
+{
+    if (tree->height == tree->room) {
+        size_t room = 2 * tree->room + FEW;
+        Filling *moved = PyMem_Realloc(tree->filling, room * sizeof *moved);
+
+        if (moved == NULL) {
+            PyErr_NoMemory();
+            return -1;
+        }
+        tree->filling = moved;
+        tree->room = room;
+    }
+    tree->filling[tree->height++] = (Filling){object, *references, 0};
+    return 0;
+}
+
+/* Makes a container without members, and puts it on the way if it is to have any. */
+static PyObject *container_of(Tree *tree, uint32_t object, const bplist_body *body)
 {
     References references;
+    PyObject *value;
 
     if (references_of(body, &references) < 0)
         return NULL;
-    tree->containers++;
     tree->nodes += reference_count(&references);
     if (tree->nodes > tree->limit && tree_measure(tree) < 0)
         return NULL;
-    return references.is_dict ? PyDict_New() : PyList_New((Py_ssize_t)references.count);
+    if (references.count > 0 && push(tree, object, &references) < 0)
+        return NULL;
+    value = references.is_dict ? PyDict_New() : PyList_New((Py_ssize_t)references.count);
+    tree->made[object] = (Made)value;
+    if (value && !references.is_dict)
+        hide(&tree->made[object]);
+    return value;
 }
 
-/* Makes the objects of the block. */
-static int make(Tree *tree, Block *block)
+/* Makes an object. */
+static PyObject *make(Tree *tree, Block *block, uint64_t object)
 {
-    if (handle_faces(tree->handle, block->objects, block->count, block->bodies) < 0)
-        return -1;
-    for (size_t i = 0; i < block->count; i++) {
-        const bplist_body *body = &block->bodies[i];
-        PyObject *value;
+    const bplist_body *body;
+    PyObject *value;
 
-        if (body->kind == 0)
-            return raise_status(BPLIST_NO_OBJECT);
-        value = is_container(body->kind) ? empty_of(tree, body) : leaf_of(tree->handle->state, &tree->source, body);
-        if (value == NULL)
-            return -1;
-        tree->made[block->objects[i]] = value;
+    if (object >= tree->handle->objects) {
+        raise_changed();
+        return NULL;
     }
-    return 0;
+    body = tree_body(tree, block, object);
+    if (body == NULL)
+        return NULL;
+    if (is_container(body->kind))
+        return container_of(tree, (uint32_t)object, body);
+    value = leaf_of(tree->handle->state, &tree->source, body);
+    tree->made[object] = (Made)value;
+    if (body->kind == BPLIST_UID && value)
+        hide(&tree->made[object]);
+    return value;
 }
 
-/* Returns what was made for reference `i`, which was asked for: a borrowed reference. */
-static inline PyObject *made_at(const Tree *tree, const References *references, uint64_t i)
+/* Returns what was made for an object, as a borrowed reference, or NULL. */
+static inline PyObject *made_of(const Tree *tree, uint64_t object)
+{
+    return object < tree->handle->objects ? value_in(tree->made[object]) : NULL;
+}
+
+/* Returns the value of reference `i`, which is made if it was not yet. */
+static inline PyObject *member(Tree *tree, const References *references, uint64_t i)
 {
     uint64_t object = reference_at(references, tree->source.file, i);
+    PyObject *value = made_of(tree, object);
 
-    if (object < tree->handle->objects && tree->made[object] != NULL && tree->made[object] != ASKED)
-        return tree->made[object];
-    raise_changed();
-    return NULL;
+    if (value == NULL)
+        return make(tree, &tree->values, object);
+    tree->is_shared |= PyDict_CheckExact(value) || PyList_CheckExact(value);
+    Py_INCREF(value);
+    return value;
 }
 
-/* Gives a container the members that were asked for and are made. The compiler makes a loop for each kind. */
-static inline int fill(Tree *tree, Waiting *waiting, int is_dict)
+/* Returns key `i` in the same way. Each key was a text when the file was checked. */
+static inline PyObject *key_at(Tree *tree, const References *references, uint64_t i)
 {
-    const References references = waiting->references;
-    uint64_t end = waiting->asked;
+    uint64_t object = reference_at(references, tree->source.file, i);
+    PyObject *key = made_of(tree, object);
 
-    for (uint64_t i = waiting->filled; i < end; i++) {
-        PyObject *value = made_at(tree, &references, is_dict ? references.count + i : i);
-        PyObject *key = is_dict ? made_at(tree, &references, i) : Py_None;
+    if (key)
+        Py_INCREF(key);
+    else
+        key = make(tree, &tree->keys, object);
+    if (key && !PyUnicode_CheckExact(key)) {
+        Py_DECREF(key);
+        raise_changed();
+        return NULL;
+    }
+    return key;
+}
 
-        if (value == NULL || key == NULL)
+/* Gives a dict pair `i`. A key that it has already would take its place and that of its value, and nobody would own
+   these. */
+static inline int add_pair(Tree *tree, PyObject *dict, const References *references, uint64_t i)
+{
+    PyObject *key = key_at(tree, references, i);
+    PyObject *value = key ? member(tree, references, references->count + i) : NULL;
+    int status = value ? PyDict_SetItem(dict, key, value) : -1;
+
+    Py_XDECREF(key);
+    Py_XDECREF(value);
+    if (status == 0 && (uint64_t)PyDict_Size(dict) != i + 1)
+        return raise_changed();
+    return status;
+}
+
+/* Gives a list member `i`. */
+static inline int add_member(Tree *tree, PyObject *list, const References *references, uint64_t i)
+{
+    PyObject *value = member(tree, references, i);
+
+    return value ? PyList_SetItem(list, (Py_ssize_t)i, value) : -1;
+}
+
+/* Gives the last container of the way members, until one of them comes behind it on the way. A container that has all
+   of them leaves the way. */
+static int fill(Tree *tree)
+{
+    const size_t height = tree->height;
+    const Filling filling = tree->filling[height - 1];
+    const References *references = &filling.references;
+    PyObject *value = value_in(tree->made[filling.object]);
+    uint64_t i = filling.filled;
+
+    for (; i < references->count && tree->height == height; i++)
+        if ((references->is_dict ? add_pair(tree, value, references, i) : add_member(tree, value, references, i)) < 0)
             return -1;
-        tree->occurrences += PyDict_CheckExact(value) || PyList_CheckExact(value);
-        if (is_dict) {
-            if (PyDict_SetItem(waiting->value, key, value) < 0)
-                return -1;
-        } else {
-            Py_INCREF(value);
-            if (PyList_SetItem(waiting->value, (Py_ssize_t)i, value) < 0)
-                return -1;
-        }
-    }
-    waiting->filled = end;
+    /* Python makes a dict known to the collector when it gets a container as a value. */
+    if (references->is_dict)
+        hide(&tree->made[filling.object]);
+    tree->filling[height - 1].filled = i;
+    if (tree->height == height)
+        tree->height--;
     return 0;
 }
 
-/* Fills the containers of the block, and takes those that are full from the stack. */
-static int fill_asked(Tree *tree)
+/* Gives all containers on the way their members. */
+static int fill_all(Tree *tree)
 {
-    size_t first = tree->asked > 0 ? tree->asked - 1 : 0;
-
-    for (size_t k = tree->height; k-- > first;) {
-        Waiting *waiting = &tree->waiting[k];
-
-        if ((waiting->references.is_dict ? fill(tree, waiting, 1) : fill(tree, waiting, 0)) < 0)
+    while (tree->height > 0)
+        if (fill(tree) < 0)
             return -1;
-    }
-    tree->height = tree->asked;
-    return 0;
-}
-
-/* Makes room for the containers of a block. */
-static int tree_reserve(Tree *tree)
-{
-    size_t room = 2 * tree->room + BLOCK;
-    Waiting *moved;
-
-    if (tree->room - tree->height >= BLOCK)
-        return 0;
-    moved = PyMem_Realloc(tree->waiting, room * sizeof *moved);
-    if (moved == NULL) {
-        PyErr_NoMemory();
-        return -1;
-    }
-    tree->waiting = moved;
-    tree->room = room;
-    return 0;
-}
-
-/* Puts the containers of the block on the stack. The first becomes the top: memory is read and written faster forwards. */
-static int push(Tree *tree, const Block *block)
-{
-    if (tree_reserve(tree) < 0)
-        return -1;
-    for (size_t i = block->count; i-- > 0;) {
-        const bplist_body *body = &block->bodies[i];
-        Waiting *top = &tree->waiting[tree->height];
-
-        if (!is_container(body->kind) || body->count == 0)
-            continue;
-        top->value = tree->made[block->objects[i]];
-        top->filled = top->asked = 0;
-        if (references_of(body, &top->references) < 0)
-            return -1;
-        tree->height++;
-    }
-    return 0;
+    /* If a container occurs twice, the tree has more nodes than were counted. */
+    return tree->is_shared ? tree_measure(tree) : 0;
 }
 
 /* Builds the tree of an object. */
 static PyObject *tree_build(Tree *tree)
 {
-    Block block = {.count = 1, .objects = {tree->object}};
-    PyObject *root;
+    PyObject *root = NULL;
 
-    if (tree->nodes > tree->limit && tree_measure(tree) < 0)
-        return NULL;
-    do {
-        if (make(tree, &block) < 0 || fill_asked(tree) < 0 || push(tree, &block) < 0 || ask(tree, &block) < 0)
-            return NULL;
-    } while (tree->height > 0);
-    /* Each container but the root is a member of one. If one occurs twice, the tree has more nodes than were counted. */
-    if (tree->occurrences + 1 > tree->containers && tree->containers > 0 && tree_measure(tree) < 0)
-        return NULL;
-    root = tree->made[tree->object];
-    Py_INCREF(root);
+    if (tree->nodes <= tree->limit || tree_measure(tree) == 0)
+        root = make(tree, &tree->values, tree->object);
+    if (root && fill_all(tree) < 0)
+        Py_CLEAR(root);
     return root;
 }
 
-/* Frees what the tree holds, except the references that its values hold themselves. */
-static void tree_free(Tree *tree)
+/* Lets the collector know of a tree that is whole. */
+static void tree_track(const Tree *tree)
 {
     for (uint64_t i = 0; i < tree->handle->objects; i++)
-        if (tree->made[i] != ASKED)
-            Py_XDECREF(tree->made[i]);
-    PyMem_Free(tree->made);
-    PyMem_Free(tree->waiting);
-    Py_DECREF(tree->source.owner);
+        if (tree->made[i] & HIDDEN)
+            PyObject_GC_Track(value_in(tree->made[i]));
 }
 
-/* Makes the table of what is made. The tree of the top needs almost all of it, so all of its memory is written to at once:
-   a page that is first read and then written to costs two page faults. */
-static PyObject **table_of(const Handle *self, uint32_t object)
+/* Runs the collector if it is due: it looks after that when memory for a container is taken from the heap, as for a
+   tuple that is too long to be kept for later. */
+static void collect_if_due(void)
 {
-    size_t size = self->objects * sizeof(PyObject *);
-    PyObject **table;
+    PyObject *tuple = PyTuple_New(LONG_TUPLE);
+
+    if (tuple == NULL)
+        PyErr_Clear();
+    Py_XDECREF(tuple);
+}
+
+/* Makes the table of what is made. The tree of the top needs almost all of it, so all of its memory is written to at
+   once: a page that is first read and then written to costs two page faults. */
+static Made *table_of(const Handle *self, uint32_t object)
+{
+    size_t size = self->objects * sizeof(Made);
+    Made *table;
 
     if (object != self->top)
         return PyMem_Calloc(1, size);
@@ -277,22 +345,35 @@ static PyObject **table_of(const Handle *self, uint32_t object)
 
 PyObject *tree_of(Handle *self, uint32_t object, uint64_t limit)
 {
-    Tree tree = {.handle = self, .object = object, .limit = limit, .nodes = 1};
+    Tree tree;
     PyObject *root;
-    int is_collecting;
 
     if (handle_ready(self) < 0)
         return NULL;
+    if (object >= self->objects) {
+        raise_status(BPLIST_NO_OBJECT);
+        return NULL;
+    }
+    memset(&tree, 0, offsetof(Tree, keys));
+    tree.keys.first = tree.keys.count = tree.values.first = tree.values.count = 0;
+    tree.handle = self;
+    tree.object = object;
+    tree.limit = limit;
+    tree.nodes = 1;
     tree.made = table_of(self, object);
     if (tree.made == NULL)
         return PyErr_NoMemory();
     tree.source = self->source;
     Py_INCREF(tree.source.owner);
-    /* No part of the tree is garbage yet, and the collector would look at it again and again. */
-    is_collecting = PyGC_Disable();
+    stop_collector(&tree);
     root = tree_build(&tree);
-    if (is_collecting)
-        PyGC_Enable();
-    tree_free(&tree);
+    start_collector(&tree);
+    if (root && tree.is_collecting)
+        collect_if_due();
+    if (root)
+        tree_track(&tree);
+    PyMem_Free(tree.made);
+    PyMem_Free(tree.filling);
+    Py_DECREF(tree.source.owner);
     return root;
 }

@@ -26,7 +26,6 @@ import weakref
 from unittest import mock
 
 import bplist
-from bplist import __main__ as command
 
 ROOT = pathlib.Path(__file__).resolve().parents[2]
 sys.path.insert(0, str(ROOT / "tests"))
@@ -591,58 +590,6 @@ class Files(unittest.TestCase):
             self.assertEqual((ended.exception.code, said.getvalue().count("\n")), (2, 1))
 
 
-class Command(unittest.TestCase):
-    def setUp(self):
-        self.folder = tempfile.TemporaryDirectory()
-        self.addCleanup(self.folder.cleanup)
-        self.path = os.path.join(self.folder.name, "file")
-        with open(self.path, "wb") as file:
-            plistlib.dump({"a": [1, "two"], "b\n": b"\x00"}, file, fmt=plistlib.FMT_BINARY)
-
-    def run_command(self, *words):
-        """Status, output and errors of a call."""
-        said, complained = io.StringIO(), io.StringIO()
-        with contextlib.redirect_stdout(said), contextlib.redirect_stderr(complained):
-            try:
-                status = command.main(words)
-            except SystemExit as ended:
-                status = ended.code
-        return status, said.getvalue(), complained.getvalue()
-
-    def test_lint(self):
-        broken = os.path.join(self.folder.name, "broken")
-        with open(broken, "wb") as file:
-            file.write(b"bplist00")
-        self.assertEqual(self.run_command("lint", self.path), (0, f"{self.path}: ok\n", ""))
-        status, said, _ = self.run_command("lint", self.path, broken)
-        self.assertEqual(status, 1)
-        self.assertTrue(said.splitlines()[1].startswith(f"{broken}: fault TooShort object none place 8: "), said)
-
-    def test_ls(self):
-        self.assertEqual(self.run_command("ls", self.path), (0, "'a': <Array of 2, object 3>\n'b\\n': b'\\x00'\n", ""))
-        self.assertEqual(self.run_command("ls", self.path, "/a"), (0, "0: 1\n1: 'two'\n", ""))
-        self.assertEqual(self.run_command("ls", self.path, "/a/1"), (0, "'two'\n", ""))
-
-    def test_show(self):
-        self.assertEqual(self.run_command("show", self.path), (0, "{'a': [1, 'two'], 'b\\n': b'\\x00'}\n", ""))
-        self.assertEqual(self.run_command("show", self.path, "/a/0"), (0, "1\n", ""))
-
-    def test_faults(self):
-        """An error is one line and a status."""
-        rows = [("/none", 1, "missing"), ("/a/2", 1, "missing"), ("/a/0/0", 1, "missing")]
-        rows += [("a", 2, "path text"), ("/\ud800", 2, "surrogate")]
-        for path, wanted, words in rows:
-            status, said, complained = self.run_command("show", self.path, path)
-            self.assertEqual((status, said, complained.count("\n")), (wanted, "", 1))
-            self.assertIn(words, complained)
-        status, _, complained = self.run_command("ls", self.path + " of no name")
-        self.assertEqual((status, complained.count("\n")), (2, 1))
-
-    def test_module(self):
-        ran = subprocess.run([sys.executable, "-m", "bplist", "show", self.path, "/a/1"], capture_output=True, check=False)
-        self.assertEqual((ran.returncode, ran.stdout, ran.stderr), (0, b"'two'\n", b""))
-
-
 class Package(unittest.TestCase):
     def test_version(self):
         self.assertEqual(bplist.__version__, (ROOT / "VERSION").read_text(encoding="utf-8").strip())
@@ -657,9 +604,28 @@ class Package(unittest.TestCase):
             with self.assertRaises(TypeError):
                 object.__new__(made)
 
+    def test_looks_like(self):
+        """What a file looks like is a call of its own, and a part of the exception."""
+        sound = plistlib.dumps({"a": 1}, fmt=plistlib.FMT_BINARY)
+        self.assertIsNone(bplist.looks_like(sound))
+        place = len(sound) - 32
+        for octets, words in (
+            (plistlib.dumps({}), "an XML property list"),
+            (bytearray(sound + b"\n"), f"1 byte too many after a trailer at {place}"),
+            (memoryview(sound[:20]), "a file cut short: the trailer is missing"),
+            (b"anything else", None),
+        ):
+            self.assertEqual(bplist.looks_like(octets), words)
+            fault = bplist.lint_bytes(octets).fault
+            self.assertEqual((fault.looks_like, f"It looks like: {words}" in str(fault)), (words, words is not None))
+            with tempfile.NamedTemporaryFile() as file:
+                file.write(octets)
+                file.flush()
+                self.assertEqual((bplist.looks_like(file.name), bplist.lint(file.name).fault.looks_like), (words, words))
+
     def test_faults_are_copied(self):
         """An exception can be passed to another process."""
-        refused = [bplist.Refused(15, 3, 21), bplist.Refused(23, 0, None, (0, 1))]
+        refused = [bplist.Refused(15, 3, 21), bplist.Refused(23, 0, None, (0, 1)), bplist.lint_bytes(b"{}").fault]
         for fault in (*refused, bplist.PathError(2), bplist.TooLarge(5, 4)):
             copied = pickle.loads(pickle.dumps(fault))
             self.assertEqual((type(copied), copied.args, str(copied)), (type(fault), fault.args, str(fault)))
@@ -692,23 +658,6 @@ class Changes(unittest.TestCase):
                         self.assertEqual(repr(plist.plain()), repr(plain_of(plist.value)))
             except bplist.Refused:
                 pass
-
-    def test_changed_while_mapped(self):
-        """A thousand changes of a mapped file while it is open. Values are meaningless, but no read leaves the file."""
-        given = random.Random(2)
-        file = plistlib.dumps(Values.tree, fmt=plistlib.FMT_BINARY)
-        with tempfile.NamedTemporaryFile() as named:
-            for _ in range(1000):
-                named.seek(0)
-                named.write(file)
-                named.flush()
-                with bplist.open(named.name, map=True) as plist:
-                    named.seek(given.randrange(len(file)))
-                    named.write(given.randbytes(1))
-                    named.flush()
-                    for read in (plist.plain, lambda: plain_of(plist.value), plist.text):
-                        with contextlib.suppress(bplist.Error, ValueError, TypeError, KeyError, RecursionError):
-                            read()
 
 
 if __name__ == "__main__":

@@ -1,13 +1,14 @@
 #!/usr/bin/env python3
-"""bench_library.py LIBRARY WHEEL [WORD..]
+"""bench_library.py LIBRARY WHEEL [--beside OTHER] [WORD..]
 
 Times reading property lists: from Python by the package `bplist` of WHEEL and by plistlib, and from C by libbplist and by
 libplist, if gcc and libplist's headers are installed (Debian: `libplist-dev`). LIBRARY is the folder in which `make lib`
-leaves the library. With words, only the files whose name has one of them are timed.
+leaves the library. OTHER is a wheel of another version, which is timed in the same run. With words, only the files whose
+name has one of them are timed.
 
 Each row is a process of its own, which measures the time from opening the file to its end, and its peak of memory. It reads
 three values; or builds the whole tree; or walks over all values, reading each on access. plistlib always builds the tree. The
-time is the best of ten runs, or of forty if the file is short, and the peak is the greatest. Each round runs all rows, in a
+time is the best of fifteen runs, or of forty if the file is short, and the peak is the greatest. Each round runs all rows, in a
 new order. In brackets is the time as a fraction of plistlib's. All rows must read the same three values.
 """
 import compileall
@@ -26,7 +27,7 @@ import zipfile
 
 ROOT = pathlib.Path(__file__).resolve().parents[2]
 HERE = pathlib.Path(__file__).resolve().parent
-ROUNDS = 10
+ROUNDS = 15
 # A file below so many bytes is read in a moment, which other work on the machine may spoil.
 SHORT = 2_000_000
 SHORT_ROUNDS = 40
@@ -200,14 +201,13 @@ def compiled(folder, source, *flags):
 
 def rows(folder, library, file, wanted):
     here = [sys.executable, "-B", __file__, "--read"]
-    environment = dict(os.environ, PYTHONPATH=os.path.join(folder, "package"))
-    for name, what in (
-        ("Python, plistlib", "plistlib"),
-        ("Python, three values", "values"),
-        ("Python, whole tree", "tree"),
-        ("Python, lazy walk", "walk"),
-    ):
-        yield Row(name, [*here, what, file, *wanted], environment)
+    environment = dict(os.environ)
+    yield Row("Python, plistlib", [*here, "plistlib", file, *wanted], environment)
+    for package, version in (("package", ""), ("other", ", other")):
+        if os.path.isdir(os.path.join(folder, package)):
+            environment = dict(os.environ, PYTHONPATH=os.path.join(folder, package))
+            for name, what in (("three values", "values"), ("whole tree", "tree"), ("lazy walk", "walk")):
+                yield Row(f"Python, {name}{version}", [*here, what, file, *wanted], environment)
     for name, program in (
         ("C, libplist", compiled(folder, "bench_libplist.c", "-lplist-2.0")),
         ("C, libbplist", compiled(folder, "bench_bplist.c", library / "libbplist.a")),
@@ -226,7 +226,7 @@ def time_file(name, folder, library):
     print(f"{name}: {os.path.getsize(file):,} bytes")
     for row in timed:
         part = row.seconds / timed[0].seconds
-        print(f"  {row.name:22} {row.seconds * 1000:9.1f} ms ({part:.3f}) {row.memory / 1024:7.1f} MiB")
+        print(f"  {row.name:28} {row.seconds * 1000:9.1f} ms ({part:.3f}) {row.memory / 1024:7.1f} MiB")
         if row.values != timed[0].values:
             sys.exit(f"{row.name} reads {row.values} and not {timed[0].values}")
 
@@ -238,11 +238,15 @@ def main():
     if len(sys.argv) < 3:
         sys.exit(__doc__)
     library, wheel, *words = sys.argv[1:]
+    wheels = {"package": wheel}
+    if words[:1] == ["--beside"]:
+        wheels["other"], *words = words[1:]
     with tempfile.TemporaryDirectory(prefix="bplist") as folder:
-        package = os.path.join(folder, "package")
-        zipfile.ZipFile(wheel).extractall(package)
-        # As pip does. Else each process would compile the package, which takes memory.
-        compileall.compile_dir(package, quiet=1)
+        for name, packed in wheels.items():
+            package = os.path.join(folder, name)
+            zipfile.ZipFile(packed).extractall(package)
+            # As pip does. Else each process would compile the package, which takes memory.
+            compileall.compile_dir(package, quiet=1)
         for name in FILES:
             if not words or any(word in name for word in words):
                 time_file(name, folder, pathlib.Path(library).resolve())

@@ -6,15 +6,20 @@ Compiles the C programs against libbplist.a, with all warnings as errors, and ru
 - The walker (c_walker.c) walks over every file of the tables and of other writers, under valgrind if it is installed, and
   prints what `bplint lint` says. An error or a leak fails the batch. On some files it runs again with each request for
   memory refused in turn.
+- c_changing.c calls the library on mapped files that change: between calls, one byte after the other, and during calls,
+  by another thread and another process.
 - c_threads.c calls the library from several threads, under valgrind's helgrind if it is installed.
 - The example prints values.
-- The library exports the calls of bplist.h, and has no variables that it writes.
+- The library exports the calls of bplist.h, has no variables that it writes, and in its own functions no instruction
+  that ends the process.
 
 Each file counts as one test, and so does each of the other points. Without gcc and nm nothing is run. The last line is
 `N passed, M failed`, with `, K skipped` if some were.
 """
+import datetime
 import os
 import pathlib
+import plistlib
 import re
 import subprocess
 import sys
@@ -45,6 +50,27 @@ REFUSED = {
     "self-circle": expression("hd a100 08 tr(1,1,1,0,10)"),
     "key-not-text": expression("hd d10101 09 080b tr(1,1,2,0,12)"),
 }
+
+# A value with members of all kinds that Python writes.
+NESTED = {
+    "list": [1, -2, {"x": "y", "z": [True, False]}],
+    "k1": {"deep": {"deeper": ["", "abc", 2.5]}},
+    "text": "\u00e9" * 20,
+    "data": bytes(40),
+    "uid": plistlib.UID(7),
+    "date": datetime.datetime(2001, 1, 2),
+}
+
+# Files that change: the smaller of them at each byte, and all while others write to them.
+CHANGING = {
+    "three-keys": REFUSED["three-keys"],
+    "nested": plistlib.dumps(NESTED, fmt=plistlib.FMT_BINARY),
+}
+RACED = {
+    **CHANGING,
+    "many": plistlib.dumps({f"k{i}": [i, f"text {i}", i / 2] for i in range(600)}, fmt=plistlib.FMT_BINARY),
+}
+RACE_MILLISECONDS = 1500
 
 # What the example prints of a file under a path.
 PRINTED = [
@@ -83,6 +109,18 @@ def symbols(library, *flags):
     return [(row[-1].partition("@")[0], row[-2]) for row in rows if len(row) >= 2]
 
 
+def ends():
+    """The exports and functions of bplist_c with an instruction that ends the process. The crates below take any source
+    of bytes: by their contracts a file that changes leads to none of theirs, as where something is divided by a size."""
+    ran = subprocess.run(["objdump", "-d", "--no-show-raw-insn", LIBRARY], capture_output=True, text=True, check=True)
+    name = ""
+    for line in ran.stdout.splitlines():
+        named = re.match(r"[0-9a-f]+ <(.*)>:$", line)
+        name = named.group(1) if named else name
+        if "\tud2" in line and (name.startswith("bplist_c::") or "::" not in name):
+            yield name
+
+
 class Tests:
     def __init__(self, folder):
         self.folder = folder
@@ -91,6 +129,7 @@ class Tests:
         static = [f"-I{ROOT / 'include'}", LIBRARY]
         self.walker = built(folder, HERE / "c_walker.c", *static)
         self.threads = built(folder, HERE / "c_threads.c", *static, "-pthread")
+        self.changing = built(folder, HERE / "c_changing.c", *static, "-pthread")
         self.example = built(folder, ROOT / "examples/print_value.c", *static)
 
     def count(self, name, difference):
@@ -176,6 +215,24 @@ class Tests:
                 ran = subprocess.run([*tool, self.threads, path], capture_output=True, timeout=SECONDS)
                 self.count(f"threads, {name}", "" if ran.returncode == 0 else f"{ran}")
 
+    def change_files(self):
+        """Files that change between calls, under valgrind too, and during calls. No call may end the process."""
+        for name, octets in CHANGING.items():
+            self.change(f"each byte, {name}", [], self.file(f"each-{name}", octets), "each")
+        if self.has_valgrind:
+            tool = ["valgrind", "-q", "--error-exitcode=99", "--leak-check=full", "--errors-for-leak-kinds=definite"]
+            path = self.file("each-valgrind", CHANGING["three-keys"])
+            self.change("each byte, three-keys, valgrind", tool, path, "each")
+        for name, octets in RACED.items():
+            for writer in ("thread", "process"):
+                path = self.file(f"{writer}-{name}", octets)
+                self.change(f"a {writer} that writes, {name}", [], path, writer, str(RACE_MILLISECONDS))
+
+    def change(self, name, tool, path, *words):
+        ran = subprocess.run([*tool, self.changing, path, *words], capture_output=True, timeout=SECONDS, check=False)
+        self.count(name, "" if ran.returncode == 0 else f"status {ran.returncode}: {ran.stderr.decode()[-2000:]}")
+        print(f"{name}: {ran.stdout.decode().strip()}")
+
     def print_values(self):
         for number, (text, path, expected) in enumerate(PRINTED):
             file = self.file(f"printed{number}", expression(text))
@@ -195,12 +252,13 @@ class Tests:
         self.count("calls of libbplist.so", "" if shown == calls else f"{shown ^ calls}")
         shown = {name for name, _ in symbols(LIBRARY, "-g", "--defined-only")}
         self.count("calls of libbplist.a", "" if shown == calls else f"{shown ^ calls}")
+        self.count("instructions that end the process", ", ".join(ends()))
         variables = {name for name, kind in symbols(LIBRARY, "--defined-only") if kind in "bBdDcCsSgG"}
         self.count("variables of libbplist.a", ", ".join(variables - {UNWRITTEN}))
 
 
 def main():
-    for program in ("gcc", "nm"):
+    for program in ("gcc", "nm", "objdump"):
         if lacks(program):
             print(f"skipped, {program} is not installed: the C library\n{closing(0, 0, 1)}")
             return 0
@@ -209,6 +267,7 @@ def main():
         tests.walk_all()
         tests.refuse_growths()
         tests.run_threads()
+        tests.change_files()
         tests.print_values()
         tests.see_symbols()
     print(closing(tests.passed, tests.failed, tests.skipped))

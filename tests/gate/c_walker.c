@@ -352,6 +352,43 @@ static void see_refusals(bplist_handle *handle, struct file file, const bplist_v
     HOLDS((status == BPLIST_NO_KEY || status == BPLIST_NO_INDEX || status == BPLIST_NOT_STEPPABLE) && found.step == 0);
 }
 
+/* What has no elements may be NULL. */
+static void see_nulls(bplist_handle *handle, struct file file, const bplist_verdict *top)
+{
+    const uint8_t *bytes = file.bytes;
+    size_t length = file.length;
+    bplist_handle other = {0};
+    bplist_verdict verdict;
+    bplist_found found;
+    bplist_written written;
+    bplist_status status;
+    uint64_t count = 5;
+    uint32_t object;
+
+    ASK(status, bplist_lint(NULL, 0, &verdict));
+    HOLDS(status == BPLIST_FAULT && verdict.rule == 2 && verdict.place == 0);
+    ASK(status, bplist_circle(bytes, length, NULL, 0, &count));
+    HOLDS(status == BPLIST_NO_RULE);
+    ASK(status, bplist_looks_like(NULL, 0, NULL, 0, &count));
+    HOLDS(status == BPLIST_OK || status == BPLIST_SHORT);
+    HOLDS(bplist_rule_name(2, NULL, 0, &count) == BPLIST_SHORT && count == strlen("TooShort"));
+    ASK(status, bplist_open_certified(&other, bytes, length, NULL, 0, false, &verdict));
+    HOLDS(status == BPLIST_FAULT && verdict.rule == 24);
+    ASK(status, bplist_certificate(handle, NULL, 0, &count));
+    HOLDS(status == BPLIST_SHORT && count >= 16);
+    ASK(status, bplist_find(handle, bytes, length, NULL, 0, &found));
+    HOLDS(status == BPLIST_OK && found.object == top->top);
+    status = bplist_find_key(handle, bytes, length, top->top, NULL, 0, &object);
+    HOLDS(status == BPLIST_OK || (status >= BPLIST_NO_KEY && status <= BPLIST_NOT_STEPPABLE));
+    HOLDS(bplist_faces(handle, bytes, length, NULL, 0, NULL, 0, &count) == BPLIST_OK && count == 0);
+    HOLDS(bplist_members(handle, bytes, length, top->top, 0, NULL, 0, &count) == BPLIST_OK && count == 0);
+    HOLDS(bplist_read(handle, bytes, length, top->top, 0, NULL, 0, &count) == BPLIST_OK && count == 0);
+    status = bplist_units(handle, bytes, length, top->top, 0, NULL, 0, &count);
+    HOLDS(status == BPLIST_OTHER_KIND || (status == BPLIST_OK && count == 0));
+    ASK(status, bplist_text(handle, bytes, length, top->top, NULL, 0, &written));
+    HOLDS(status == BPLIST_SHORT || status == BPLIST_NO_TEXT);
+}
+
 static void see_file(bplist_handle *handle, struct file file, const bplist_verdict *verdict)
 {
     bplist_found found;
@@ -411,6 +448,21 @@ static void see_certified(bplist_handle *handle, struct file file, bool sorted)
     free(certificate);
 }
 
+/* A sound file looks like nothing else. */
+static void see_look(struct file file, bool is_sound)
+{
+    char words[200], one = 7;
+    uint64_t count, again;
+    bplist_status status;
+
+    ASK(status, bplist_looks_like(file.bytes, file.length, words, sizeof words, &count));
+    HOLDS(status == BPLIST_OK && (count == 0 || !is_sound));
+    if (count > 0) {
+        ASK(status, bplist_looks_like(file.bytes, file.length, &one, 1, &again));
+        HOLDS(status == BPLIST_SHORT && again == count && one == 7);
+    }
+}
+
 static void see(const char *name)
 {
     long before = taken_now();
@@ -431,10 +483,12 @@ static void see(const char *name)
             break;
         HOLDS(status == BPLIST_OK);
         see_file(&handle, file, &linted);
+        see_nulls(&handle, file, &linted);
         see_certified(&handle, file, sorted == 1);
         HOLDS(bplist_close(&handle) == BPLIST_OK);
     }
     see_closed(&handle, file);
+    see_look(file, status != BPLIST_FAULT);
     if (status == BPLIST_FAULT)
         print_fault(file, &linted);
     else

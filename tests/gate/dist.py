@@ -7,7 +7,8 @@ release, not those of the tree.
 - If the release is made again in another folder, with another umask, time zone and language, each file has the same bytes.
 - The archive is unpacked into a folder of its own. dpkg installs the packages below a root that has only an entry of libc6.
   pip installs the wheel in a venv, without an index. `make install` installs below a folder too.
-- Each link of the archive's README.md, SECURITY.md and CHANGELOG.md leads to a file of the archive.
+- Each link of a page of the archives and of the packages leads to a file that is there.
+- The archive of the suite for other readers runs it, and has the licence. The packages name the project's page.
 - In each of these places the session of README.md prints what README.md says, `man` shows the manual page, and the example
   compiles with bplist.pc and runs. In the venv the Python code of README.md runs.
 - Removing what was installed leaves no file and no folder.
@@ -35,6 +36,7 @@ from helpers.harness import closing, lacks  # noqa: E402
 
 VERSION = (ROOT / "VERSION").read_text(encoding="utf-8").strip()
 ARCHIVE = f"bplint-{VERSION}-x86_64-linux"
+SUITE = f"bplint-conformance-{VERSION}"
 PACKAGES = ["bplint", "libbplist0", "libbplist-dev"]
 MULTIARCH = "lib/x86_64-linux-gnu"
 TOOLS = ["dh", "fakeroot", "gcc", "lintian", "man", "objdump", "pkg-config"]
@@ -43,7 +45,7 @@ STRICT = ["-std=c11", "-Wall", "-Wextra", "-Werror", "-pedantic", "-O2"]
 DATE = {"SOURCE_DATE_EPOCH": 1700000000}
 ELSEWHERE = {"TZ": "Asia/Tokyo", "LC_ALL": "C.UTF-8"}
 # No part of a release is made from these.
-UNREAD = [".git", "conformance", "crates", "dist", "rust", "tests"]
+UNREAD = [".git", "crates", "dist", "rust", "tests"]
 
 
 @dataclasses.dataclass
@@ -74,10 +76,12 @@ def files_below(folder):
     return [path for path in folder.rglob("*") if path.is_file() and not path.is_symlink()]
 
 
-def dead_links(page):
-    """The links of a page that lead to no file."""
-    links = re.findall(r"\]\(([^)#]+)", page.read_text(encoding="utf-8"))
-    return [link for link in links if "://" not in link and not (page.parent / link).exists()]
+def dead_links(folder):
+    """The links of the pages below a folder that lead to no file."""
+    for page in folder.rglob("*.md"):
+        for link in re.findall(r"\]\(([^)#]+)", page.read_text(encoding="utf-8")):
+            if "://" not in link and not (page.parent / link).exists():
+                yield f"{page.relative_to(folder)}: {link}"
 
 
 def newest(pattern, text):
@@ -111,7 +115,7 @@ class Tests:
         self.make(tree, "dist", f"DIST={again}", umask=0o077, **DATE, **ELSEWHERE)
         names = sorted(below(self.dist))
         wheels = [name for name in names if name.startswith(f"bplist-{VERSION}-") and name.endswith(".whl")]
-        wanted = [f"{ARCHIVE}.tar.gz", "SHA256SUMS", *(f"{name}_{VERSION}_amd64.deb" for name in PACKAGES), *wheels[:1]]
+        wanted = [f"{ARCHIVE}.tar.gz", f"{SUITE}.tar.gz", "SHA256SUMS", *(f"{name}_{VERSION}_amd64.deb" for name in PACKAGES), *wheels[:1]]
         self.count("the files of a release", "" if names == sorted(wanted) and wheels else f"{names}")
         for name in names:
             same = (again / name).exists() and filecmp.cmp(self.dist / name, again / name, shallow=False)
@@ -121,15 +125,36 @@ class Tests:
 
     def archive(self):
         place = self.folder / "unpacked"
-        place.mkdir()
-        run("tar", "-xzf", self.dist / f"{ARCHIVE}.tar.gz", folder=place)
-        self.count("one folder in the archive", "" if os.listdir(place) == [ARCHIVE] else f"{os.listdir(place)}")
-        top = place / ARCHIVE
-        for page in "README.md", "SECURITY.md", "CHANGELOG.md":
-            self.count(f"links of {page} in the archive", ", ".join(dead_links(top / page)))
+        top = self.unpacked(ARCHIVE, place)
         self.use(Installed("archive", top, "lib", top / "examples/print_value.c"))
         self.see(place)
         self.linked += [top / "bin/bplint", top / "lib/libbplist.so.0"]
+
+    def unpacked(self, name, place):
+        """The folder of an archive, unpacked into a folder of its own."""
+        place.mkdir()
+        run("tar", "-xzf", self.dist / f"{name}.tar.gz", folder=place)
+        self.count(f"one folder in {name}", "" if os.listdir(place) == [name] else f"{os.listdir(place)}")
+        self.count(f"links of {name}", ", ".join(dead_links(place / name)))
+        return place / name
+
+    def suite(self):
+        """The suite for other readers, as its author runs it, and with a command that is none."""
+        top = self.unpacked(SUITE, self.folder / "suite")
+        same = filecmp.cmp(top / "LICENSE", ROOT / "LICENSE", shallow=False)
+        self.count("LICENSE of the suite", "" if same else "it is not the project's")
+        program = self.folder / "unpacked" / ARCHIVE / "bin/bplint"
+        said = run(sys.executable, "run.py", "--strict", program, "lint", "--quiet", folder=top)
+        self.count("the suite on bplint", "" if said.endswith(" passed, 0 failed\n") else said[-400:])
+        for words, wanted in (
+            (["no-such-command"], "run.py: cannot start no-such-command: No such file or directory\n"),
+            (["python3", "missing.py"], "is sound: python3: can't open file"),
+            (["false"], "is sound: status 1\n"),
+            (["true"], "a file of one byte; if its status is always 0, use --refused-if\n"),
+        ):
+            ran = subprocess.run([sys.executable, "run.py", *words], cwd=top, capture_output=True, text=True, check=False)
+            right = (ran.returncode, ran.stdout, ran.stderr.count("\n")) == (2, "", 1) and wanted in ran.stderr
+            self.count(f"the suite on {words}", "" if right else f"{ran}")
 
     def packages(self):
         root = self.folder / "root"
@@ -140,6 +165,12 @@ class Tests:
         dpkg = ["fakeroot", "dpkg", f"--root={root}", "--path-include=/usr/*"]
         packages = [self.dist / f"{name}_{VERSION}_amd64.deb" for name in PACKAGES]
         run(*dpkg, "--install", *packages)
+        pages = root / "usr/share/doc"
+        self.count("pages of the packages", ", ".join(dead_links(pages)))
+        there = ["bplint/README.md", "bplint/docs/PROGRAM.md", "libbplist-dev/LIBRARY.md"]
+        self.count("pages in the packages", ", ".join(name for name in there if not (pages / name).exists()))
+        homepages = {run("dpkg-deb", "--field", package, "Homepage").strip() for package in packages}
+        self.count("Homepage", "" if len(homepages) == 1 and "" not in homepages else f"{homepages}")
         example = root / "usr/share/doc/libbplist-dev/examples/print_value.c"
         self.use(Installed("packages", root / "usr", MULTIARCH, example, [f"--define-variable=prefix={root}/usr"]))
         run(*dpkg, "--purge", *PACKAGES)
@@ -226,7 +257,7 @@ def main():
     program, library = (pathlib.Path(word).resolve() for word in sys.argv[1:])
     with tempfile.TemporaryDirectory() as folder:
         tests = Tests(program, library, pathlib.Path(folder))
-        for part in tests.make_twice, tests.archive, tests.packages, tests.installed, tests.wheel, tests.glibc:
+        for part in tests.make_twice, tests.archive, tests.suite, tests.packages, tests.installed, tests.wheel, tests.glibc:
             try:
                 part()
             except subprocess.CalledProcessError as error:

@@ -52,7 +52,7 @@ def memory_tests(program, top, count):
         held, said = peak(program, folder)
         allowed = least + BESIDE + (each + count // each) * (name + EACH)
         yield f"{count} files, {each} in a folder: {held} bytes held, {allowed} allowed", held <= allowed, True
-        counts = f"files looked at {count}, sound {count}, not sound 0, unreadable 0, passed over 0"
+        counts = f"files looked at {count}, sound {count}, not sound 0, unreadable 0, passed over 0, other forms 0"
         yield f"{count} files, {each} in a folder: counts", said, counts
 
 
@@ -78,7 +78,7 @@ def unreadable_tests(program, top):
     yield "closed: faults", ran.stderr, (
         b"closed/closed: read Open\n  file: closed/closed: no permission\n"
         b"closed/inner: read Open\n  file: closed/inner: no permission\n"
-        b"files looked at 4, sound 2, not sound 0, unreadable 2, passed over 0\n"
+        b"files looked at 4, sound 2, not sound 0, unreadable 2, passed over 0, other forms 0\n"
     )
     (folder / "inner").chmod(0o755)
 
@@ -100,7 +100,7 @@ def terminal_output(program, *words):
 
 def terminal_tests(program, top):
     folder = top / "few"
-    counts = b"files looked at 10, sound 10, not sound 0, unreadable 0, passed over 0\r\n"
+    counts = b"files looked at 10, sound 10, not sound 0, unreadable 0, passed over 0, other forms 0\r\n"
     yield "terminal", terminal_output(program, "-rq", folder), (0, counts)
     one = folder / "folder 0/property list 0.plist"
     yield "terminal, one file", terminal_output(program, one), (0, b"")

@@ -12,6 +12,8 @@ import sys
 
 ROOT = pathlib.Path(__file__).resolve().parents[2]
 COMMON = {"--help"}
+FLAG = "--[a-z0-9]+(?:-[a-z0-9]+)*"
+LETTER = "-([a-zA-Z0-9])"
 ESCAPES = {r"\-": "-", r"\(aq": "'", r"\e": "\\"}
 
 
@@ -28,13 +30,13 @@ def subcommands(program):
 
 
 def flags(text):
-    return set(re.findall(r"--[a-z]+", text)) - COMMON
+    return set(re.findall(FLAG, text)) - COMMON
 
 
 def letters_of(program, verb):
     """The flags that the help of a subcommand lists, each with its letter, which is empty if there is none."""
     options = output(program, verb, "--help").split("Options:")[1].split("\n\n")[0]
-    return {(flag, letter) for letter, flag in re.findall(r"^ +(?:-([a-zA-Z]), )?(--[a-z]+)", options, re.MULTILINE)}
+    return {(flag, letter) for letter, flag in re.findall(rf"^ +(?:{LETTER}, )?({FLAG})", options, re.MULTILINE)}
 
 
 def manual():
@@ -57,7 +59,7 @@ def manual_flags(text):
 def manual_letters(text):
     """The flags that have a letter in the options of the manual page."""
     options = text.split(".SH OPTIONS")[1].split(".SH ANSWERS")[0]
-    return {(flag, letter) for letter, flag in re.findall(r"^\.BR? -([a-zA-Z])\W.*?(--[a-z]+)", options, re.MULTILINE)}
+    return {(flag, letter) for letter, flag in re.findall(rf"^\.BR? {LETTER}\W.*?({FLAG})", options, re.MULTILINE)}
 
 
 def bash_words(text):
@@ -71,18 +73,19 @@ def bash_words(text):
 
 def zsh_letters(text):
     """The flags of each subcommand, with their letters."""
-    cases = text.split("case $verb in")[1].split("esac")[0]
+    common = re.search(r"common=\((.*)\)", text)[1]
+    cases = text.split("case $verb in")[1].split("esac")[0].replace("$common", common)
     found = {}
     for name, body in re.findall(r"^    ([a-z]+)\)\n(.*?);;", cases, re.MULTILINE | re.DOTALL):
-        lettered = {(flag, letter) for letter, flag in re.findall(r"\{-([a-zA-Z]),(--[a-z]+)\}", body)}
-        found[name] = lettered | {(flag, "") for flag in flags(body) - {flag for flag, _ in lettered} - COMMON}
+        lettered = {(flag, letter) for letter, flag in re.findall(rf"\{{{LETTER},({FLAG})\}}", body)}
+        found[name] = lettered | {(flag, "") for flag in flags(body) - {flag for flag, _ in lettered}}
     return found
 
 
 def fish_letters(text):
     """The flags of each subcommand, with their letters."""
     found = {}
-    for names, letter, flag in re.findall(r"__fish_seen_subcommand_from ([a-z ]+)'(?: -s ([a-zA-Z]))? -l ([a-z]+)", text):
+    for names, letter, flag in re.findall(r"__fish_seen_subcommand_from ([a-z ]+)'(?: -s ([a-zA-Z0-9]))? -l ([a-z0-9-]+)", text):
         for name in names.split():
             found.setdefault(name, set()).add((f"--{flag}", letter))
     return found
@@ -135,7 +138,7 @@ def compare_flags(tally, program):
     ):
         for verb, held in wanted.items():
             tally.compare(f"flags of {verb} in {where}", held, found.get(verb, set()))
-        tally.compare(f"subcommands in {where}", set(), set(found) - set(wanted))
+        tally.compare(f"subcommands in {where}", set(), set(found) - set(wanted) - {"help"})
     lettered = {pair for held in letters.values() for pair in held if pair[1]} | {("--version", "V")}
     tally.compare("letters in man/bplint.1", lettered, manual_letters(manual()))
     words = re.search(r'-W "([a-z ]+) help --help --version"', bash)[1]

@@ -3,8 +3,8 @@
 
 Compares `bplint map` with a plain computation: on each file of tests/vectors, on files of other writers
 (tests/helpers/writers.py), and on damaged and overlapping ones. The verdict of `lint` is taken from PROGRAM. Places, ends,
-rules 14 to 20, heights, gaps and overlaps are computed here, and each byte of the file has to be in some line. Without
-plistutil its files are skipped. The last line is `N passed, M failed`, with `, K skipped` if some were.
+rules 14 to 20, heights, gaps, overlaps and the paths of `--paths` are computed here, and each byte of the file has to be in
+some line. Without plistutil its files are skipped. The last line is `N passed, M failed`, with `, K skipped` if some were.
 """
 import pathlib
 import random
@@ -14,9 +14,11 @@ import tempfile
 
 sys.path.insert(0, str(pathlib.Path(__file__).resolve().parents[1]))
 
+from gate.listing import key_name  # noqa: E402
 from helpers.contents import HEADER, trailer  # noqa: E402
 from helpers.harness import closing  # noqa: E402
 from helpers.layout import Layout  # noqa: E402
+from helpers.printed import units_of  # noqa: E402
 from helpers.sample_files import table_files  # noqa: E402
 from helpers.writers import written  # noqa: E402
 
@@ -25,6 +27,8 @@ FRAME_RULES = set(
     "TooLarge TooShort Magic NoObjects Top TableEarly TableLate OffsetSize RefSize Length RefNarrow OffsetNarrow OffsetHigh".split()
 )
 LOOKED = 16
+LONGEST_KEY = 4096
+LONGEST_PATH = 256
 
 
 def notes_by(said, plist):
@@ -82,8 +86,49 @@ def miscounted(plist, text):
     return None
 
 
-def run(program, verb, path):
-    ran = subprocess.run([program, verb, path], capture_output=True, text=True, timeout=120, check=False)
+def step_of(plist, head, index):
+    """The step of a path to a member: its index in brackets if the key is no text, is long, or cannot be shown."""
+    if head[0] == "array":
+        return f"/{index}"
+    key = plist.references(head)[index]
+    text = plist.head(plist.places[key]) if key < plist.objects else "no object"
+    if isinstance(text, str) or text[0] != "text" or text[1] > LONGEST_KEY:
+        return f"[{index}]"
+    _, _, begin, end = text
+    wide = plist.octets[plist.places[key]] >> 4 == 6
+    units = units_of(plist.octets[begin:end]) if wide else list(plist.octets[begin:end])
+    return key_name("", index, units)
+
+
+def paths_in(plist):
+    """The shortest path to each object to which one of at most 256 steps leads, by a search breadth first."""
+    paths, met, budget = {plist.top: ""}, [plist.top], plist.table
+    depths = {plist.top: 0}
+    for n in met:
+        head = plist.head(plist.places[n])
+        if isinstance(head, str) or head[0] not in ("array", "dict"):
+            continue
+        members = plist.references(head)[-head[1] :] if head[1] > 0 else []
+        for index, m in enumerate(members[:budget]):
+            if m < plist.objects and m not in depths:
+                depths[m] = depths[n] + 1
+                met.append(m)
+                if depths[m] <= LONGEST_PATH:
+                    paths[m] = paths[n] + step_of(plist, head, index)
+        budget -= min(budget, len(members))
+    return paths
+
+
+def with_paths(plist, text):
+    """The lines of a map with the column of paths."""
+    paths = paths_in(plist)
+    lines = text.split("\n")[:-1]
+    columns = ["path"] + ["-" if n == "-" else paths.get(int(n), "-") for n in (line.split("\t")[2] for line in lines[1:])]
+    return "".join(f"{line}\t{column}\n" for line, column in zip(lines, columns, strict=True))
+
+
+def run(program, verb, *words):
+    ran = subprocess.run([program, verb, *words], capture_output=True, text=True, timeout=120, check=False)
     return ran.returncode, ran.stdout, ran.stderr
 
 
@@ -93,12 +138,18 @@ def trouble_with(program, path, octets):
     got = run(program, "map", path)
     words = said[2].split()
     if words and words[0] == "fault" and words[1] in FRAME_RULES:
-        return None if got == said else f"wanted {said}, got {got}"
+        paths = run(program, "map", "--paths", path)
+        return None if got == paths == said else f"wanted {said}, got {got}, and with --paths {paths}"
     plist = Layout(octets)
     wanted = wanted_map(plist, notes_by(said[1] or said[2], plist))
     if got != (0, wanted, ""):
         pairs = zip(wanted.split("\n"), got[1].split("\n"), strict=False)
         return f"status {got[0]}, {got[2]!r}, " + next((f"wanted {a!r}, got {b!r}" for a, b in pairs if a != b), "cut")
+    paths = run(program, "map", "--paths", path)
+    wanted = with_paths(plist, wanted)
+    if paths != (0, wanted, ""):
+        pairs = zip(wanted.split("\n"), paths[1].split("\n"), strict=False)
+        return f"--paths: status {paths[0]}, {paths[2]!r}, " + next((f"wanted {a!r}, got {b!r}" for a, b in pairs if a != b), "cut")
     byte = miscounted(plist, got[1])
     return None if byte is None else f"byte {byte} is not accounted for"
 

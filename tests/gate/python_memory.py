@@ -40,6 +40,7 @@ def file_of(*objects):
 
 # A set of null, an integer of 128 bits, a date beyond datetime's, and a lone surrogate.
 ODD = file_of(b"\xc4\x01\x02\x03\x04", b"\x00", b"\x14\x7f" + bytes(15), b"\x33\x7f\xef" + b"\xff" * 6, b"\x61\xd8\x00")
+MANY = plistlib.dumps({f"k{i}": i for i in range(60)}, fmt=plistlib.FMT_BINARY)
 CIRCLE = file_of(b"\xa1\x00")
 CERTIFICATE = bplist.loads(FILE, sorted_keys=True).certificate
 PLIST = bplist.loads(FILE)
@@ -53,6 +54,12 @@ def walked(value):
     if isinstance(value, (bplist.Array, bplist.Set)):
         return [walked(member) for member in value]
     return value
+
+
+def looked_up():
+    """Looks up keys of a dictionary until its keys are sorted."""
+    value = bplist.loads(MANY).value
+    return [value["k7"] for _ in range(40)]
 
 
 CALLS = {
@@ -79,6 +86,9 @@ CALLS = {
     "at, missing": lambda: PLIST.at("/none"),
     "at, no index": lambda: PLIST.at("/list/x"),
     "at, path text": lambda: PLIST.at("/~"),
+    "find": lambda: PLIST.find("/list/1/1/a"),
+    "sorted by itself": looked_up,
+    "equal": lambda: VALUE == TREE,
     "size": lambda: PLIST.size,
     "text": lambda: bplist.loads(TEXTS).text(),
     "certificate": lambda: PLIST.certificate,

@@ -8,9 +8,10 @@ of the Python that runs this script, and runs there
 - python_memory.py, with each request for memory refused in turn;
 - the tests of values and edges again, under valgrind if it is installed.
 
-The wheel's tag has to name the newest glibc that a symbol of its module needs, and the module may link only the C library.
-Without gcc or valgrind, the tests that need it are skipped. The last line is `N passed, M failed`, with `, K skipped` if some
-were.
+The wheel's tag has to name the newest glibc that a symbol of its module needs. The module may link only the C library, and
+export only the function that makes it: another libbplist in the process is not called in its place. At last fuzz_python.py
+makes all calls on 20,000 changed files, with an extension built from the sources. Without gcc or valgrind, the tests that
+need it are skipped. The last line is `N passed, M failed`, with `, K skipped` if some were.
 """
 import os
 import pathlib
@@ -71,10 +72,35 @@ class Wheel:
         module = self.folder / "packed" / modules[0]
         asked = subprocess.run(["objdump", "-p", "-T", module], capture_output=True, text=True, check=True).stdout
         newest = max(tuple(map(int, found)) for found in re.findall(r"GLIBC_(\d+)\.(\d+)", asked))
-        tag = "cp310-abi3-manylinux_{}_{}_x86_64.linux_x86_64.whl".format(*newest)
+        tag = "cp310-abi3-manylinux_{}_{}_x86_64.whl".format(*newest)
         self.count("tag of the wheel", "" if self.wheel.name.endswith(f"-{tag}") else f"{self.wheel.name} and not {tag}")
         linked = re.findall(r"NEEDED +(\S+)", asked)
         self.count("libraries of the module", "" if set(linked) <= {"libc.so.6"} else f"{linked}")
+        exported = re.findall(r"^[0-9a-f]+ g.* (\S+)$", asked, re.MULTILINE)
+        self.count("exports of the module", "" if exported == ["PyInit__bplist"] else f"{exported}")
+
+    def see_types(self):
+        """The package's types are sound and complete for mypy, and so is a program that uses them."""
+        if lacks("mypy"):
+            return self.skip("types of the package", "mypy is not here")
+        program = self.folder / "program.py"
+        program.write_text("import bplist\n\nfault = bplist.lint('x').fault\nrule: str = fault.rule if fault else ''\n")
+        words = ["mypy", "--strict", "--no-incremental", "--python-version", "3.10"]
+        words += [self.folder / "packed/bplist", program]
+        ran = subprocess.run(words, capture_output=True, text=True, cwd=self.folder / "packed", check=False)
+        self.count("types of the package", ran.returncode and ran.stdout)
+
+    def see_other_library(self):
+        """A library of the same names that is loaded first is not called."""
+        if lacks("gcc"):
+            return self.skip("another library", "gcc is not here")
+        other = self.folder / "libother.so"
+        source = "#include <stdlib.h>\nint bplist_lint(void) { exit(7); }\nint bplist_open(void) { exit(7); }\n"
+        subprocess.run(["gcc", "-shared", "-fPIC", "-o", other, "-xc", "-"], input=source, text=True, check=True)
+        code = "import bplist; assert bplist.lint_bytes(b'').fault.rule == 'TooShort'"
+        environment = dict(os.environ, LD_PRELOAD=str(other))
+        ran = subprocess.run([self.python, "-c", code], env=environment, cwd=self.folder, check=False)
+        self.count("another library", ran.returncode and f"status {ran.returncode}")
 
     def install(self):
         subprocess.run([sys.executable, "-m", "venv", self.folder / "venv"], check=True)
@@ -105,6 +131,10 @@ class Wheel:
         program = [self.python, "-B", HERE / "python_memory.py"]
         self.run("refused growths", *program, LD_PRELOAD=str(preload), PYTHONMALLOC="malloc_debug")
 
+    def fuzz(self):
+        library = pathlib.Path(os.environ.get("BPLIST_LIBRARY", ROOT / "crates/bplist_c/out"))
+        self.run("fuzz", sys.executable, "-B", HERE / "fuzz_python.py", "--library", library)
+
     def look_at_memory(self):
         if lacks("valgrind"):
             return self.skip("memory of the package", "valgrind is not here")
@@ -120,10 +150,13 @@ def main():
     with tempfile.TemporaryDirectory(prefix="bplist") as folder:
         wheel = Wheel(sys.argv[1], pathlib.Path(folder))
         wheel.see_module()
+        wheel.see_types()
         wheel.install()
+        wheel.see_other_library()
         wheel.run_package()
         wheel.refuse_growths()
         wheel.look_at_memory()
+        wheel.fuzz()
     print(closing(wheel.passed, wheel.failed, wheel.skipped))
     return 1 if wheel.failed else 0
 

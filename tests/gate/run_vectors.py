@@ -44,6 +44,13 @@ def differs(what, wanted, got):
     return [] if agrees else [f"{what}\n    wanted {wanted[:SHOWN]}\n    got    {readable(got)}"]
 
 
+def without_names(said, words):
+    """Leaves out the line with the name of FILE or CERT below a fault: the runner chose the names. `-` is FILE too."""
+    for name in (words["FILE"], words["CERT"], "-"):
+        said = said.replace(f"\n  name: {name}\n".encode(), b"\n", 1)
+    return said
+
+
 def out_differs(vector, path):
     if not vector.out:
         return []
@@ -146,7 +153,7 @@ def run(vector, program):
             finally:
                 folder.close()
         differences = differs("standard output", vector.stdout, ran.stdout or b"")
-        differences += differs("standard error", vector.stderr, ran.stderr)
+        differences += differs("standard error", vector.stderr, without_names(ran.stderr, folder.words))
         if ran.returncode != int(vector.status):
             differences.append(f"status\n    wanted {vector.status}\n    got    {ran.returncode}")
         return Outcome(vector, differences + out_differs(vector, folder.path / "out"))
@@ -190,7 +197,11 @@ def following(vector):
         yield from following_get(vector, rest, flags)
     if verb == "print" and answers and len(rest) == 4:
         file, _, path, limit = rest
-        yield follows(vector, "text", " ".join(["show", "--text", "--limit", limit, *flags, file, path]))
+        argv = " ".join(["show", "--text", "--limit", limit, *flags, file, path])
+        if vector.stdout.startswith("missing "):
+            yield follows(vector, "text", argv, stdout="", stderr=vector.stdout)
+        else:
+            yield follows(vector, "text", argv)
 
 
 def by_standard_input(vector):

@@ -1,9 +1,9 @@
 #!/usr/bin/env python3
 """rust_crate.py
 
-Runs the tests of the Rust crate rust/bplist over the built libbplist.a, and compares it with the crate plist
-(rust/compare_plist) on the files of the tables and of other writers. Run `make lib` first. Both are built in a temporary
-folder, without a network.
+Runs the tests and the examples of the Rust crate rust/bplist over the built libbplist.a, and compares it with the crate
+plist (rust/compare_plist) on the files of the tables and of other writers. Run `make lib` first. Both are built in a
+temporary folder, without a network.
 
 The crate plist is Debian's librust-plist-dev. Without it, or without cargo, the tests that need it are skipped; in the gate
 they fail. The last line is `N passed, M failed`, with `, K skipped` if some were.
@@ -20,6 +20,7 @@ ROOT = pathlib.Path(__file__).resolve().parents[2]
 sys.path.insert(0, str(ROOT / "tests"))
 
 from helpers.harness import closing, is_gate, lacks  # noqa: E402
+from helpers.installed import install, write_pc  # noqa: E402
 from helpers.sample_files import table_files, written_files  # noqa: E402
 
 LIBRARY = ROOT / "crates/bplist_c/out"
@@ -28,6 +29,24 @@ RESULT = re.compile(r"^test result: \w+\. (\d+) passed; (\d+) failed;", re.MULTI
 COMPARED = re.compile(r"compared (\d+) files")
 # What the crate plist reads wrong: a count of 16 bytes as one of 1 byte.
 LONG_COUNT = re.compile(rb"[\x4f\x5f\x6f\xaf\xdf]\x14")
+OUTLINE = """\
+dict of 2
+  jobs: array of 2
+    dict of 2
+      id: Int(7)
+      name: mow the lawn
+    dict of 2
+      id: Int(42)
+      name: paint the fence
+  open: Bool(true)
+"""
+# The examples: their words, and the status, standard output and part of standard error of each.
+EXAMPLES = [
+    ("show", ["tests/data/jobs.plist", "/jobs/1/name"], 0, "text paint the fence\n", ""),
+    ("show", ["tests/data/jobs.plist", "/jobs/1/age"], 1, "", "NoKey { step: 2 }"),
+    ("show", ["Cargo.toml"], 1, "", "rule 3 (Magic) is broken at place 0"),
+    ("outline", ["tests/data/jobs.plist"], 0, OUTLINE, ""),
+]
 # How many files both crates take at least, so that a comparison of nothing does not pass.
 LEAST_COMPARED = 100
 SECONDS = 1200
@@ -71,6 +90,15 @@ class Tests:
             self.failed += 0 if failed else 1
         return ran.stdout
 
+    def run_examples(self):
+        """What each program of the folder examples prints."""
+        for name, words, status, printed, told in EXAMPLES:
+            ran = self.cargo("bplist", "run", "--quiet", "--example", name, "--", *words)
+            right = (ran.returncode, ran.stdout) == (status, printed) and told in ran.stderr
+            self.count(f"example {name} {' '.join(words)}", "" if right else f"{ran}")
+        there = {path.stem for path in (ROOT / "rust/bplist/examples").iterdir()}
+        self.count("all examples", "" if there == {row[0] for row in EXAMPLES} else f"{there}")
+
     def see_documents(self):
         ran = self.cargo("bplist", "doc", "--no-deps")
         self.count("cargo doc", "" if ran.returncode == 0 else ran.stderr)
@@ -87,15 +115,11 @@ class Tests:
             print("skipped pkg-config: it is not here")
             self.skipped += 1
             return
-        installed = self.folder / "installed"
-        (installed / "lib").mkdir(parents=True)
-        shutil.copy(LIBRARY / "libbplist.a", installed / "lib")
-        template = (ROOT / "bplist.pc.in").read_text()
-        for word, text in [("PREFIX", f"{installed}"), ("LIBDIR", "${prefix}/lib"), ("INCLUDEDIR", "${prefix}/include")]:
-            template = template.replace(f"@{word}@", text)
+        prefix = self.folder / "installed"
+        install(prefix, LIBRARY, "0.2.0")
         for version, status in [("0.2.0", 101), ("0.3.0", 0)]:
-            (installed / "bplist.pc").write_text(template.replace("@VERSION@", version))
-            ran = self.cargo("bplist", "test", "--test", "faults", PKG_CONFIG_PATH=str(installed))
+            write_pc(prefix, version)
+            ran = self.cargo("bplist", "test", "--test", "faults", PKG_CONFIG_PATH=str(prefix / "lib/pkgconfig"))
             self.count(f"pkg-config, {version}", "" if ran.returncode == status else ran.stderr)
 
     def compare(self):
@@ -129,6 +153,7 @@ def main():
     with tempfile.TemporaryDirectory() as folder:
         tests = Tests(pathlib.Path(folder))
         tests.run_tests("bplist")
+        tests.run_examples()
         tests.see_documents()
         tests.without_library()
         tests.by_pkg_config()

@@ -1,29 +1,13 @@
 """The session on README.md's first screen: its files, its commands, and what they print."""
 import os
 import pathlib
-import plistlib
+import shutil
 import subprocess
 
-README = pathlib.Path(__file__).resolve().parents[2] / "README.md"
+ROOT = pathlib.Path(__file__).resolve().parents[2]
+README = ROOT / "README.md"
 FENCE = "```"
 PROMPT = "$ "
-
-
-def files():
-    """The files of the session: a sound one, and one in which a key stands twice."""
-    sound = plistlib.dumps(
-        {
-            "CFBundleName": "Notes",
-            "CFBundleVersion": "4.2",
-            "UIRequiredDeviceCapabilities": ["arm64", "metal"],
-            "WindowSize": {"width": 640, "height": 480},
-        },
-        fmt=plistlib.FMT_BINARY,
-        sort_keys=False,
-    )
-    twice = bytes.fromhex("62706c6973743030" "d201020304" "51615161" "0908" "080d0f1112")
-    twice += bytes(6) + b"\x01\x01" + (5).to_bytes(8, "big") + bytes(8) + (19).to_bytes(8, "big")
-    return {"Info.plist": sound, "broken.plist": twice}
 
 
 def session(text):
@@ -39,10 +23,10 @@ def session(text):
     return begin, end, commands
 
 
-def printed(command, folder):
+def printed(command, folder, environment=None):
     """The lines that a command prints."""
     path = f"{folder}/bin:{os.environ['PATH']}"
-    given = {**os.environ, "PATH": path, "LC_ALL": "C.UTF-8"}
+    given = environment or {**os.environ, "PATH": path, "LC_ALL": "C.UTF-8"}
     ran = subprocess.run(
         command, shell=True, cwd=folder, env=given, stdout=subprocess.PIPE, stderr=subprocess.STDOUT, check=False
     )
@@ -50,8 +34,9 @@ def printed(command, folder):
 
 
 def write_files(folder):
-    for name, content in files().items():
-        pathlib.Path(folder, name).write_bytes(content)
+    """Copies the files of the session: a sound one, and one in which a key stands twice."""
+    for path in (ROOT / "examples").glob("*.plist"):
+        shutil.copy(path, folder)
 
 
 def answers(program, folder):

@@ -7,7 +7,8 @@ other public calls.
 
 With --write it writes the page. Without, it compares the page with the one that is there, one test for each section. Three
 more tests show that no public contract leads to a definition that computes what the grammar says, that each file of the
-theorem has its place in the reading order, and that README.md has the theorem as the sources have it. The last line is
+theorem has its place in the reading order, and that docs/THEOREM.md has the theorem as the sources have it, and README.md
+its sentence. The last line is
 `N passed, M failed`. With --count it prints the table of the page, or how many definitions and lines the contracts of these
 calls lead to; a type such as `Checked` means its methods.
 """
@@ -404,13 +405,17 @@ def misplaced(reading):
 
 
 def unquoted(reading):
-    """What README.md does not say of the theorem as the sources do: the clauses, the record, how much is to be believed."""
+    """What docs/THEOREM.md does not say of the theorem as the sources do: the clauses, the record, how much is to be believed;
+    and whether README.md has the same sentence."""
     record = next(one for one in reading.seen if one.name == "IsAnswered")
     _, many, lines = reading.table()[0]
-    wanted = [*reading.clauses.values(), "\n".join(record.lines).rstrip(), f"{many} definitions of {lines} lines"]
-    text = (ROOT / "README.md").read_text()
-    found = [one.split(" {")[0].splitlines()[0] for one in wanted if one not in text]
-    return f"README.md does not say of the theorem what the sources say: {'; '.join(found)}" if found else ""
+    counts = f"{many} definitions of {lines} lines"
+    page, readme = ((ROOT / name).read_text() for name in ("docs/THEOREM.md", "README.md"))
+    sentence = page[page.index("**If `check`") : page.index("**\n\nThis page")]
+    wanted = [(one, "docs/THEOREM.md", page) for one in (*reading.clauses.values(), "\n".join(record.lines).rstrip(), counts)]
+    wanted += [(one, "README.md", readme) for one in (sentence, counts)]
+    found = [f"{name}: {one.split(' {')[0].splitlines()[0]}" for one, name, text in wanted if one not in text]
+    return f"these do not say of the theorem what the sources say: {'; '.join(found)}" if found else ""
 
 
 def main():

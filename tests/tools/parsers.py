@@ -45,6 +45,7 @@ MOST_READ = 1 << 24
 SHOWN = 400
 JAR = "/usr/share/java/dd-plist.jar"
 NO_MEMORY = re.compile("MemoryError|OutOfMemory|failed to allocate|memory allocation of|bad_alloc|run out of memory")
+ALL = "all but (profile)"
 EMPTY_XML = re.compile(rb"<plist [^>]*>\s*</plist>")
 CARGO = """mkdir .cargo
 printf '[source.crates-io]\nreplace-with = "debian"\n' > .cargo/config.toml
@@ -239,6 +240,7 @@ def groups(cases):
             held = [case.name for case in cases if case.rule == rule and case.basis == basis]
             if held:
                 unsound[rule if basis == "format" else f"{rule} (profile)"] = set(held)
+    unsound[ALL] = set().union(*(names for row, names in unsound.items() if not row.endswith("(profile)")))
     sound = collections.defaultdict(set)
     for case in cases:
         if not case.rule and case.basis != "time":

@@ -3,10 +3,12 @@
 
 Runs the session on README.md's first screen: each line after `$ ` in a shell, in a folder with the files that the session
 names, with BPLINT as `bplint`. Compares what it prints, with standard error. The Rattle code of README.md has to be in
-crates/examples, word for word. With --write it writes the session anew. The last line is `N passed, M failed`: one test for
-each command, and one for the code.
+crates/examples, word for word, and the numbers of broken files that other readers take are those of docs/PARSERS.md. With
+--write it writes the session anew. The last line is `N passed, M failed`: one test for each command, and one each for the
+code and the numbers.
 """
 import pathlib
+import re
 import sys
 import tempfile
 
@@ -15,6 +17,7 @@ sys.path.insert(0, str(ROOT / "tests"))
 
 from helpers.session import FENCE, PROMPT, README, answers, session  # noqa: E402
 
+ALL = "all but (profile)"
 EXAMPLE = ROOT / "crates/examples/src/main.rt"
 
 
@@ -22,6 +25,15 @@ def is_example(text):
     """Whether the library in use is what the crate of examples has."""
     code = text.split(f"{FENCE}rust\n")[1].split(FENCE)[0]
     return code in EXAMPLE.read_text()
+
+
+def readers():
+    """The numbers of README.md's sentence on other readers, and those of the last row of the table in docs/PARSERS.md."""
+    says = r"Of (\d+) broken files, Python's plistlib takes (\d+), the Rust crate plist (\d+), and libplist (\d+)"
+    told = re.search(says, " ".join(README.read_text().split()))
+    lines = (ROOT / "docs/PARSERS.md").read_text().split("\n")
+    head, row = (next(it.strip("| ").split(" | ") for it in lines if it.startswith(f"| {word} |")) for word in ("rule", ALL))
+    return told and told.groups(), tuple(row[head.index(name)] for name in ("files", "plistlib", "plist (Rust)", "libplist"))
 
 
 def main():
@@ -38,9 +50,13 @@ def main():
     if not is_example(text):
         failed += 1
         print(f"README.md: the library in use is not what {EXAMPLE.relative_to(ROOT)} has")
+    told, counted = readers()
+    if told != counted:
+        failed += 1
+        print(f"README.md: of broken files readers take {told}, and docs/PARSERS.md has {counted}")
     if "--write" in sys.argv[2:]:
         README.write_text(text[:begin] + "".join(f"{line}\n" for line in written) + text[end:])
-    print(f"{len(commands) + 1 - failed} passed, {failed} failed")
+    print(f"{len(commands) + 2 - failed} passed, {failed} failed")
     return 1 if failed else 0
 
 

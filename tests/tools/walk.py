@@ -33,9 +33,12 @@ WAYS = {
 # begins with the text.
 LEFT_OUT = {
     "the tables of the command line": "bplint",
-    "other commands": "explain_of, run_of, start:Ok(Line::Explain, start:Ok(Line::Run, answer_on:Request::Show, "
-    "answer_on:Request::Raw, run_certified:Verb::Check, run_certified:Verb::Certify, run_certified:Verb::Print",
-    "a folder, several FILEs, --quiet": "is_folder, lint_folder, print_counts, shown_name, lint_inputs:lint.quiet, behind",
+    "other commands": "explain_of, run_of, textconv_of, start:Ok(Line::Explain, start:Ok(Line::Run, start:Ok(Line::Textconv, "
+    "do_task:Task::Show, do_task:Task::Raw, run_certified:Verb::Check, run_certified:Verb::Certify, run_certified:Verb::Print",
+    "a folder, several FILEs, other options": "is_folder, lint_folder, lint_listed, look_at_found, look_at, print_counts, "
+    "print_name, shown_name, add:Printed::Faults, labelled",
+    "texts in UTF-8": "add_utf8_text",
+    "lines of JSON": "finding_of, print_finding, list_json_on",
     "standard input, hexadecimal text": "read_whole, read_file, undo_hex, try_answer:Operand::Whole, decode:Operand::File",
     "a fault": "mark_reached, check_reached, circle, first_high_ref, search_part, earlier, first_not_below",
     "an empty CERT": "version_of, count_in, fits, read_words",

@@ -3,7 +3,7 @@ use Rattle.std.specs.Prelude.{◌≡◌, ◌⊎◌, ℕ, List, [], ◌∷◌, ma
 use Rattle.clap.specs.declared.error.kind.ErrorKind.{ErrorKind}
 use Rattle.clap.specs.declared.error.kind.ErrorKind.TheVariants as kinds
 use Rattle.bplint.specs.declared.args.Shown.{Shown}
-use Rattle.bplint.specs.declared.args.Shown.TheVariants.{Map, Members, Text, Tree, Values}
+use Rattle.bplint.specs.declared.args.Shown.TheVariants.{Map, MapPaths, Members, Text, Tree, Values}
 use Rattle.bplint_lines.specs.declared.fault.RunFault.{RunFault}
 use Rattle.bplint_lines.specs.declared.raw_fault.RawFault.{RawFault}
 use Rattle.bplint_lines.specs.declared.fault.Said.{Said}
@@ -19,13 +19,14 @@ use Rattle.bplint_map.specs.Map.{MapSays}
 
 -- the writer has what `show`, `show --text`, `ls` or `map` says of the file
 abbrev pub LeavesShown : List ℕ → Shown → Option (List ℕ) → Option (List ℕ) → Result Said RunFault → Type 0
-LeavesShown f (Values paths) old new result =
-    Leaves (LinesSay found_line (LintSays f) f (map (λ path. string_bytes path) paths.items)) 0 old new result
+LeavesShown f (Values paths style) old new result =
+    Leaves (LinesSay (found_line style) (LintSays f) f (map (λ path. string_bytes path) paths.items)) 0 old new result
 LeavesShown f (Text path limit) old new result = Leaves (PrintSays limit (LintSays f) f (path.now ∷ [])) limit old new result
-LeavesShown f (Members path) old new result = Leaves (LinesSay (listed path.now) (LintSays f) f (path.now ∷ [])) 0 old new result
-LeavesShown f (Tree path limit) old new result =
-    ∥ LeavesSomeBy (ListsAll limit (LintSays f) f path.now) old new result ∥₁
+LeavesShown f (Members path style) old new result = Leaves (LinesSay (listed style path.now) (LintSays f) f (path.now ∷ [])) 0 old new result
+LeavesShown f (Tree path limit style) old new result =
+    ∥ LeavesSomeBy (ListsAll style limit (LintSays f) f path.now) old new result ∥₁
 LeavesShown f Map old new result = LeavesSomeBy (MapSays f) old new result
+LeavesShown f MapPaths old new result = Unit {0}
 
 -- the exit status of an answer; refused memory may replace another fault, because its line takes memory
 abbrev pub EndsWith : Result Said RawFault → ℕ → Type 0

@@ -12,14 +12,28 @@ pub(crate) enum Form {
     Short(char),
     /// The same, but not together with another flag.
     ShortWithout(char, &'static str),
+    /// `--name` with two letters, of which help names the first.
+    Letters(char, char),
+    /// The same, but not together with another flag.
+    LettersWithout(char, char, &'static str),
     /// `--name`, but not together with these others.
     Without(&'static [&'static str]),
     /// `--limit N`, which needs another flag, and the default for N.
     Limit(&'static str, &'static str),
+    /// `--name`, or `--name=WHEN` for one of three words.
+    When,
+    /// `--name`, which needs another flag.
+    With(&'static str),
+    /// `--name LIST`: the name of a list.
+    List,
+    /// The same, but not together with these others.
+    ListWithout(&'static [&'static str]),
     /// A required text.
     One,
     /// A required text that may be repeated.
     Many,
+    /// The same, but not required with this flag.
+    ManyUnless(&'static str),
     /// An optional text.
     Maybe,
     /// An optional text that may be repeated.
@@ -51,8 +65,56 @@ pub(crate) const QUIET: Argument = Argument {
 
 pub(crate) const RECURSIVE: Argument = Argument {
     name: "recursive",
-    form: Form::ShortWithout('r', "hex"),
-    help: "Lint all files below a FILE that is a folder, if they begin with bplist",
+    form: Form::LettersWithout('r', 'R', "hex"),
+    help: "Lint the files below a FILE that is a folder: those that begin with bplist, and .plist, .strings and .nib",
+};
+
+pub(crate) const ALL: Argument = Argument {
+    name: "all",
+    form: Form::With("recursive"),
+    help: "Below a folder, look at all regular files",
+};
+
+pub(crate) const SKIP_OTHER: Argument = Argument {
+    name: "skip-other",
+    form: Form::Flag,
+    help: "Pass over a FILE that looks like XML or an old-style text",
+};
+
+pub(crate) const LIST: Argument = Argument {
+    name: "list",
+    form: Form::ShortWithout('l', "quiet"),
+    help: "Print only the names of the files that are not sound",
+};
+
+pub(crate) const FINDINGS: Argument = Argument {
+    name: "json",
+    form: Form::Without(&["quiet", "list", "with-filename"]),
+    help: "Print a JSON object for each file, whatever is found",
+};
+
+pub(crate) const JSON: Argument = Argument {
+    name: "json",
+    form: Form::Without(&["utf8", "with-filename"]),
+    help: "Print a JSON object for each value",
+};
+
+pub(crate) const NULL: Argument = Argument {
+    name: "null",
+    form: Form::Short('0'),
+    help: "End each name with a zero byte, in --list and in --files-from",
+};
+
+pub(crate) const FILES_FROM: Argument = Argument {
+    name: "files-from",
+    form: Form::List,
+    help: "Lint the files that LIST names, one a line; - is standard input",
+};
+
+pub(crate) const PATHS_FROM: Argument = Argument {
+    name: "paths-from",
+    form: Form::ListWithout(&["PATH", "text", "raw"]),
+    help: "Take the paths that LIST has, one a line, and begin each line of the answer with its path",
 };
 
 pub(crate) const SUMMARY: Argument = Argument {
@@ -63,8 +125,20 @@ pub(crate) const SUMMARY: Argument = Argument {
 
 pub(crate) const EXPLAIN: Argument = Argument {
     name: "explain",
+    form: Form::When,
+    help: "Say below a fault what is wrong, in which file and why: always, never, or auto if standard error is a terminal",
+};
+
+pub(crate) const WITH_NAME: Argument = Argument {
+    name: "with-filename",
+    form: Form::Short('H'),
+    help: "Begin each line with the name of its file",
+};
+
+pub(crate) const FORCE: Argument = Argument {
+    name: "force",
     form: Form::Flag,
-    help: "Say under a fault what its rule asks, and where it is broken",
+    help: "Write to OUT even if it begins with bplist",
 };
 
 pub(crate) const SORTED: Argument = Argument {
@@ -91,9 +165,29 @@ pub(crate) const RAW: Argument = Argument {
     help: "Write the bytes of data, the UTF-8 of a text, or the digits of a number",
 };
 
+pub(crate) const UTF8: Argument = Argument {
+    name: "utf8",
+    form: Form::Flag,
+    help: UTF8_HELP,
+};
+
+pub(crate) const SHOWN_UTF8: Argument = Argument {
+    name: "utf8",
+    form: Form::Without(&["text", "raw"]),
+    help: UTF8_HELP,
+};
+
+const UTF8_HELP: &str = "Write texts in UTF-8, in quotes if they are not plain";
+
+pub(crate) const MAP_PATHS: Argument = Argument {
+    name: "paths",
+    form: Form::Flag,
+    help: "Add a column with the shortest path to each object",
+};
+
 pub(crate) const TREE: Argument = Argument {
     name: "recursive",
-    form: Form::Short('R'),
+    form: Form::Letters('R', 'r'),
     help: "List what is in the members too, each behind its container",
 };
 
@@ -111,7 +205,7 @@ pub(crate) const FILE: Argument = Argument {
 
 pub(crate) const FILES: Argument = Argument {
     name: "FILE",
-    form: Form::Many,
+    form: Form::ManyUnless("files-from"),
     help: FILE_HELP,
 };
 
@@ -137,7 +231,7 @@ pub(crate) const PATH: Argument = Argument {
 
 pub(crate) const PATHS: Argument = Argument {
     name: "PATH",
-    form: Form::Many,
+    form: Form::ManyUnless("paths-from"),
     help: PATH_HELP,
 };
 
@@ -161,10 +255,10 @@ pub(crate) const LIMIT: Argument = Argument {
     help: "How many bytes to print at most, the line feed not counted",
 };
 
-pub(crate) const WORD: Argument = Argument {
+pub(crate) const WORDS: Argument = Argument {
     name: "WORD",
-    form: Form::One,
-    help: "The word of a rule, as fault lines have it, or its number",
+    form: Form::Many,
+    help: "The word of a rule in any case, its number, or the line of a fault",
 };
 
 impl Argument {
@@ -178,12 +272,22 @@ impl Argument {
             Form::ShortWithout(letter, other) => {
                 flag(arg, name).short(letter).conflicts_with(other)
             }
+            Form::Letters(first, second) => flag(arg, name).short(first).short_alias(second),
+            Form::LettersWithout(first, second, other) => {
+                let arg = flag(arg, name).short(first).short_alias(second)?;
+                arg.conflicts_with(other)
+            }
+            Form::With(other) => flag(arg, name).requires_arg(other),
             Form::Without(others) => flag(arg, name).conflicts_with_all(others),
             Form::Limit(with, default) => limit(arg.default_value(default), with),
+            Form::When => Ok(when(arg, name)),
+            Form::List => Ok(list(arg, name)),
+            Form::ListWithout(others) => list(arg, name).conflicts_with_all(others),
             Form::One => Ok(arg.required(true)),
-            Form::Many => Ok(arg.required(true).num_args(1..).action(ArgAction::Append)),
+            Form::Many => Ok(many(arg).required(true)),
+            Form::ManyUnless(other) => many(arg).required_unless_present(other),
             Form::Maybe => Ok(arg),
-            Form::Any => Ok(arg.num_args(1..).action(ArgAction::Append)),
+            Form::Any => Ok(many(arg)),
             Form::Number => Ok(arg.required(true).value_parser(value_parser!(u64))),
         }
     }
@@ -191,6 +295,24 @@ impl Argument {
 
 fn flag<'a>(arg: Arg<'a>, name: &'a str) -> Arg<'a> {
     arg.long(name).action(ArgAction::SetTrue)
+}
+
+fn list<'a>(arg: Arg<'a>, name: &'a str) -> Arg<'a> {
+    arg.long(name).value_name("LIST")
+}
+
+fn many<'a>(arg: Arg<'a>) -> Arg<'a> {
+    arg.num_args(1..).action(ArgAction::Append)
+}
+
+fn when<'a>(arg: Arg<'a>, name: &'a str) -> Arg<'a> {
+    arg.long(name)
+        .value_name("WHEN")
+        .value_parser(["always", "never", "auto"].as_slice())
+        .num_args(0..=1)
+        .require_equals(true)
+        .default_missing_value("always")
+        .default_value("auto")
 }
 
 fn limit<'a>(arg: Arg<'a>, with: &'a str) -> Result<Arg<'a>, AllocError> {

@@ -9,7 +9,8 @@ ghost use Rattle.bplint_engine.specs.Check.{IsDecoded};
 ghost use Rattle.bplint_engine.specs.Hexadecimal.{spelled};
 
 use crate::args::Operands;
-use crate::input_fault::InputFault;
+use crate::input_fault::{HexFault, InputFault};
+use crate::output::HEADER;
 use crate::unread::Unread;
 use bplint_engine::undo_hex;
 use bplint_lines::RunFault;
@@ -95,14 +96,14 @@ impl Operand {
         ensures faults { IfErr result IsReadFault }
     {
         match self {
-            Operand::Whole(text) => Ok(text.starts_with(b"bplist")),
+            Operand::Whole(text) => Ok(text.starts_with(HEADER)),
             Operand::File(file) => {
                 let mut front = [0; 6];
                 if file.len() < 6 {
                     return Ok(false);
                 }
                 file.read_at(0, &mut front)?;
-                Ok(front == *b"bplist")
+                Ok(front == *HEADER)
             }
         }
     }
@@ -131,7 +132,7 @@ impl Operand {
         let text = self.into_bytes(alloc)?;
         match undo_hex(alloc, &text) {
             Ok(bytes) => Ok(Operand::Whole(bytes)),
-            Err(RunFault::Hex) => Err(InputFault::Hex),
+            Err(RunFault::Hex) => Err(InputFault::Hex(hex_fault(&text))),
             Err(_) => Err(InputFault::Memory),
         }
     }
@@ -146,6 +147,21 @@ impl Operand {
             Operand::File(file) => read_all(alloc, file),
         }
     }
+}
+
+/// Returns where a text is not hexadecimal.
+fn hex_fault(text: &[u8]) -> HexFault {
+    let digits = match text {
+        [digits @ .., b'\n'] => digits,
+        _ => text,
+    };
+    for place in 0..digits.len() {
+        let octet = digits[place];
+        if !octet.is_ascii_hexdigit() {
+            return HexFault::NoDigit { place, octet };
+        }
+    }
+    HexFault::OddDigits(digits.len())
 }
 
 /// Returns all bytes of a file, with one read.
@@ -171,7 +187,7 @@ pub fn open_inputs<'a, R: Files<File = File> + Input>(
     let file = open_operand(rt, alloc, file_name, hex).map_err(|fault| Unread::new(
         file_name, fault,
     ))?;
-    let cert = open_certificate(rt, alloc, operands.cert, hex).map_err(|fault| Unread::new(
+    let cert = open_certificate(rt, alloc, operands.cert, hex).map_err(|fault| Unread::of_cert(
         cert_name, fault,
     ))?;
     if !hex {
@@ -183,7 +199,7 @@ pub fn open_inputs<'a, R: Files<File = File> + Input>(
             .map_err(|fault| Unread::new(file_name, fault))?,
         cert: cert
             .undo_hex(alloc)
-            .map_err(|fault| Unread::new(cert_name, fault))?,
+            .map_err(|fault| Unread::of_cert(cert_name, fault))?,
     })
 }
 
@@ -199,7 +215,7 @@ fn open_operand<R: Files<File = File> + Input>(
     ensures faults { IfErr result IsInputFault }
 {
     if name == "-" {
-        return Ok(Operand::Whole(read_whole(alloc, &mut rt.reader())?));
+        return Ok(Operand::Whole(read_input(rt, alloc, name)?));
     }
     open_file(rt, alloc, name, hex)
 }
@@ -229,6 +245,21 @@ fn has_length<R: Files<File = File>>(rt: &R, name: &str) -> bool {
         Ok(metadata) => metadata.is_file() && metadata.len() > 0,
         Err(_) => false,
     }
+}
+
+/// Reads an input as a whole. `-` is standard input.
+pub fn read_input<R: Files<File = File> + Input>(
+    rt: &R,
+    alloc: Global,
+    name: &str,
+) -> Result<Vec<u8>, InputFault>
+    ensures bounded { IfOk result (λ v. vec_len v ≤ WHOLE_LIMIT) }
+    ensures faults { IfErr result IsInputFault }
+{
+    if name == "-" {
+        return read_whole(alloc, &mut rt.reader());
+    }
+    read_file(rt, alloc, name)
 }
 
 fn read_file<R: Files<File = File>>(

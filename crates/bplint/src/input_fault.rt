@@ -8,6 +8,20 @@ use bplint_lines::RunFault;
 use bplist_octets::ReadFault;
 use std::alloc::AllocError;
 
+/// Where a text is not hexadecimal.
+#[derive(Clone, Copy, Drop)]
+pub enum HexFault {
+    /// This byte, at this place, is no hexadecimal digit.
+    NoDigit {
+        /// The place of the byte.
+        place: usize,
+        /// The byte.
+        octet: u8,
+    },
+    /// It has this number of digits, which is odd.
+    OddDigits(usize),
+}
+
 /// Why an input cannot be read.
 #[derive(Clone, Copy, Drop)]
 pub enum InputFault {
@@ -18,7 +32,7 @@ pub enum InputFault {
     /// A read failed.
     Read(ReadFault),
     /// Its hexadecimal text is wrong.
-    Hex,
+    Hex(HexFault),
     /// Memory was refused.
     Memory,
 }
@@ -44,7 +58,7 @@ impl From<InputFault> for RunFault {
       | fault.Open ↦ run.Open
       | fault.TooLong ↦ run.InputTooLong
       | fault.Read error ↦ run.Read error
-      | fault.Hex ↦ run.Hex
+      | fault.Hex _ ↦ run.Hex
       | fault.Memory ↦ run.Memory
     ] };
 
@@ -53,7 +67,7 @@ impl From<InputFault> for RunFault {
             InputFault::Open => RunFault::Open,
             InputFault::TooLong => RunFault::InputTooLong,
             InputFault::Read(error) => RunFault::Read(error),
-            InputFault::Hex => RunFault::Hex,
+            InputFault::Hex(_) => RunFault::Hex,
             InputFault::Memory => RunFault::Memory,
         }
     }

@@ -13,13 +13,19 @@
 //! |---|---|
 //! | `subcommands` | the table of subcommands, and the `clap` command line that is made of it |
 //! | `arguments` | their arguments |
-//! | `args` | what a command line asks for |
+//! | `args`, `command_line` | what a command line asks for, and how it is read |
 //! | `input` | FILE and CERT: opened and read by place, or read as a whole |
+//! | `lists` | lists of names and of paths |
+//! | `rule_words` | the words that `explain` takes for a rule |
 //! | `input_fault` | why an input cannot be read |
 //! | `runs` | one request about one FILE |
-//! | `output` | OUT, which is created when its first byte is written; the line of a fault, and the exit status |
-//! | `unread` | inputs that could not be read |
-//! | `linting` | `lint` over several FILEs and folders, and their counts |
+//! | `textconv` | any file as text |
+//! | `output` | OUT, which is created when its first byte is written |
+//! | `labels`, `waiting` | lines after the name of their file or their path; bytes that wait for the end of a run |
+//! | `ending` | the line of a fault, and the exit status |
+//! | `reasons`, `unread` | the lines below a fault; inputs that could not be read |
+//! | `linting`, `looks` | `lint` over several FILEs and folders, and which of the files there it lints |
+//! | `findings`, `tally` | what `lint` says of each file, and the counts |
 //! | `folders` | the entries of a folder, and file names in lines |
 #![tactic(auto)]
 
@@ -27,37 +33,54 @@ ghost use Rattle.std.specs.Prelude.{◌≤◌};
 
 mod args;
 mod arguments;
+mod command_line;
+mod ending;
+mod findings;
 mod folders;
 mod input;
 mod input_fault;
+mod labels;
 mod linting;
+mod lists;
+mod looks;
 mod output;
+mod reasons;
+mod rule_words;
 mod runs;
 mod subcommands;
+mod tally;
+mod textconv;
 mod unread;
+mod waiting;
 
 use args::Line;
 use bplint_lines::{RunFault, Said, rule_text};
 use bplist_objects::Rule;
+use command_line::read_line;
+use ending::{Ending, WRONG_LINE, end, refuse};
 use linting::lint_files;
-use output::{OutFile, WRONG_LINE, end, refuse};
-use runs::{Ending, run};
+use output::{OutFault, OutFile};
+use runs::run;
 use std::alloc::Global;
 use std::fs::{File, Files};
 use std::io;
 use std::io::{IsTerminal, Write};
 use std::process::ExitCode;
+use textconv::show_any;
 
-/// Writes the explanation of a rule.
-fn page<R: Files<File = File> + Print>(
-    rt: &R,
-    alloc: Global,
-    rule: Rule,
-) -> Result<Said, RunFault> {
-    let text = rule_text(alloc, rule)?;
-    match OutFile::new(rt, "-").write_all(text.as_bytes()) {
-        Ok(()) => Ok(Said::All),
-        Err(_) => Err(RunFault::Write { sent: 0 }),
+/// Writes the explanation of a rule. Returns how the run ends.
+fn page<R: Files<File = File> + Print>(rt: &R, alloc: Global, rule: Rule) -> Ending {
+    let Ok(text) = rule_text(alloc, rule) else {
+        return Ending::with(alloc, RunFault::Memory);
+    };
+    let mut out = OutFile::new(rt, "-");
+    match out.write_all(text.as_bytes()) {
+        Ok(()) => Ending::of(alloc, Ok(Said::All)),
+        Err(_) => {
+            let silent = matches!(out.fault(), Some(OutFault::Closed));
+            let ending = Ending::with(alloc, RunFault::Write { sent: 0 });
+            Ending { silent, ..ending }
+        }
     }
 }
 
@@ -71,10 +94,11 @@ fn start<R: Files<File = File> + Input + Print + Eprint>(
 ) -> u8
     ensures { result ≤ 4 }
 {
-    match args::read_line(alloc, words) {
+    match read_line(alloc, words, on_terminal) {
         Ok(Line::Lint(lint)) => lint_files(rt, alloc, &lint, on_terminal),
-        Ok(Line::Run(line)) => end(rt, alloc, "", run(rt, alloc, &line)),
-        Ok(Line::Explain(rule)) => end(rt, alloc, "", Ending::of(alloc, page(rt, alloc, rule))),
+        Ok(Line::Run(line)) => run(rt, alloc, line),
+        Ok(Line::Textconv(line)) => show_any(rt, alloc, &line),
+        Ok(Line::Explain(rule)) => end(rt, alloc, "", page(rt, alloc, rule)),
         Err(error) => refuse(rt, alloc, error),
     }
 }

@@ -1,28 +1,38 @@
-//! Writes answers to files and to standard output, and ends a run: prints the line of a fault to standard error, and
-//! returns the exit status.
+//! Writes answers to OUT or to standard output.
 
-ghost use Rattle.std.specs.Prelude.{None};
-ghost use Rattle.bplint.specs.ExitStatuses.{EndsWith, IsRefusedWith};
-ghost use Rattle.clap.specs.Values.{kind_of};
+ghost use Rattle.std.specs.Prelude.{◌≤◌, IfOk, length};
 
-use crate::runs::Ending;
-use bplint_lines::{RawFault, RunFault, Said};
-use clap::Error;
-use clap::error::ErrorKind;
-use std::alloc::{AllocError, Global};
-use std::fs::{File, Files};
-use std::io;
-use std::io::Write;
+use std::fs::{self, File, Files};
+use std::io::{self, ErrorKind, Read, Write};
 
-/// The exit status of a wrong command line.
-pub const WRONG_LINE: u8 = 2;
+/// How a binary property list of any version begins.
+pub const HEADER: &[u8; 6] = b"bplist";
+
+/// Why an answer was not written.
+#[derive(Clone, Copy, Drop)]
+pub enum OutFault {
+    /// OUT is a property list, and may not be replaced.
+    PropertyList,
+    /// Nobody reads standard output any more.
+    Closed,
+    /// OUT could not be created, or a write failed.
+    Failed(ErrorKind),
+}
 
 /// A writer that creates or empties its file at the first write. `-` is standard output.
+///
+/// It leaves a file that begins like a binary property list as it is, unless it may replace one.
 #[derive(Drop)]
 pub struct OutFile<'a, R: Files> {
     rt: &'a R,
     path: &'a str,
+    /// True if a property list may be replaced.
+    force: bool,
     file: Option<R::File>,
+    /// How many bytes were written.
+    written: u64,
+    /// Why the last write failed that did.
+    fault: Option<OutFault>,
 }
 
 impl<'a, R: Files> OutFile<'a, R> {
@@ -31,23 +41,71 @@ impl<'a, R: Files> OutFile<'a, R> {
         OutFile {
             rt,
             path,
+            force: false,
             file: None,
+            written: 0,
+            fault: None,
         }
+    }
+
+    /// Lets the writer replace a property list, if `force` is true.
+    pub fn replacing(self, force: bool) -> OutFile<'a, R> {
+        OutFile { force, ..self }
+    }
+
+    /// Returns how many bytes were written.
+    pub fn written(&self) -> u64 {
+        self.written
+    }
+
+    /// Returns why the last write failed that did.
+    pub fn fault(&self) -> Option<OutFault> {
+        self.fault
+    }
+
+    /// Creates or empties the file.
+    fn create(&self) -> io::Result<R::File> {
+        if !self.force && begins_with_header(self.rt, self.path) {
+            return Err(io::Error::from(ErrorKind::AlreadyExists));
+        }
+        File::create(self.rt, self.path)
+    }
+
+    fn write_file(&mut self, buf: &[u8]) -> io::Result<usize>
+        ensures { IfOk result (λ n. n ≤ length buf.now) }
+    {
+        if self.file.is_none() {
+            self.file = Some(self.create()?);
+        }
+        match &mut self.file {
+            Some(file) => file.write(buf),
+            None => Err(io::Error::from(ErrorKind::Other)),
+        }
+    }
+
+    /// Keeps why a write failed.
+    fn keep_fault(&mut self, kind: ErrorKind) {
+        self.fault = Some(match kind {
+            // The system never says so of a file that may be there already: only `create` does.
+            ErrorKind::AlreadyExists => OutFault::PropertyList,
+            ErrorKind::BrokenPipe if self.path == "-" => OutFault::Closed,
+            _ => OutFault::Failed(kind),
+        });
     }
 }
 
 impl<'a, R: Files + Print> Write for OutFile<'a, R> {
     fn write(&mut self, buf: &[u8]) -> io::Result<usize> {
-        if self.path == "-" {
-            return self.rt.write_some(buf);
+        let written = if self.path == "-" {
+            self.rt.write_some(buf)
+        } else {
+            self.write_file(buf)
+        };
+        match &written {
+            Ok(count) => self.written = self.written.saturating_add(*count as u64),
+            Err(error) => self.keep_fault(error.kind()),
         }
-        if self.file.is_none() {
-            self.file = Some(File::create(self.rt, self.path)?);
-        }
-        match &mut self.file {
-            Some(file) => file.write(buf),
-            None => Err(io::Error::from(io::ErrorKind::Other)),
-        }
+        written
     }
 
     fn flush(&mut self) -> io::Result<()> {
@@ -55,42 +113,20 @@ impl<'a, R: Files + Print> Write for OutFile<'a, R> {
     }
 }
 
-/// A writer for one line to standard output, after a prefix that names the file.
-#[derive(Drop)]
-pub struct LineOut<'a, R> {
-    rt: &'a R,
-    alloc: Global,
-    prefix: &'a str,
-}
-
-impl<'a, R> LineOut<'a, R> {
-    /// Makes a writer for a line after this prefix.
-    pub fn new(rt: &'a R, alloc: Global, prefix: &'a str) -> LineOut<'a, R> {
-        LineOut { rt, alloc, prefix }
+/// Returns true if this is a regular file that begins like a binary property list. A pipe or a device is not opened.
+fn begins_with_header<R: Files>(rt: &R, path: &str) -> bool {
+    match fs::metadata(rt, path) {
+        Ok(metadata) if metadata.is_file() => has_header(rt, path),
+        _ => false,
     }
 }
 
-impl<'a, R: Print> Write for LineOut<'a, R> {
-    /// Writes prefix and line with one write, so that the lines of parallel runs do not mix.
-    fn write(&mut self, buf: &[u8]) -> io::Result<usize> {
-        if self.prefix.is_empty() {
-            return self.rt.write_some(buf);
-        }
-        let line = behind(self.alloc, self.prefix, buf)?;
-        self.rt.write_all(&line)?;
-        Ok(buf.len())
-    }
-
-    fn flush(&mut self) -> io::Result<()> {
-        Ok(())
-    }
-}
-
-fn behind(alloc: Global, prefix: &str, bytes: &[u8]) -> io::Result<Vec<u8>> {
-    let mut line = Vec::new(alloc);
-    line.extend_from_slice(prefix.as_bytes())?;
-    line.extend_from_slice(bytes)?;
-    Ok(line)
+fn has_header<R: Files>(rt: &R, path: &str) -> bool {
+    let Ok(mut file) = File::open(rt, path) else {
+        return false;
+    };
+    let mut front = [0; 6];
+    file.read_exact(&mut front).is_ok() && front == *HEADER
 }
 
 /// A writer that discards everything.
@@ -104,54 +140,5 @@ impl Write for NoOut {
 
     fn flush(&mut self) -> io::Result<()> {
         Ok(())
-    }
-}
-
-/// Prints the line of a fault after the prefix, with its explanation. Returns the exit status. Prints everything with
-/// one write, so that the lines of parallel runs do not mix.
-pub fn end<R: Eprint>(rt: &R, alloc: Global, prefix: &str, ending: Ending) -> u8
-    ensures { EndsWith ending.answer result }
-{
-    let Ending { answer, under } = ending;
-    match answer {
-        Ok(Said::All) => 0,
-        Ok(Said::SomeMissing) => 1,
-        Err(fault) => match lines_of(alloc, prefix, &fault, &under) {
-            Ok(lines) => {
-                let _ = rt.eprint(lines);
-                fault.status()
-            }
-            Err(_) => {
-                let _ = rt.eprintln("memory");
-                RunFault::Memory.status()
-            }
-        },
-    }
-}
-
-/// Returns the line of a fault after the prefix, and its explanation.
-fn lines_of(
-    alloc: Global,
-    prefix: &str,
-    fault: &RawFault,
-    under: &str,
-) -> Result<String, AllocError> {
-    let line = fault.line(alloc)?;
-    format!(in alloc; "{prefix}{line}\n{under}")
-}
-
-/// Prints the error or help text of `clap`. Returns the exit status.
-pub fn refuse<R: Print + Eprint>(rt: &R, alloc: Global, error: Error) -> u8
-    ensures { IsRefusedWith (kind_of error) result }
-{
-    match error.kind() {
-        ErrorKind::OutOfMemory => end(rt, alloc, "", Ending::with(alloc, RunFault::Memory)),
-        kind => {
-            let _ = error.print(rt);
-            match kind {
-                ErrorKind::DisplayHelp | ErrorKind::DisplayVersion => 0,
-                _ => WRONG_LINE,
-            }
-        }
     }
 }

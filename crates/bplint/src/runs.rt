@@ -1,60 +1,176 @@
 //! Answers one request about one FILE.
 
-ghost use Rattle.std.specs.Prelude.{◌≡◌, Err, IsTrue, MatchResult, Ok};
+ghost use Rattle.std.specs.Prelude.{◌≤◌, IsTrue};
 ghost use Rattle.bplint.specs.ExitStatuses.{LeavesShown};
 
-use crate::args::{Job, Request, Run, Shown};
-use crate::input::{Inputs, Operand, open_inputs};
+use crate::args::{Request, Run, Shown, Task};
+use crate::ending::{Ending, WRONG_LINE, end, refuse_line};
+use crate::input::{Inputs, Operand, WHOLE_LIMIT, open_inputs};
 use crate::input_fault::InputFault;
-use crate::output::OutFile;
-use bplint_engine::{list_all_on, list_on, run_certified, show_on, show_raw_on, show_text_on};
+use crate::labels::{Labelled, Labels};
+use crate::lists::{ListFault, read_paths};
+use crate::output::{OutFault, OutFile};
+use crate::reasons::{Names, completed, keeps_line, path_lines, prefix_of, too_long_line};
+use crate::waiting::{Waiting, send_waiting};
+use bplint_engine::{
+    Branch, Verb, list_all_on, list_on, run_certified, show_on, show_raw_on, show_text_on,
+};
+use bplint_json::{Finding, find_in, list_json_on};
 use bplint_lines::{RawFault, RunFault, Said, explain};
-use bplint_map::map_on;
+use bplint_map::{map_on, map_paths_on};
 use bplist_octets::{Pane, Panes, SliceSource, Source, Window};
-use std::alloc::Global;
+use std::alloc::{AllocError, Global};
 use std::fs::{File, Files};
 use std::io::Write;
 
 /// The number of windows on a file: the offset table, an object, the objects it refers to, and its keys are apart.
-const PANES: usize = 8;
+pub const PANES: usize = 8;
 
-/// How a run ended.
-#[derive(Drop)]
-pub struct Ending {
-    pub answer: Result<Said, RawFault>,
-    /// The explanation of the fault, if it was asked for.
-    pub under: String,
-}
-
-impl Ending {
-    /// The end of a run with this answer, without an explanation.
-    pub fn of(alloc: Global, answer: Result<Said, RunFault>) -> Ending
-        ensures { MatchResult answer (λ said. result.answer ≡ Ok said) (λ fault. result.answer ≡ Err (RawFault.Run fault)) }
-    {
-        Ending {
-            answer: answer.map_err(RawFault::Run),
-            under: String::new(alloc),
+/// Opens the inputs of a line, and does what the line asks for. Returns the exit status.
+pub fn run<R: Files<File = File> + Input + Print + Eprint>(
+    rt: &R,
+    alloc: Global,
+    line: Run<'_>,
+) -> u8
+    ensures { result ≤ 4 }
+{
+    let explain = line.request.explain;
+    let Ok(prefix) = prefix_of(alloc, line.operands.file, line.named) else {
+        return end(rt, alloc, "", Ending::with(alloc, RunFault::Memory));
+    };
+    match open_all(rt, alloc, line) {
+        Ok((line, inputs)) => run_on(rt, alloc, &line, inputs, &prefix),
+        Err(ListFault::Unread(unread)) => {
+            let ending = unread.ending(rt, alloc, explain);
+            end(rt, alloc, &prefix, ending)
+        }
+        Err(ListFault::NotUtf8(line)) => {
+            let _ = rt.eprintln(line);
+            WRONG_LINE
         }
     }
+}
 
-    /// The end of a run with this fault, without an explanation.
-    pub fn with(alloc: Global, fault: RunFault) -> Ending
-        ensures { result.answer ≡ Err (RawFault.Run fault) }
-    {
-        Ending::of(alloc, Err(fault))
+/// Opens the inputs of a line, and then reads its path texts, if a list has them.
+fn open_all<'a, R: Files<File = File> + Input>(
+    rt: &R,
+    alloc: Global,
+    line: Run<'a>,
+) -> Result<(Run<'a>, Inputs), ListFault<'a>> {
+    let inputs = open_inputs(rt, alloc, &line.operands).map_err(ListFault::Unread)?;
+    match line.paths_from {
+        Some(list) => {
+            let paths = read_paths(rt, alloc, list)?;
+            Ok((line.with_paths(paths), inputs))
+        }
+        None => Ok((line, inputs)),
     }
 }
 
-/// Opens the inputs of a line, and does what the line asks for.
-pub fn run<R: Files<File = File> + Input + Print>(rt: &R, alloc: Global, line: &Run<'_>) -> Ending {
-    match open_inputs(rt, alloc, &line.operands) {
-        Ok(inputs) => answer(
-            alloc,
-            &line.request,
-            inputs,
-            &mut OutFile::new(rt, line.out),
-        ),
-        Err(unread) => unread.ending(rt, alloc, line.request.explains()),
+/// Does what a line asks for. Returns the exit status.
+fn run_on<R: Files<File = File> + Print + Eprint>(
+    rt: &R,
+    alloc: Global,
+    line: &Run<'_>,
+    inputs: Inputs,
+    prefix: &str,
+) -> u8
+    ensures { result ≤ 4 }
+{
+    let mut out = OutFile::new(rt, line.out).replacing(line.force);
+    let ending = write_answer(alloc, line, inputs, prefix, &mut out);
+    let ending = match out.fault() {
+        Some(OutFault::PropertyList) => return keep_out(rt, alloc, line.out),
+        fault => completed(alloc, ending, &names_of(line), fault),
+    };
+    match with_warning(alloc, line, ending, out.written()) {
+        Ok(ending) => end(rt, alloc, prefix, ending),
+        Err(_) => end(rt, alloc, prefix, Ending::with(alloc, RunFault::Memory)),
+    }
+}
+
+/// Says that OUT stays as it is, because it is a property list. Returns the exit status.
+fn keep_out<R: Eprint>(rt: &R, alloc: Global, out: &str) -> u8
+    ensures { result ≤ 4 }
+{
+    match keeps_line(alloc, out) {
+        Ok(line) => refuse_line(rt, &line),
+        Err(_) => end(rt, alloc, "", Ending::with(alloc, RunFault::Memory)),
+    }
+}
+
+/// Returns the names that the lines below a fault give.
+fn names_of<'a>(line: &Run<'a>) -> Names<'a> {
+    Names {
+        file: line.operands.file,
+        cert: line.operands.cert.unwrap_or(""),
+        out: line.out,
+        named: line.named,
+        explain: line.request.explain,
+    }
+}
+
+/// Adds a line to the end of a run that wrote a certificate which no other command takes.
+fn with_warning(
+    alloc: Global,
+    line: &Run<'_>,
+    ending: Ending,
+    written: u64,
+) -> Result<Ending, AllocError> {
+    match &line.request.task {
+        Task::Command(job) if ending.answer.is_ok() && written > WHOLE_LIMIT as u64 => {
+            match job.command.verb {
+                Verb::Certify => Ok(Ending::over(ending.answer, too_long_line(alloc, line.out)?)),
+                _ => Ok(ending),
+            }
+        }
+        _ => Ok(ending),
+    }
+}
+
+/// Writes the answer of a line, with a label before each of its lines unless it is bytes.
+fn write_answer<W: Write>(
+    alloc: Global,
+    line: &Run<'_>,
+    inputs: Inputs,
+    prefix: &str,
+    out: &mut W,
+) -> Ending {
+    let request = &line.request;
+    if request.task.writes_bytes() {
+        return match &request.task {
+            Task::Raw(_) => answer_later(alloc, request, inputs, out),
+            _ => answer(alloc, request, inputs, out),
+        };
+    }
+    let labels = Labels {
+        prefix,
+        paths: labels_of(line),
+    };
+    let mut out = Labelled::new(alloc, out, labels);
+    match &request.task {
+        Task::Show(Shown::Text { .. }) => answer_later(alloc, request, inputs, &mut out),
+        _ => answer(alloc, request, inputs, &mut out),
+    }
+}
+
+/// Answers a request whose answer is no line: what is written for a path that leads nowhere goes to standard error.
+fn answer_later<W: Write>(
+    alloc: Global,
+    request: &Request<'_>,
+    inputs: Inputs,
+    out: &mut W,
+) -> Ending {
+    let mut waiting = Waiting::new(alloc, out);
+    let ending = answer(alloc, request, inputs, &mut waiting);
+    let (bytes, out) = waiting.into_parts();
+    match &ending.answer {
+        Ok(Said::All) => match send_waiting(&bytes, out) {
+            Ok(()) => ending,
+            Err(fault) => Ending::with(alloc, RunFault::from(fault)),
+        },
+        Ok(Said::SomeMissing) => Ending::over(ending.answer, text_of(alloc, bytes)),
+        Err(_) => ending,
     }
 }
 
@@ -68,6 +184,23 @@ pub fn answer<W: Write>(
     match try_answer(alloc, request, inputs, out) {
         Ok(ending) => ending,
         Err(fault) => Ending::with(alloc, RunFault::from(fault)),
+    }
+}
+
+/// Lints an input.
+pub fn finding_of(alloc: Global, file: Operand) -> Finding {
+    match file {
+        Operand::Whole(file) => find_in(alloc, &mut SliceSource::new(&file)),
+        Operand::File(file) => {
+            let mut file = Window::new(file);
+            let Ok(mut panes) = vec![in alloc; Pane::EMPTY; PANES] else {
+                return Finding::Unread {
+                    fault: RunFault::Memory,
+                    cause: None,
+                };
+            };
+            find_in(alloc, &mut Panes::new(&mut file, &mut panes))
+        }
     }
 }
 
@@ -97,65 +230,123 @@ fn answer_on<S: Source + Drop, W: Write>(
     cert: Operand,
     out: &mut W,
 ) -> Result<Ending, InputFault> {
-    match request {
-        Request::Command(job) => command_on(alloc, job, src, cert, out),
-        Request::Show(shown) => Ok(Ending::of(alloc, shown_on(alloc, shown, src, out))),
-        Request::Raw(path) => Ok(Ending {
-            answer: show_raw_on(alloc, src, path, out).0,
-            under: String::new(alloc),
-        }),
-    }
-}
-
-/// Runs a command over a source.
-fn command_on<S: Source + Drop, W: Write>(
-    alloc: Global,
-    job: &Job,
-    src: S,
-    cert: Operand,
-    out: &mut W,
-) -> Result<Ending, InputFault> {
     let mut cert = cert;
-    let decoded = cert.decode(alloc)?;
-    let (answer, mut src) = run_certified(alloc, &job.command, src, decoded, out);
+    let (answer, mut src) = do_task(alloc, &request.task, src, &mut cert, out)?;
     let under = match &answer {
-        Err(fault) if job.explain => under_fault(alloc, &mut src, cert, fault),
+        Err(RawFault::Run(fault)) if request.explain => {
+            under_fault(alloc, request, &mut src, cert, fault)
+        }
         _ => String::new(alloc),
     };
-    Ok(Ending {
-        answer: answer.map_err(RawFault::Run),
-        under,
-    })
+    Ok(Ending::over(answer, under))
+}
+
+/// Does a task over a source. Returns the source too.
+fn do_task<S: Source + Drop, W: Write>(
+    alloc: Global,
+    task: &Task<'_>,
+    src: S,
+    cert: &mut Operand,
+    out: &mut W,
+) -> Result<(Result<Said, RawFault>, S), InputFault> {
+    match task {
+        Task::Command(job) => {
+            let decoded = cert.decode(alloc)?;
+            let (answer, src) = run_certified(alloc, &job.command, src, decoded, out);
+            Ok((answer.map_err(RawFault::Run), src))
+        }
+        Task::Show(shown) => {
+            let (answer, src) = shown_on(alloc, shown, src, out);
+            Ok((answer.map_err(RawFault::Run), src))
+        }
+        Task::Raw(path) => Ok(show_raw_on(alloc, src, path, out)),
+        Task::Json { path, depth } => {
+            let (answer, src) = list_json_on(alloc, src, path, *depth, out);
+            Ok((answer.map_err(RawFault::Run), src))
+        }
+    }
 }
 
 /// Returns the explanation of a fault. This is the only place that holds all bytes of CERT. If a read fails or memory
 /// is refused, there is no explanation.
-fn under_fault<S: Source>(alloc: Global, src: &mut S, cert: Operand, fault: &RunFault) -> String {
-    let Ok(cert) = cert.into_bytes(alloc) else {
-        return String::new(alloc);
-    };
-    match explain(alloc, src, &cert, fault) {
+fn under_fault<S: Source>(
+    alloc: Global,
+    request: &Request<'_>,
+    src: &mut S,
+    cert: Operand,
+    fault: &RunFault,
+) -> String {
+    match try_under(alloc, request, src, cert, fault) {
         Ok(text) => text,
         Err(_) => String::new(alloc),
     }
 }
 
-/// Writes what is to be shown of a source.
+fn try_under<S: Source>(
+    alloc: Global,
+    request: &Request<'_>,
+    src: &mut S,
+    cert: Operand,
+    fault: &RunFault,
+) -> Result<String, RunFault> {
+    let cert = cert.into_bytes(alloc)?;
+    let mut text = explain(alloc, src, &cert, fault)?;
+    if let RunFault::Path { place } = fault {
+        text.push_str(&path_lines(alloc, request, *place)?)?;
+    }
+    Ok(text)
+}
+
+/// Writes what is to be shown of a source. Returns the source too.
 fn shown_on<S: Source + Drop, W: Write>(
     alloc: Global,
     shown: &Shown<'_>,
     src: S,
     out: &mut W,
-) -> Result<Said, RunFault>
+) -> (Result<Said, RunFault>, S)
     ensures { IsTrue (S.means src).honest
-        → LeavesShown (S.means src).octets shown.now (W.contents out.old) (W.contents out.new) result }
+        → LeavesShown (S.means src).octets shown.now (W.contents out.old) (W.contents out.new) result.0 }
 {
-    let mut src = src;
     match shown {
-        Shown::Values(paths) => show_on(alloc, src, paths, out).0,
-        Shown::Text { path, limit } => show_text_on(alloc, src, path, *limit, out).0,
-        Shown::Members(path) => list_on(alloc, src, path, out).0,
-        Shown::Tree { path, limit } => list_all_on(alloc, src, path, *limit, out).0,
-        Shown::Map => map_on(alloc, &mut src, out),
+        Shown::Values { paths, style } => show_on(alloc, src, paths, *style, out),
+        Shown::Text { path, limit } => show_text_on(alloc, src, path, *limit, out),
+        Shown::Members { path, style } => list_on(alloc, src, path, *style, out),
+        Shown::Tree { path, limit, style } => {
+            let branch = Branch {
+                path,
+                limit: *limit,
+                style: *style,
+            };
+            list_all_on(alloc, src, &branch, out)
+        }
+        Shown::Map => {
+            let mut src = src;
+            let answer = map_on(alloc, &mut src, out);
+            (answer, src)
+        }
+        Shown::MapPaths => {
+            let mut src = src;
+            let answer = map_paths_on(alloc, &mut src, out);
+            (answer, src)
+        }
+    }
+}
+
+fn labels_of<'a>(line: &'a Run<'_>) -> &'a [String] {
+    if line.paths_from.is_none() {
+        return &[];
+    }
+    match &line.request.task {
+        Task::Command(job) => &job.command.paths,
+        Task::Show(Shown::Values { paths, .. }) => paths,
+        _ => &[],
+    }
+}
+
+/// Returns the text of these bytes, which are the line of a path that leads nowhere.
+fn text_of(alloc: Global, bytes: Vec<u8>) -> String {
+    match String::from_utf8(bytes) {
+        Ok(text) => text,
+        Err(_) => String::new(alloc),
     }
 }

@@ -1,8 +1,10 @@
 //! The subcommands as tables, and the `clap` command line that is made of them.
 
 use crate::arguments::{
-    ANY_PATHS, Argument, CERT, EXPLAIN, FILE, FILES, HEX, LIMIT, MAYBE_PATH, OUT, PATH, PATHS,
-    QUIET, RAW, RECURSIVE, SORTED, SUMMARY, TEXT, TEXT_LIMIT, TREE, TREE_LIMIT, WORD,
+    ALL, ANY_PATHS, Argument, CERT, EXPLAIN, FILE, FILES, FILES_FROM, FINDINGS, FORCE, HEX, JSON,
+    LIMIT, LIST, MAP_PATHS, MAYBE_PATH, NULL, OUT, PATH, PATHS, PATHS_FROM, QUIET, RAW, RECURSIVE,
+    SHOWN_UTF8, SKIP_OTHER, SORTED, SUMMARY, TEXT, TEXT_LIMIT, TREE, TREE_LIMIT, UTF8, WITH_NAME,
+    WORDS,
 };
 use clap::Command;
 use std::alloc::{AllocError, Global};
@@ -58,6 +60,13 @@ breaks a rule has the word of the rule.
 Exit status: 0 yes, 1 a broken rule of 1 to 13, 2 a wrong command line, 3 a failed read or write, 4 no memory.
 The rules: man bplint, or docs/RULES.md.";
 
+const TEXTCONV_HELP: &str =
+    "Example: git config diff.bplist.textconv \"bplint textconv\", and in .gitattributes *.plist diff=bplist
+
+A sound binary property list is shown as ls --recursive --utf8 lists it, and another one by its fault and its first bytes
+in hexadecimal. Any other file is shown as it is.
+Exit status: 0 the file could be read, 2 a wrong command line, 3 a failed read or write, 4 no memory.";
+
 const EXPLAIN_HELP: &str = "Example: bplint explain KeyTwice
          bplint explain 22
 
@@ -79,60 +88,73 @@ struct Subcommand {
 }
 
 /// The subcommands, in the order of the help.
-static SUBCOMMANDS: [Subcommand; 9] = [
+static SUBCOMMANDS: [Subcommand; 10] = [
     Subcommand {
         name: "lint",
         about: "Says whether each FILE holds a value",
         help: LINT_HELP,
-        arguments: &[HEX, QUIET, RECURSIVE, SUMMARY, EXPLAIN, FILES],
+        arguments: &[
+            HEX, QUIET, RECURSIVE, ALL, SKIP_OTHER, LIST, NULL, FILES_FROM, FINDINGS, SUMMARY,
+            WITH_NAME, EXPLAIN, FILES,
+        ],
     },
     Subcommand {
         name: "show",
         about: "Prints what lies under each PATH, or the whole",
         help: SHOW_HELP,
-        arguments: &[HEX, TEXT, TEXT_LIMIT, RAW, FILE, ANY_PATHS],
+        arguments: &[
+            HEX, TEXT, TEXT_LIMIT, RAW, SHOWN_UTF8, PATHS_FROM, WITH_NAME, EXPLAIN, FILE, ANY_PATHS,
+        ],
     },
     Subcommand {
         name: "ls",
         about: "Lists the members of the value under PATH, or of the whole",
         help: LS_HELP,
-        arguments: &[HEX, TREE, TREE_LIMIT, FILE, MAYBE_PATH],
+        arguments: &[
+            HEX, TREE, TREE_LIMIT, JSON, UTF8, WITH_NAME, EXPLAIN, FILE, MAYBE_PATH,
+        ],
     },
     Subcommand {
         name: "map",
         about: "Lists objects, gaps and overlaps of FILE in byte order",
         help: MAP_HELP,
-        arguments: &[HEX, FILE],
+        arguments: &[HEX, MAP_PATHS, WITH_NAME, EXPLAIN, FILE],
+    },
+    Subcommand {
+        name: "textconv",
+        about: "Shows FILE as text, whatever it is, for git diff",
+        help: TEXTCONV_HELP,
+        arguments: &[EXPLAIN, FILE],
     },
     Subcommand {
         name: "explain",
         about: "Says what the rule of WORD asks",
         help: EXPLAIN_HELP,
-        arguments: &[WORD],
+        arguments: &[WORDS],
     },
     Subcommand {
         name: "certify",
         about: "Writes a certificate of FILE to OUT",
         help: CERTIFY_HELP,
-        arguments: &[HEX, FILE, SORTED, OUT],
+        arguments: &[HEX, SORTED, FORCE, WITH_NAME, EXPLAIN, FILE, OUT],
     },
     Subcommand {
         name: "check",
         about: "Checks a certificate of FILE",
         help: CHECK_HELP,
-        arguments: &[HEX, EXPLAIN, FILE, CERT],
+        arguments: &[HEX, WITH_NAME, EXPLAIN, FILE, CERT],
     },
     Subcommand {
         name: "get",
         about: "Prints what lies under each PATH, by a certificate",
         help: GET_HELP,
-        arguments: &[HEX, FILE, CERT, PATHS],
+        arguments: &[HEX, PATHS_FROM, WITH_NAME, EXPLAIN, FILE, CERT, PATHS],
     },
     Subcommand {
         name: "print",
         about: "Prints the value under PATH as old-style text, by a certificate",
         help: PRINT_HELP,
-        arguments: &[HEX, FILE, CERT, PATH, LIMIT],
+        arguments: &[HEX, WITH_NAME, EXPLAIN, FILE, CERT, PATH, LIMIT],
     },
 ];
 
@@ -153,7 +175,7 @@ impl Subcommand {
 pub fn bplint<'a>(alloc: Global) -> Result<Command<'a>, AllocError> {
     let mut command = Command::new(alloc, "bplint")
         .about("Lints, checks and reads binary property lists")
-        .version("0.3.0")
+        .version("0.4.0")
         .after_help(HELP)
         .subcommand_required(true);
     for subcommand in &SUBCOMMANDS {

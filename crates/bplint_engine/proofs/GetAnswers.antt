@@ -30,6 +30,8 @@ use Rattle.bplint_engine.specs.Output.{Answers, IsRefusal}
 use Rattle.bplint_lines.specs.Faults.{Gives, IsExcused}
 use Rattle.bplint_lines.specs.declared.fault.Said.{Said}
 use Rattle.bplint_lines.specs.declared.fault.Said.TheVariants.{All, SomeMissing}
+use Rattle.bplint_lines.specs.declared.texts.Style.{Style}
+use Rattle.bplint_lines.specs.declared.texts.Style.TheVariants.{OldStyle}
 use Rattle.bplint_engine.specs.Get.{LinesSay, answer_fault, found_line, is_missing, replies_said, reply_line, said_of}
 use Rattle.bplint_engine.specs.Check.{CheckSays}
 use Rattle.bplint_engine.specs.Ls.{listed}
@@ -43,74 +45,75 @@ excused_refused Says (faults.Read _) h = tt
 excused_refused Says faults.Memory h = tt
 excused_refused Says _ h = absurd h
 
--- ---- replies to paths
-line_of_found : (found : Result Value (ℕ × Why)) → reply_line (elim found [ Ok w ↦ Face (face w) | Err (k, why) ↦ Missing k why ]) ≡ found_line found
-line_of_found (Ok w) = refl
-line_of_found (Err (k, why)) = refl
+module _ (style : Style) where
+  -- ---- replies to paths
+  line_of_found : (found : Result Value (ℕ × Why)) → reply_line style (elim found [ Ok w ↦ Face (face w) | Err (k, why) ↦ Missing k why ]) ≡ found_line style found
+  line_of_found (Ok w) = refl
+  line_of_found (Err (k, why)) = refl
 
-lines_told : (v : Value) (paths : List (List (List ℕ))) → flat_map reply_line (map (reply v) (map Get paths)) ≡ flat_map found_line (map (look 0 v) paths)
-lines_told v [] = refl
-lines_told v (path ∷ paths) = λ i. line_of_found (look 0 v path) i ++ lines_told v paths i
+  lines_told : (v : Value) (paths : List (List (List ℕ))) → flat_map (reply_line style) (map (reply v) (map Get paths)) ≡ flat_map (found_line style) (map (look 0 v) paths)
+  lines_told v [] = refl
+  lines_told v (path ∷ paths) = λ i. line_of_found (look 0 v path) i ++ lines_told v paths i
 
-missing_of_found : (found : Result Value (ℕ × Why)) → is_missing (elim found [ Ok w ↦ Face (face w) | Err (k, why) ↦ Missing k why ]) ≡ is_err found
-missing_of_found (Ok w) = refl
-missing_of_found (Err (k, why)) = refl
+  missing_of_found : (found : Result Value (ℕ × Why)) → is_missing (elim found [ Ok w ↦ Face (face w) | Err (k, why) ↦ Missing k why ]) ≡ is_err found
+  missing_of_found (Ok w) = refl
+  missing_of_found (Err (k, why)) = refl
 
-missing_told : (v : Value) (paths : List (List (List ℕ))) → list_any is_missing (map (reply v) (map Get paths)) ≡ list_any is_err (map (look 0 v) paths)
-missing_told v [] = refl
-missing_told v (path ∷ paths) = λ i. missing_of_found (look 0 v path) i || missing_told v paths i
+  missing_told : (v : Value) (paths : List (List (List ℕ))) → list_any is_missing (map (reply v) (map Get paths)) ≡ list_any is_err (map (look 0 v) paths)
+  missing_told v [] = refl
+  missing_told v (path ∷ paths) = λ i. missing_of_found (look 0 v path) i || missing_told v paths i
 
--- the replies and what the paths lead to give the same `Said`
-pub told_of : (v : Value) (paths : List (List (List ℕ))) (queries : List Query) (said : Said) (bytes : List ℕ) → queries ≡ map Get paths
-    → (said ≡ replies_said (map (reply v) queries)) × (bytes ≡ flat_map reply_line (map (reply v) queries))
-    → (said ≡ said_of (map (look 0 v) paths)) × (bytes ≡ flat_map found_line (map (look 0 v) paths))
-told_of v paths queries said bytes asked (is, lines) = (
-  is ∙ ap (λ (qs : List Query). replies_said (map (reply v) qs)) asked ∙ ap (λ (m : Bool). if m then SomeMissing else All) (missing_told v paths),
-  lines ∙ ap (λ (qs : List Query). flat_map reply_line (map (reply v) qs)) asked ∙ lines_told v paths,
-)
+  -- the replies and what the paths lead to give the same `Said`
+  pub told_of : (v : Value) (paths : List (List (List ℕ))) (queries : List Query) (said : Said) (bytes : List ℕ) → queries ≡ map Get paths
+      → (said ≡ replies_said (map (reply v) queries)) × (bytes ≡ flat_map (reply_line style) (map (reply v) queries))
+      → (said ≡ said_of (map (look 0 v) paths)) × (bytes ≡ flat_map (found_line style) (map (look 0 v) paths))
+  told_of v paths queries said bytes asked (is, lines) = (
+    is ∙ ap (λ (qs : List Query). replies_said (map (reply v) qs)) asked ∙ ap (λ (m : Bool). if m then SomeMissing else All) (missing_told v paths),
+    lines ∙ ap (λ (qs : List Query). flat_map (reply_line style) (map (reply v) qs)) asked ∙ lines_told v paths,
+  )
 
--- Says accepts the file, and the queries have replies
-pub queries_say : (Says : Answer → Type 0) (f : List ℕ) (texts : List (List ℕ)) (paths : List (List (List ℕ))) (queries : List Query) (F : Frame) (made : Result Output RunFault)
-    → AllZip IsPathOf texts paths → queries ≡ map Get paths → IsYes Says → ∥ IsThere f F ∥₁
-    → Gives (λ output. (v : Value) → Holds f F F.top.0 v
-    → (output.said ≡ replies_said (map (reply v) queries)) × (output.bytes.items ≡ flat_map reply_line (map (reply v) queries))) made
-    → ∥ Answers (LinesSay found_line Says f texts) made ∥₁
-queries_say Says f texts paths queries F (Ok output) are asked (said, bytes, says) there told = ∥∥₁_map there (λ (v, _, holds, held).
-    let t = told_of v paths queries output.said output.bytes.items asked (told v held) in
-    inr (paths, gives said bytes, are, says, (v, holds, same_gives output.said (said_of (map (look 0 v) paths)) output.bytes.items (flat_map found_line (map (look 0 v) paths)) t.0 t.1)))
-queries_say Says f texts paths queries F (Err fault) are asked sure there told = merely (excused_refused (LinesSay found_line Says f texts) fault told)
+  -- Says accepts the file, and the queries have replies
+  pub queries_say : (Says : Answer → Type 0) (f : List ℕ) (texts : List (List ℕ)) (paths : List (List (List ℕ))) (queries : List Query) (F : Frame) (made : Result Output RunFault)
+      → AllZip IsPathOf texts paths → queries ≡ map Get paths → IsYes Says → ∥ IsThere f F ∥₁
+      → Gives (λ output. (v : Value) → Holds f F F.top.0 v
+      → (output.said ≡ replies_said (map (reply v) queries)) × (output.bytes.items ≡ flat_map (reply_line style) (map (reply v) queries))) made
+      → ∥ Answers (LinesSay (found_line style) Says f texts) made ∥₁
+  queries_say Says f texts paths queries F (Ok output) are asked (said, bytes, says) there told = ∥∥₁_map there (λ (v, _, holds, held).
+      let t = told_of v paths queries output.said output.bytes.items asked (told v held) in
+      inr (paths, gives said bytes, are, says, (v, holds, same_gives output.said (said_of (map (look 0 v) paths)) output.bytes.items (flat_map (found_line style) (map (look 0 v) paths)) t.0 t.1)))
+  queries_say Says f texts paths queries F (Err fault) are asked sure there told = merely (excused_refused (LinesSay (found_line style) Says f texts) fault told)
 
--- the same for the replies that the file's value gives
-pub replies_say : (Says : Answer → Type 0) (f : List ℕ) (texts : List (List ℕ)) (paths : List (List (List ℕ))) (queries : List Query) (replies : List Reply) (made : Result Output RunFault)
-    → AllZip IsPathOf texts paths → queries ≡ map Get paths → ∥ IsYes Says ∥₁ → ∥ IsAnswered f queries replies ∥₁
-    → Gives (λ output. (output.said ≡ replies_said replies) × (output.bytes.items ≡ flat_map reply_line replies)) made
-    → ∥ Answers (LinesSay found_line Says f texts) made ∥₁
-replies_say Says f texts paths queries replies (Ok output) are asked sure there told =
-    ∥∥₁_elim sure (hlevel props) (λ (said, bytes, says). ∥∥₁_map there (λ a.
-    let t = told_of a.value paths queries output.said output.bytes.items asked (told.0 ∙ ap replies_said a.answered, told.1 ∙ ap (λ (rs : List Reply). flat_map reply_line rs) a.answered) in
-    inr (paths, gives said bytes, are, says, (a.value, a.holds, same_gives output.said (said_of (map (look 0 a.value) paths)) output.bytes.items (flat_map found_line (map (look 0 a.value) paths)) t.0 t.1))))
-replies_say Says f texts paths queries replies (Err fault) are asked sure there told = merely (excused_refused (LinesSay found_line Says f texts) fault told)
+  -- the same for the replies that the file's value gives
+  pub replies_say : (Says : Answer → Type 0) (f : List ℕ) (texts : List (List ℕ)) (paths : List (List (List ℕ))) (queries : List Query) (replies : List Reply) (made : Result Output RunFault)
+      → AllZip IsPathOf texts paths → queries ≡ map Get paths → ∥ IsYes Says ∥₁ → ∥ IsAnswered f queries replies ∥₁
+      → Gives (λ output. (output.said ≡ replies_said replies) × (output.bytes.items ≡ flat_map (reply_line style) replies)) made
+      → ∥ Answers (LinesSay (found_line style) Says f texts) made ∥₁
+  replies_say Says f texts paths queries replies (Ok output) are asked sure there told =
+      ∥∥₁_elim sure (hlevel props) (λ (said, bytes, says). ∥∥₁_map there (λ a.
+      let t = told_of a.value paths queries output.said output.bytes.items asked (told.0 ∙ ap replies_said a.answered, told.1 ∙ ap (λ (rs : List Reply). flat_map (reply_line style) rs) a.answered) in
+      inr (paths, gives said bytes, are, says, (a.value, a.holds, same_gives output.said (said_of (map (look 0 a.value) paths)) output.bytes.items (flat_map (found_line style) (map (look 0 a.value) paths)) t.0 t.1))))
+  replies_say Says f texts paths queries replies (Err fault) are asked sure there told = merely (excused_refused (LinesSay (found_line style) Says f texts) fault told)
 
 -- the same for a file and a certificate, for which there may be no replies
 pub certified_say : (f cert : List ℕ) (texts : List (List ℕ)) (paths : List (List (List ℕ))) (queries : List Query) (lists : Lists) {R : Type 0} (items : R → List Reply) (told : Result R AnswerFault) (made : Result Output RunFault)
     → AllZip IsPathOf texts paths → queries ≡ map Get paths → IsCertificate lists × (cert ≡ octets_of lists)
     → IfOk told (λ replies. ∥ IsAnswered f queries (items replies) ∥₁) → IfOk told (λ _. ∥ ((F : Frame) × IsAccepted f F lists) ∥₁)
     → IfErr told (RefusesBy (IsPairFault f lists))
-    → MatchResult told (λ replies. Gives (λ output. (output.said ≡ replies_said (items replies)) × (output.bytes.items ≡ flat_map reply_line (items replies))) made) (λ fault. made ≡ Err (answer_fault fault))
-    → ∥ Answers (LinesSay found_line (CheckSays f cert) f texts) made ∥₁
+    → MatchResult told (λ replies. Gives (λ output. (output.said ≡ replies_said (items replies)) × (output.bytes.items ≡ flat_map (reply_line OldStyle) (items replies))) made) (λ fault. made ≡ Err (answer_fault fault))
+    → ∥ Answers (LinesSay (found_line OldStyle) (CheckSays f cert) f texts) made ∥₁
 certified_say f cert texts paths queries lists items (Ok replies) made are asked (is, spelled) there accepted refused lines =
-    replies_say (CheckSays f cert) f texts paths queries (items replies) made are asked (∥∥₁_map accepted (λ a. check_yes f cert a.0 lists (is, spelled, merely a.1))) there lines
+    replies_say OldStyle (CheckSays f cert) f texts paths queries (items replies) made are asked (∥∥₁_map accepted (λ a. check_yes f cert a.0 lists (is, spelled, merely a.1))) there lines
 certified_say f cert texts paths queries lists items (Err fault) made are asked (is, spelled) there accepted refused lines =
-    subst (λ x. ∥ Answers (LinesSay found_line (CheckSays f cert) f texts) x ∥₁) (sym lines)
-    (merely (file_refused (CheckSays f cert) f texts (AreLines found_line) paths (answer_fault fault) are (answer_refused f cert lists fault is spelled refused)))
+    subst (λ x. ∥ Answers (LinesSay (found_line OldStyle) (CheckSays f cert) f texts) x ∥₁) (sym lines)
+    (merely (file_refused (CheckSays f cert) f texts (AreLines (found_line OldStyle)) paths (answer_fault fault) are (answer_refused f cert lists fault is spelled refused)))
 
 -- the same for the lines of `ls`
-pub list_says : (Says : Answer → Type 0) (f text : List ℕ) (steps : List (List ℕ)) (F : Frame) (made : Result Output RunFault)
+pub list_says : (style : Style) (Says : Answer → Type 0) (f text : List ℕ) (steps : List (List ℕ)) (F : Frame) (made : Result Output RunFault)
     → AllZip IsPathOf (text ∷ []) (steps ∷ []) → IsYes Says → IsThere f F
-    → ((v : Value) → Holds f F F.top.0 v → Gives (λ output. (output.said ≡ said_of (look 0 v steps ∷ [])) × (output.bytes.items ≡ listed text (look 0 v steps))) made)
-    → Answers (LinesSay (listed text) Says f (text ∷ [])) made
-list_says Says f text steps F (Ok output) are (said, bytes, says) (v, _, holds, held) told =
+    → ((v : Value) → Holds f F F.top.0 v → Gives (λ output. (output.said ≡ said_of (look 0 v steps ∷ [])) × (output.bytes.items ≡ listed style text (look 0 v steps))) made)
+    → Answers (LinesSay (listed style text) Says f (text ∷ [])) made
+list_says style Says f text steps F (Ok output) are (said, bytes, says) (v, _, holds, held) told =
     let t = told v held in
-    let same = same_gives output.said (said_of (look 0 v steps ∷ [])) output.bytes.items (listed text (look 0 v steps) ++ []) t.0 (t.1 ∙ sym (append-nil (listed text (look 0 v steps)))) in
+    let same = same_gives output.said (said_of (look 0 v steps ∷ [])) output.bytes.items (listed style text (look 0 v steps) ++ []) t.0 (t.1 ∙ sym (append-nil (listed style text (look 0 v steps)))) in
     inr (steps ∷ [], gives said bytes, are, says, (v, holds, same))
-list_says Says f text steps F (Err fault) are sure (v, _, _, held) told = excused_refused (LinesSay (listed text) Says f (text ∷ [])) fault (told v held)
+list_says style Says f text steps F (Err fault) are sure (v, _, _, held) told = excused_refused (LinesSay (listed style text) Says f (text ∷ [])) fault (told v held)

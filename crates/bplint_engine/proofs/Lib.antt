@@ -1,4 +1,3 @@
-mod CertifyAnswers
 mod ReadCharacters
 mod DecodedCertificates
 mod EqualAnswers

@@ -7,6 +7,7 @@ use Rattle.bplint_lines.specs.Answers.{Answer, refuses}
 use Rattle.bplint_engine.specs.Check.{CheckSays}
 use Rattle.bplint_engine.specs.Commands.{Asked}
 use Rattle.bplint_engine.specs.Get.{found_line}
+use Rattle.bplint_lines.specs.declared.texts.Style.TheVariants.{OldStyle}
 use Rattle.bplint_engine.specs.Hexadecimal.{spelled}
 use Rattle.bplint_engine.specs.Said.{Says, SaysOver, Spells, takes_cert}
 use Rattle.bplint_engine.specs.declared.run.Verb.{Verb}
@@ -25,7 +26,7 @@ one_by verbs.Lint command f cert a b h k = one_lint f a b h k
 one_by verbs.Check command f cert a b h k = one_check f cert a b h k
 one_by verbs.Certify command f cert a b h k = one_certified command.sorted command.hex f a b h k
 one_by verbs.Get command f cert a b h k =
-    one_for_paths (CheckSays f cert) f command.paths (AreLines found_line) (one_check f cert) (λ paths v holds x y is is'. is ∙ sym is') a b h k
+    one_for_paths (CheckSays f cert) f command.paths (AreLines (found_line OldStyle)) (one_check f cert) (λ paths v holds x y is is'. is ∙ sym is') a b h k
 one_by verbs.Print command f cert a b h k = one_print f cert command.paths command.limit a b h k
 
 pub one_answer : (command : Asked) (f cert : List ℕ) (a b : Answer) → Says command f cert a → Says command f cert b → a ≡ b

@@ -31,7 +31,7 @@ use Rattle.bplint_engine.specs.PathTexts.{ForPaths, IsWrongAmong, OnPath}
 use Rattle.bplint_engine.specs.Print.{PathSays}
 
 -- a refusal under one description of the answer is one under another that has the same faults
-refused_as : (P Q : Answer → Type 0) (fault : RunFault) → ((x : RunFault) → P (refuses x) → Q (refuses x)) → IsRefusal P fault → IsRefusal Q fault
+pub refused_as : (P Q : Answer → Type 0) (fault : RunFault) → ((x : RunFault) → P (refuses x) → Q (refuses x)) → IsRefusal P fault → IsRefusal Q fault
 refused_as P Q (faults.Write _) to h = h
 refused_as P Q (faults.Read _) to h = tt
 refused_as P Q faults.Memory to h = tt

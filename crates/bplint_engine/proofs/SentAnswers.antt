@@ -17,6 +17,7 @@ use Rattle.bplint_lines.specs.declared.fault.Said.{Said}
 use Rattle.bplint_lines.specs.declared.fault.Said.TheVariants.{SomeMissing}
 use Rattle.bplint_lines.specs.Answers.{Answer, LeavesSomeBy, gives}
 use Rattle.bplint_lines.specs.Faults.{IsExcused}
+use Rattle.bplint_lines.specs.declared.texts.Style.{Style}
 use Rattle.bplint_lines.specs.OutputLines.{missing_line}
 use Rattle.bplint_engine.specs.declared.output.Output.{Output}
 use Rattle.bplint_engine.specs.Output.{Answers, IsRefusal}
@@ -76,10 +77,10 @@ raw_says Says f text steps F old new result are (said, octets, says) (v, frame, 
     (left v held)
 
 -- the same for what was listed
-pub lists_all : (limit : ℕ) (Says : Answer → Type 0) (f text : List ℕ) (steps : List (List ℕ)) (F : Frame) (old new : Option (List ℕ)) (result : Result Said RunFault)
+pub lists_all : (style : Style) (limit : ℕ) (Says : Answer → Type 0) (f text : List ℕ) (steps : List (List ℕ)) (F : Frame) (old new : Option (List ℕ)) (result : Result Said RunFault)
     → AllZip IsPathOf (text ∷ []) (steps ∷ []) → IsYes Says → IsThere f F
-    → ((v : Value) → Holds f F F.top.0 v → LeavesSomeBy (PathLists limit text steps v) old new result)
-    → LeavesSomeBy (ListsAll limit Says f text) old new result
-lists_all limit Says f text steps F old new result are (said, octets, says) (v, frame, holds, held) left =
-    some_as (PathLists limit text steps v) (ListsAll limit Says f text) old new result
+    → ((v : Value) → Holds f F F.top.0 v → LeavesSomeBy (PathLists style limit text steps v) old new result)
+    → LeavesSomeBy (ListsAll style limit Says f text) old new result
+lists_all style limit Says f text steps F old new result are (said, octets, says) (v, frame, holds, held) left =
+    some_as (PathLists style limit text steps v) (ListsAll style limit Says f text) old new result
     (λ a h. inr (steps ∷ [], gives said octets, are, says, (v, holds, (steps, refl, h)))) (left v held)

@@ -13,14 +13,15 @@ use Rattle.bplint_lines.specs.declared.fault.RunFault.{RunFault}
 use Rattle.bplint_lines.specs.declared.fault.RunFault.TheVariants as faults
 use Rattle.bplint_lines.specs.declared.fault.Said.{Said}
 use Rattle.bplint_lines.specs.declared.fault.Said.TheVariants.{All, SomeMissing}
+use Rattle.bplint_lines.specs.declared.texts.Style.{Style}
 use Rattle.bplint_lines.specs.Answers.{Answer, gives}
 use Rattle.bplint_lines.specs.OutputLines.{face_line, missing_line}
 use Rattle.bplint_engine.specs.PathTexts.{ForPaths}
 
 -- the line of the value under a path, or of a path that leads nowhere
-abbrev pub found_line : Result Value (ℕ × Why) → List ℕ
-found_line (Ok w) = face_line (face w) ++ codes "\n"
-found_line (Err (step, why)) = missing_line step why ++ codes "\n"
+abbrev pub found_line : Style → Result Value (ℕ × Why) → List ℕ
+found_line style (Ok w) = face_line style (face w) ++ codes "\n"
+found_line style (Err (step, why)) = missing_line step why ++ codes "\n"
 
 -- whether some path leads nowhere
 abbrev pub said_of : List (Result Value (ℕ × Why)) → Said
@@ -33,10 +34,10 @@ LinesSay lines Says f texts = ForPaths Says f texts (λ paths v answer.
 
 -- ---- replies
 -- the line of a reply to a path
-abbrev pub reply_line : Reply → List ℕ
-reply_line (Face face) = face_line face ++ codes "\n"
-reply_line (Missing step why) = missing_line step why ++ codes "\n"
-reply_line _ = []
+abbrev pub reply_line : Style → Reply → List ℕ
+reply_line style (Face face) = face_line style face ++ codes "\n"
+reply_line style (Missing step why) = missing_line step why ++ codes "\n"
+reply_line style _ = []
 
 -- true if the reply says that the path leads nowhere
 abbrev pub is_missing : Reply → Bool

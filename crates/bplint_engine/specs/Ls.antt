@@ -12,6 +12,7 @@ use Rattle.bplist_cursor.specs.Members.{entries, members, member_of}
 use Rattle.bplint_engine.specs.declared.members.Members.{Members}
 use Rattle.bplint_engine.specs.declared.members.Members.TheVariants.{Array, Set, Dict}
 use Rattle.bplint_lines.specs.MemberNames.{bracketed, index_name, key_name}
+use Rattle.bplint_lines.specs.declared.texts.Style.{Style}
 use Rattle.bplint_engine.specs.Get.{found_line}
 
 -- the value is a leaf
@@ -33,8 +34,8 @@ IsHeadFor checked head w =
     × ((c : Content) → Spells checked.source.octets checked.frame n c → c ≡ content_at checked.source.octets checked.frame head)
 
 -- a value's line: name, tab, line of `get`
-abbrev pub named_line : List ℕ → Value → List ℕ
-named_line name w = name ++ codes "\t" ++ found_line (Ok w)
+abbrev pub named_line : Style → List ℕ → Value → List ℕ
+named_line style name w = name ++ codes "\t" ++ found_line style (Ok w)
 
 -- the name of member i of an array or set
 abbrev pub item_name : Members → List ℕ → ℕ → List ℕ
@@ -42,31 +43,31 @@ item_name Array path i = index_name path i
 item_name _ path i = bracketed i
 
 -- the line of a member, or no bytes if there is no member
-abbrev pub line_of_member : List ℕ → Option Value → List ℕ
-line_of_member name None = []
-line_of_member name (Some w) = named_line name w
+abbrev pub line_of_member : Style → List ℕ → Option Value → List ℕ
+line_of_member style name None = []
+line_of_member style name (Some w) = named_line style name w
 
 -- the line of a key's value, or no bytes if there is none
-abbrev pub line_of_pair : List ℕ → ℕ → Option Value → Option Value → List ℕ
-line_of_pair path i (Some (leaf (text units))) member = line_of_member (key_name path i units) member
-line_of_pair path i _ member = []
+abbrev pub line_of_pair : Style → List ℕ → ℕ → Option Value → Option Value → List ℕ
+line_of_pair style path i (Some (leaf (text units))) member = line_of_member style (key_name style path i units) member
+line_of_pair style path i _ member = []
 
 -- the line of member or pair i; a leaf has no members
-abbrev pub member_line : List ℕ → Value → ℕ → List ℕ
-member_line path (leaf l) i = []
-member_line path (array vs) i = line_of_member (index_name path i) (member_of (array vs) i)
-member_line path (set vs) i = line_of_member (bracketed i) (member_of (set vs) i)
-member_line path (dict ps) i = line_of_pair path i (member_of (dict ps) (2 * i)) (member_of (dict ps) (2 * i + 1))
+abbrev pub member_line : Style → List ℕ → Value → ℕ → List ℕ
+member_line style path (leaf l) i = []
+member_line style path (array vs) i = line_of_member style (index_name path i) (member_of (array vs) i)
+member_line style path (set vs) i = line_of_member style (bracketed i) (member_of (set vs) i)
+member_line style path (dict ps) i = line_of_pair style path i (member_of (dict ps) (2 * i)) (member_of (dict ps) (2 * i + 1))
 
 -- the lines of the first n members
-abbrev pub first_lines : List ℕ → Value → ℕ → List ℕ
-first_lines path w zero = []
-first_lines path w (suc n) = first_lines path w n ++ member_line path w n
+abbrev pub first_lines : Style → List ℕ → Value → ℕ → List ℕ
+first_lines style path w zero = []
+first_lines style path w (suc n) = first_lines style path w n ++ member_line style path w n
 
 -- the lines of the members of the value, or of the leaf, or of a path that leads nowhere
-abbrev pub listed : List ℕ → Result Value (ℕ × Why) → List ℕ
-listed path (Ok (leaf l)) = named_line path (leaf l)
-listed path (Ok (array vs)) = flat_map (λ e. named_line (index_name path e.0) e.1) (enumerate_from 0 (members vs))
-listed path (Ok (set vs)) = flat_map (λ e. named_line (bracketed e.0) e.1) (enumerate_from 0 (members vs))
-listed path (Ok (dict ps)) = flat_map (λ e. named_line (key_name path e.0 e.1.0) e.1.1) (enumerate_from 0 (entries ps))
-listed path (Err missing) = found_line (Err missing)
+abbrev pub listed : Style → List ℕ → Result Value (ℕ × Why) → List ℕ
+listed style path (Ok (leaf l)) = named_line style path (leaf l)
+listed style path (Ok (array vs)) = flat_map (λ e. named_line style (index_name path e.0) e.1) (enumerate_from 0 (members vs))
+listed style path (Ok (set vs)) = flat_map (λ e. named_line style (bracketed e.0) e.1) (enumerate_from 0 (members vs))
+listed style path (Ok (dict ps)) = flat_map (λ e. named_line style (key_name style path e.0 e.1.0) e.1.1) (enumerate_from 0 (entries ps))
+listed style path (Err missing) = found_line style (Err missing)

@@ -11,6 +11,7 @@ use Rattle.bplist_ascii.specs.Printed.{HasText}
 use Rattle.bplint_lines.specs.declared.fault.Said.TheVariants.{All, SomeMissing}
 use Rattle.bplint_lines.specs.declared.fault.RunFault.TheVariants as faults
 use Rattle.bplint_lines.specs.Answers.{Answer, gives, refuses}
+use Rattle.bplint_lines.specs.declared.texts.Style.TheVariants.{OldStyle}
 use Rattle.bplint_engine.specs.Get.{found_line}
 use Rattle.bplint_engine.specs.PathTexts.{ForPaths}
 
@@ -25,7 +26,7 @@ NodeSays f F limit n w (refuses _) = ⊥
 abbrev pub PathSays : List ℕ → Frame → ℕ → List (List ℕ) → Value → Answer → Type 0
 PathSays f F limit steps v answer = MatchResult (look 0 v steps)
     (λ w. (n : ℕ) × LeadTo f F F.top.0 steps n × NodeSays f F limit n w answer)
-    (λ missing. answer ≡ gives SomeMissing (found_line (Err missing)))
+    (λ missing. answer ≡ gives SomeMissing (found_line OldStyle (Err missing)))
 
 -- the answer of `print` for one path text, if Says accepts the file
 abbrev pub PrintSays : ℕ → (Answer → Type 0) → List ℕ → List (List ℕ) → Answer → Type 0

@@ -23,6 +23,7 @@ use Rattle.bplint_lines.specs.declared.raw_fault.RawFault.TheVariants.{Run, NoRa
 use Rattle.bplint_lines.specs.declared.fault.Said.{Said}
 use Rattle.bplint_lines.specs.declared.fault.Said.TheVariants.{All, SomeMissing}
 use Rattle.bplint_lines.specs.Answers.{Answer, gives, refuses, LeavesSomeBy}
+use Rattle.bplint_lines.specs.declared.texts.Style.TheVariants.{OldStyle}
 use Rattle.bplint_engine.specs.declared.raw_bytes.Raw.{Raw}
 use Rattle.bplint_engine.specs.declared.raw_bytes.Raw.TheVariants.{Data, Text, Word}
 use Rattle.bplint_engine.specs.Get.{found_line}
@@ -49,7 +50,7 @@ NodeShowsRaw w (refuses _) = ⊥
 -- the answer for the value under the path, or that the path leads nowhere
 abbrev pub PathShowsRaw : List (List ℕ) → Value → Answer → Type 0
 PathShowsRaw steps v answer = MatchResult (look 0 v steps) (λ w. NodeShowsRaw w answer)
-    (λ missing. answer ≡ gives SomeMissing (found_line (Err missing)))
+    (λ missing. answer ≡ gives SomeMissing (found_line OldStyle (Err missing)))
 
 -- the answer for one path text, if Says accepts the file
 abbrev pub ShowsRaw : (Answer → Type 0) → List ℕ → List ℕ → Answer → Type 0

@@ -4,6 +4,7 @@ use Rattle.bplint_engine.specs.declared.run.Verb.{Verb}
 use Rattle.bplint_engine.specs.declared.run.Verb.TheVariants.{Lint, Check, Get, Certify, Print}
 use Rattle.bplint_lines.specs.declared.fault.RunFault.TheVariants.{Hex}
 use Rattle.bplint_lines.specs.Answers.{Answer, refuses}
+use Rattle.bplint_lines.specs.declared.texts.Style.TheVariants.{OldStyle}
 use Rattle.bplint_engine.specs.Certify.{CertifySays}
 use Rattle.bplint_engine.specs.Check.{CheckSays}
 use Rattle.bplint_engine.specs.Commands.{Asked}
@@ -18,7 +19,7 @@ Says command f cert answer = elim command.verb [
   | Lint ↦ LintSays f answer
   | Check ↦ CheckSays f cert answer
   | Certify ↦ CertifySays command.sorted command.hex f answer
-  | Get ↦ LinesSay found_line (CheckSays f cert) f command.paths answer
+  | Get ↦ LinesSay (found_line OldStyle) (CheckSays f cert) f command.paths answer
   | Print ↦ PrintSays command.limit (CheckSays f cert) f command.paths answer
 ]
 

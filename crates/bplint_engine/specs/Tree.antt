@@ -9,39 +9,40 @@ use Rattle.bplint_lines.specs.declared.fault.RunFault.TheVariants.{TooLong}
 use Rattle.bplint_lines.specs.declared.fault.Said.TheVariants.{All, SomeMissing}
 use Rattle.bplint_lines.specs.Answers.{Answer, gives, refuses}
 use Rattle.bplint_lines.specs.MemberNames.{bracketed, index_name, key_name}
+use Rattle.bplint_lines.specs.declared.texts.Style.{Style}
 use Rattle.bplint_engine.specs.Get.{found_line}
 use Rattle.bplint_engine.specs.Ls.{named_line}
 use Rattle.bplint_engine.specs.PathTexts.{ForPaths}
 
 -- the members of a value, each with the name that `ls` gives it; a leaf has none
-abbrev pub named_members : List ℕ → Value → List (List ℕ × Value)
-named_members name (leaf l) = []
-named_members name (array vs) = map (λ e. (index_name name e.0, e.1)) (enumerate_from 0 (members vs))
-named_members name (set vs) = map (λ e. (bracketed e.0, e.1)) (enumerate_from 0 (members vs))
-named_members name (dict ps) = map (λ e. (key_name name e.0 e.1.0, e.1.1)) (enumerate_from 0 (entries ps))
+abbrev pub named_members : Style → List ℕ → Value → List (List ℕ × Value)
+named_members style name (leaf l) = []
+named_members style name (array vs) = map (λ e. (index_name name e.0, e.1)) (enumerate_from 0 (members vs))
+named_members style name (set vs) = map (λ e. (bracketed e.0, e.1)) (enumerate_from 0 (members vs))
+named_members style name (dict ps) = map (λ e. (key_name style name e.0 e.1.0, e.1.1)) (enumerate_from 0 (entries ps))
 
 abbrev mutual
   -- the lines of a value with this name: its own, and then those of its members in order
-  pub tree_lines : List ℕ → Value → List (List ℕ)
-  tree_lines name (leaf l) = named_line name (leaf l) ∷ []
-  tree_lines name (array vs) = named_line name (array vs) ∷ array_lines name 0 vs
-  tree_lines name (set vs) = named_line name (set vs) ∷ set_lines 0 vs
-  tree_lines name (dict ps) = named_line name (dict ps) ∷ dict_lines name 0 ps
+  pub tree_lines : Style → List ℕ → Value → List (List ℕ)
+  tree_lines style name (leaf l) = named_line style name (leaf l) ∷ []
+  tree_lines style name (array vs) = named_line style name (array vs) ∷ array_lines style name 0 vs
+  tree_lines style name (set vs) = named_line style name (set vs) ∷ set_lines style 0 vs
+  tree_lines style name (dict ps) = named_line style name (dict ps) ∷ dict_lines style name 0 ps
 
   -- the lines of an array's members, numbered from i on
-  pub array_lines : List ℕ → ℕ → Values → List (List ℕ)
-  array_lines name i no_values = []
-  array_lines name i (value v vs) = tree_lines (index_name name i) v ++ array_lines name (i + 1) vs
+  pub array_lines : Style → List ℕ → ℕ → Values → List (List ℕ)
+  array_lines style name i no_values = []
+  array_lines style name i (value v vs) = tree_lines style (index_name name i) v ++ array_lines style name (i + 1) vs
 
   -- the lines of a set's members
-  pub set_lines : ℕ → Values → List (List ℕ)
-  set_lines i no_values = []
-  set_lines i (value v vs) = tree_lines (bracketed i) v ++ set_lines (i + 1) vs
+  pub set_lines : Style → ℕ → Values → List (List ℕ)
+  set_lines style i no_values = []
+  set_lines style i (value v vs) = tree_lines style (bracketed i) v ++ set_lines style (i + 1) vs
 
   -- the lines of the values of a dictionary's keys
-  pub dict_lines : List ℕ → ℕ → Pairs → List (List ℕ)
-  dict_lines name i no_pairs = []
-  dict_lines name i (pair units v ps) = tree_lines (key_name name i units) v ++ dict_lines name (i + 1) ps
+  pub dict_lines : Style → List ℕ → ℕ → Pairs → List (List ℕ)
+  dict_lines style name i no_pairs = []
+  dict_lines style name i (pair units v ps) = tree_lines style (key_name style name i units) v ++ dict_lines style name (i + 1) ps
 
 -- the lines, one after the other
 abbrev pub joined_lines : List (List ℕ) → List ℕ
@@ -52,17 +53,17 @@ abbrev pub HasNodes : Value → ℕ → Type 0
 HasNodes w limit = (nodes w ≤ limit) × (nodes w < 18446744073709551615)
 
 -- the answer is the lines of the value, or that it has too many nodes
-abbrev pub NodeLists : ℕ → List ℕ → Value → Answer → Type 0
-NodeLists limit name w (gives said bytes) = HasNodes w limit × (said ≡ All) × (bytes ≡ joined_lines (tree_lines name w))
-NodeLists limit name w (refuses TooLong) = ¬ HasNodes w limit
-NodeLists limit name w (refuses _) = ⊥
+abbrev pub NodeLists : Style → ℕ → List ℕ → Value → Answer → Type 0
+NodeLists style limit name w (gives said bytes) = HasNodes w limit × (said ≡ All) × (bytes ≡ joined_lines (tree_lines style name w))
+NodeLists style limit name w (refuses TooLong) = ¬ HasNodes w limit
+NodeLists style limit name w (refuses _) = ⊥
 
 -- the answer is the lines of the value under the path with this text, or that the path leads nowhere
-abbrev pub PathLists : ℕ → List ℕ → List (List ℕ) → Value → Answer → Type 0
-PathLists limit text steps v answer = MatchResult (look 0 v steps) (λ w. NodeLists limit text w answer)
-    (λ missing. answer ≡ gives SomeMissing (found_line (Err missing)))
+abbrev pub PathLists : Style → ℕ → List ℕ → List (List ℕ) → Value → Answer → Type 0
+PathLists style limit text steps v answer = MatchResult (look 0 v steps) (λ w. NodeLists style limit text w answer)
+    (λ missing. answer ≡ gives SomeMissing (found_line style (Err missing)))
 
 -- the answer of `ls --recursive` for one path text, if Says accepts the file
-abbrev pub ListsAll : ℕ → (Answer → Type 0) → List ℕ → List ℕ → Answer → Type 0
-ListsAll limit Says f text = ForPaths Says f (text ∷ [])
-    (λ paths v answer. (steps : List (List ℕ)) × (paths ≡ steps ∷ []) × PathLists limit text steps v answer)
+abbrev pub ListsAll : Style → ℕ → (Answer → Type 0) → List ℕ → List ℕ → Answer → Type 0
+ListsAll style limit Says f text = ForPaths Says f (text ∷ [])
+    (λ paths v answer. (steps : List (List ℕ)) × (paths ≡ steps ∷ []) × PathLists style limit text steps v answer)

@@ -7,6 +7,7 @@ use Rattle.bplist_objects.specs.Value.{Value}
 use Rattle.bplist_cert.specs.CheckedFile.{CheckedFile}
 use Rattle.bplist_cursor.specs.Found.{IsHeld}
 use Rattle.bplist_octets.specs.Sending.{Takes}
+use Rattle.bplint_lines.specs.declared.texts.Style.{Style}
 use Rattle.bplint_engine.specs.declared.members.Members.TheVariants.{Dict}
 use Rattle.bplint_engine.specs.declared.tree_walk.Listing.{Listing}
 use Rattle.bplint_engine.specs.declared.tree_walk.Named.{Named}
@@ -33,11 +34,11 @@ pub record IsKept (old new : Listing) : Type 0 where
   pub room : new.room ≡ old.room
   pub sink : new.sink ≡ old.sink
 
-module _ (checked : CheckedFile) where
+module _ (style : Style) (checked : CheckedFile) where
   -- `left` are the lines that a container with this name still has to list
   abbrev pub OpenedLeft : List ℕ → Opened → List (List ℕ) → Type 0
   OpenedLeft name o left = (w : Value) × IsHeadFor checked o.head w × IsContainer o.members o.count w
-      × (left ≡ flat_map (λ m. tree_lines m.0 m.1) (drop o.next (named_members name w)))
+      × (left ≡ flat_map (λ m. tree_lines style m.0 m.1) (drop o.next (named_members style name w)))
 
   -- `left` are the lines that all containers of the stack still have to list, the innermost first
   abbrev pub StackLeft : List ℕ → List Opened → List (List ℕ) → Type 0
@@ -47,7 +48,7 @@ module _ (checked : CheckedFile) where
 
   -- the node holds member i of the value with this name, and has the name of that member
   abbrev pub IsMemberAt : Value → List ℕ → ℕ → List ℕ → Named → Type 0
-  IsMemberAt w name i names at = (m : Value) × (slice_get (named_members name w) i ≡ Some (name_in names at.name, m))
+  IsMemberAt w name i names at = (m : Value) × (slice_get (named_members style name w) i ≡ Some (name_in names at.name, m))
       × IsHeld checked at.node.object.0 m
 
   -- a first part of these lines was put into the sink, and the stack still has to list the rest

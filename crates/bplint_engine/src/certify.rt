@@ -9,7 +9,7 @@ ghost use Rattle.bplint_engine.specs.Prelude.{CheckSays, IsDecoded, LintSays, Is
 use crate::output::Output;
 use bplint_lines::{RunFault, Said};
 use bplist_cert::{CertRefusal, Certificate, Checked, check};
-use bplist_lint::{UpgradeFault, lint, upgrade};
+use bplist_lint::{lint, upgrade};
 use bplist_objects::{Frame, ObjectFault, trailer_of};
 use bplist_octets::Source;
 use std::alloc::{AllocError, Global};
@@ -40,23 +40,18 @@ fn least_output<S: Source>(alloc: Global, src: &mut S, hex: bool) -> Result<Outp
     Ok(output_of(alloc, &found.certificate, hex)?)
 }
 
-/// Returns the bytes of the certificate of the least heights with key lists, and the source.
+/// Returns the bytes of the certificate of the least heights with key lists, and the source. Lists are made from what the
+/// linter vouches for, so its certificate is not checked.
 fn sorted_output<S: Source>(alloc: Global, src: S, hex: bool) -> (Result<Output, RunFault>, S)
     ensures source { OnlyReads (read_failed result.0) (S.means src) (S.means result.1) }
     ensures exact { IsTrue (S.means src).honest → Answers (CertifySays true hex (S.means src).octets) result.0 }
 {
-    let mut src = src;
-    let found = match lint(alloc, &mut src) {
-        Ok(found) => found,
-        Err(refusal) => return (Err(RunFault::from(refusal)), src),
-    };
-    match check(alloc, src, found.certificate) {
+    match checked_by_lint(alloc, src) {
         Ok(mut checked) => {
             let made = output_with_keys(alloc, &mut checked, hex);
             (made, checked.into_parts().0)
         }
-        // The linter accepted the file and made this certificate. A broken rule now means that the file changed.
-        Err((refusal, src, _)) => (Err(RunFault::from(UpgradeFault::from(refusal))), src),
+        Err((fault, src)) => (Err(fault), src),
     }
 }
 
@@ -126,7 +121,7 @@ pub(crate) fn check_decoded<S: Source>(
 
 /// Lints the file. Returns the file with the certificate of its least heights if it holds a value, or else the fault
 /// and the source. The linter's certificate is proved valid, so no check is needed.
-pub(crate) fn checked_by_lint<S: Source>(alloc: Global, src: S) -> Result<Checked<S>, (RunFault, S)>
+pub fn checked_by_lint<S: Source>(alloc: Global, src: S) -> Result<Checked<S>, (RunFault, S)>
     ensures handed { MatchResult result
         (λ checked. checked.source ≡ S.means src)
         (λ refused. OnlyReads (is_read refused.0) (S.means src) (S.means refused.1)) }

@@ -10,7 +10,7 @@ ghost use Rattle.bplint_engine.specs.Prelude.{reply_line, IsPathOf, IsWrongAmong
 ghost use Rattle.bplint_engine.specs.Get as spec;
 
 use crate::output::Output;
-use bplint_lines::{RunFault, Said, add_face, add_missing};
+use bplint_lines::{RunFault, Said, Style, add_face, add_missing};
 use bplist_cert::{CertRefusal, Certificate, Checked};
 use bplist_cursor::{AnswerFault, Path, Query, Reply, answer_all, answer_certified};
 use bplist_octets::Source;
@@ -25,7 +25,7 @@ pub(crate) fn get_output<S: Source>(
 ) -> (Result<Output, RunFault>, S)
     ensures source { OnlyReads (read_failed result.0) (S.means src) (S.means result.1) }
     ensures exact { IsTrue (S.means src).honest → (cert : List ℕ) → IsDecoded cert decoded
-        → ∥ Answers (LinesSay found_line (CheckSays (S.means src).octets cert) (S.means src).octets
+        → ∥ Answers (LinesSay (found_line Style.OldStyle) (CheckSays (S.means src).octets cert) (S.means src).octets
         (map (λ text. string_bytes text) texts.now)) result.0 ∥₁ }
 {
     let queries = match queries_of(alloc, texts) {
@@ -45,16 +45,17 @@ fn lines_told(alloc: Global, told: Result<Vec<Reply>, AnswerFault>) -> Result<Ou
     ensures reads { read_failed result ≡ answer_read told }
     ensures exact { MatchResult told
         (λ replies. Gives (λ output. (output.said ≡ spec.replies_said replies.items)
-        × (output.bytes.items ≡ flat_map reply_line replies.items)) result)
+        × (output.bytes.items ≡ flat_map (reply_line Style.OldStyle) replies.items)) result)
         (λ fault. result ≡ Err (answer_fault fault)) }
 {
     let replies = told?;
-    Ok(lines_of(alloc, &replies)?)
+    Ok(lines_of(alloc, Style::OldStyle, &replies)?)
 }
 
-/// Answers the queries. Returns their lines.
+/// Answers the queries. Returns their lines, with texts in this style.
 pub(crate) fn lines_for<S: Source>(
     alloc: Global,
+    style: Style,
     checked: &mut Checked<S>,
     queries: &[Query],
 ) -> Result<Output, RunFault>
@@ -62,20 +63,20 @@ pub(crate) fn lines_for<S: Source>(
     ensures exact { IsTrue checked.old.source.honest → Gives (λ output. (v : Value)
         → Holds checked.old.source.octets checked.old.frame checked.old.frame.top.0 v
         → (output.said ≡ spec.replies_said (map (reply v) queries.now))
-        × (output.bytes.items ≡ flat_map reply_line (map (reply v) queries.now))) result }
+        × (output.bytes.items ≡ flat_map (reply_line style) (map (reply v) queries.now))) result }
 {
     let replies = answer_all(alloc, checked, queries)?;
-    Ok(lines_of(alloc, &replies)?)
+    Ok(lines_of(alloc, style, &replies)?)
 }
 
 /// Returns the lines of the replies, and whether one of them says that a path leads nowhere.
-fn lines_of(alloc: Global, replies: &[Reply]) -> Result<Output, AllocError>
+fn lines_of(alloc: Global, style: Style, replies: &[Reply]) -> Result<Output, AllocError>
     ensures { IfOk result (λ output. (output.said ≡ spec.replies_said replies.now)
-        × (output.bytes.items ≡ flat_map reply_line replies.now)) }
+        × (output.bytes.items ≡ flat_map (reply_line style) replies.now)) }
 {
     let mut bytes = Vec::new(alloc);
     for reply in replies {
-        add_reply(alloc, reply, &mut bytes)?;
+        add_reply(alloc, style, reply, &mut bytes)?;
     }
     Ok(Output {
         said: said_of(replies),
@@ -107,11 +108,16 @@ fn is_missing(reply: &Reply) -> bool
 
 /// Adds the line of a reply, with its line feed. Every query asks for a face, so the other replies do not occur; they
 /// add nothing.
-fn add_reply(alloc: Global, reply: &Reply, lines: &mut Vec<u8>) -> Result<(), AllocError>
-    ensures { OnOk result (lines.new.items ≡ lines.old.items ++ reply_line reply.now) }
+fn add_reply(
+    alloc: Global,
+    style: Style,
+    reply: &Reply,
+    lines: &mut Vec<u8>,
+) -> Result<(), AllocError>
+    ensures { OnOk result (lines.new.items ≡ lines.old.items ++ reply_line style reply.now) }
 {
     match reply {
-        Reply::Face(face) => add_face(alloc, face, lines)?,
+        Reply::Face(face) => add_face(alloc, style, face, lines)?,
         Reply::Missing { step, why } => add_missing(alloc, *step, *why, lines)?,
         _ => return Ok(()),
     }

@@ -2,6 +2,7 @@
 
 ghost use Rattle.std.specs.Prelude.{◌≡◌, ◌∷◌, ℕ, List, Bool, Ok};
 ghost use Rattle.std.specs.List.{flat_map};
+ghost use Rattle.bplint_lines.specs.declared.texts.Style.{Style};
 ghost use Rattle.bplint_engine.specs.Ls.{named_line};
 ghost use Rattle.bplint_engine.specs.Prelude.{Answer, Asked, IsLeaf, Says, SaysOver, Value, listed};
 ghost use Rattle.bplint_engine.specs.Tree.{joined_lines, named_members, tree_lines};
@@ -21,9 +22,9 @@ pub fn one_answer_over()
 /// line of `ls` follows, together with the lines of everything inside that member. For a leaf both listings are the
 /// same.
 pub fn tree_of_ls()
-    ensures tree { (name : List ℕ) (w : Value) → tree_lines name w
-        ≡ named_line name w ∷ flat_map (λ m. tree_lines m.0 m.1) (named_members name w) }
-    ensures ls { (name : List ℕ) (w : Value) → (IsLeaf w → ⊥)
-        → listed name (Ok w) ≡ flat_map (λ m. named_line m.0 m.1) (named_members name w) }
-    ensures leaf { (name : List ℕ) (w : Value) → IsLeaf w → listed name (Ok w) ≡ joined_lines (tree_lines name w) }
+    ensures tree { (style : Style) (name : List ℕ) (w : Value) → tree_lines style name w
+        ≡ named_line style name w ∷ flat_map (λ m. tree_lines style m.0 m.1) (named_members style name w) }
+    ensures ls { (style : Style) (name : List ℕ) (w : Value) → (IsLeaf w → ⊥)
+        → listed style name (Ok w) ≡ flat_map (λ m. named_line style m.0 m.1) (named_members style name w) }
+    ensures leaf { (style : Style) (name : List ℕ) (w : Value) → IsLeaf w → listed style name (Ok w) ≡ joined_lines (tree_lines style name w) }
 {}

@@ -16,7 +16,7 @@
 //! | the same with a certificate that is already decoded | [`run_certified`] |
 //! | the same over bytes or hexadecimal text | [`run_over`], [`undo_hex`] |
 //! | show values of a file that has no certificate | [`show_on`], [`show_text_on`], [`show_raw_on`] |
-//! | list them | [`list_on`], [`list_all_on`] |
+//! | list them | [`list_on`], [`list_all_on`] with a [`Branch`] |
 //!
 //! A call returns the `Said` or the `RunFault` of `bplint_lines`. The clause `exact` of each call says which bytes it
 //! wrote; specs/Said.antt defines what each command says. The laws `one_answer` and `one_answer_over` say that a
@@ -54,9 +54,10 @@ mod show;
 mod tree;
 mod tree_walk;
 
+pub use certify::checked_by_lint;
 pub use laws::{one_answer, one_answer_over, tree_of_ls};
 pub use ls::list_on;
 pub use raw::show_raw_on;
 pub use run::{Command, Verb, run_certified, run_on, run_over, undo_hex};
 pub use show::{show_on, show_text_on};
-pub use tree::list_all_on;
+pub use tree::{Branch, list_all_on};

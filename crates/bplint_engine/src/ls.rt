@@ -13,7 +13,9 @@ use crate::get::path_in;
 use crate::members::{Members, member_face, member_text, members_of};
 use crate::output::{Output, send_made};
 use crate::print::missing_output;
-use bplint_lines::{RunFault, Said, add_face, add_index, add_index_name, add_key_name};
+use bplint_lines::{
+    Pair, RunFault, Said, Style, add_face, add_index, add_index_name, add_key_name,
+};
 use bplist_cert::Checked;
 use bplist_cursor::{CursorFault, Face, Found, Node, Path, face, locate, node_head};
 use bplist_objects::Head;
@@ -32,14 +34,17 @@ pub(crate) struct Container<'a> {
     pub count: u64,
     /// The path text of the container.
     pub path: &'a str,
+    /// How lines write texts.
+    pub style: Style,
 }
 
 /// Lists the value under a path: writes one line for each member of an array or set, one for each pair of a dictionary,
 /// or one for a leaf itself. Returns the source too.
 ///
-/// A line has the member's own path text, a tab, and the line of `Get` for the member. If the member has no path text
-/// that can be shown, its index in brackets, counted from 0, replaces the path text. That is so for each member of a
-/// set, and for a key whose path text contains
+/// A line has the member's own path text, a tab, and the line of `Get` for the member, with texts in this style. If the
+/// member has no path text that can be shown, its index in brackets, counted from 0, replaces the path text. In UTF-8
+/// style the key follows the index, as a text. That is so for each member of a set, which has no key, and for a key whose
+/// path text contains
 ///
 /// - a control character, including U+0080 to U+009F,
 /// - a line or paragraph separator (U+2028, U+2029),
@@ -54,21 +59,27 @@ pub fn list_on<S: Source, W: Write>(
     alloc: Global,
     src: S,
     path: &str,
+    style: Style,
     out: &mut W,
 ) -> (Result<Said, RunFault>, S)
     ensures source { OnlyReads (read_failed result.0) (S.means src) (S.means result.1) }
     ensures exact { IsTrue (S.means src).honest
-        → Leaves (LinesSay (listed path.now) (LintSays (S.means src).octets) (S.means src).octets (path.now ∷ [])) 0
+        → Leaves (LinesSay (listed style path.now) (LintSays (S.means src).octets) (S.means src).octets (path.now ∷ [])) 0
         (W.contents out.old) (W.contents out.new) result.0 }
 {
-    send_made(list_output(alloc, src, path), out)
+    send_made(list_output(alloc, src, path, style), out)
 }
 
 /// Returns the lines of `ls`, and the source.
-fn list_output<S: Source>(alloc: Global, src: S, text: &str) -> (Result<Output, RunFault>, S)
+fn list_output<S: Source>(
+    alloc: Global,
+    src: S,
+    text: &str,
+    style: Style,
+) -> (Result<Output, RunFault>, S)
     ensures source { OnlyReads (read_failed result.0) (S.means src) (S.means result.1) }
     ensures exact { IsTrue (S.means src).honest
-        → Answers (LinesSay (listed text.now) (LintSays (S.means src).octets) (S.means src).octets (text.now ∷ [])) result.0 }
+        → Answers (LinesSay (listed style text.now) (LintSays (S.means src).octets) (S.means src).octets (text.now ∷ [])) result.0 }
 {
     let path = match path_in(alloc, text) {
         Ok(path) => path,
@@ -76,7 +87,7 @@ fn list_output<S: Source>(alloc: Global, src: S, text: &str) -> (Result<Output, 
     };
     match checked_by_lint(alloc, src) {
         Ok(mut checked) => {
-            let made = list_path(alloc, &mut checked, &path, text);
+            let made = list_path(alloc, &mut checked, &path, text, style);
             (made, checked.into_parts().0)
         }
         Err((fault, src)) => (Err(fault), src),
@@ -89,16 +100,17 @@ fn list_path<S: Source>(
     checked: &mut Checked<S>,
     path: &Path,
     text: &str,
+    style: Style,
 ) -> Result<Output, RunFault>
     ensures reads { OnlyReadsFile (read_failed result) checked.old checked.new }
     ensures exact { IsTrue checked.old.source.honest → (v : Value)
         → Holds checked.old.source.octets checked.old.frame checked.old.frame.top.0 v
         → Gives (λ output. (output.said ≡ said_of (look 0 v path.now ∷ []))
-        × (output.bytes.items ≡ listed text.now (look 0 v path.now))) result }
+        × (output.bytes.items ≡ listed style text.now (look 0 v path.now))) result }
 {
     match locate(checked, path)? {
         Found::At(node) => {
-            let bytes = lines_at(alloc, checked, node, text)?;
+            let bytes = lines_at(alloc, checked, node, text, style)?;
             Ok(Output {
                 said: Said::All,
                 bytes,
@@ -114,16 +126,17 @@ fn lines_at<S: Source>(
     checked: &mut Checked<S>,
     node: Node,
     path: &str,
+    style: Style,
 ) -> Result<Vec<u8>, CursorFault>
     ensures reads { OnlyReadsFile (cursor_read result) checked.old checked.new }
     ensures exact { IsTrue checked.old.source.honest → IsVouchedBy checked.old.certificate.heights node.object.0 → (w : Value)
         → Holds checked.old.source.octets checked.old.frame node.object.0 w
-        → GivesCursor (λ lines. lines.items ≡ listed path.now (Ok w)) result }
+        → GivesCursor (λ lines. lines.items ≡ listed style path.now (Ok w)) result }
 {
     let length = checked.len();
     let shown = face(alloc, checked, node)?;
     let Some((members, count)) = members_of(&shown, length) else {
-        return Ok(line_of_leaf(alloc, path, &shown)?);
+        return Ok(line_of_leaf(alloc, style, path, &shown)?);
     };
     let head = node_head(checked, node)?;
     let container = Container {
@@ -131,17 +144,23 @@ fn lines_at<S: Source>(
         members,
         count,
         path,
+        style,
     };
     lines_of_members(alloc, checked, &container)
 }
 
 /// Returns the line of a leaf with this path text and this face.
-fn line_of_leaf(alloc: Global, path: &str, shown: &Face) -> Result<Vec<u8>, AllocError>
-    ensures { IfOk result (λ line. line.items ≡ path.now ++ codes "\t" ++ face_line shown.now ++ codes "\n") }
+fn line_of_leaf(
+    alloc: Global,
+    style: Style,
+    path: &str,
+    shown: &Face,
+) -> Result<Vec<u8>, AllocError>
+    ensures { IfOk result (λ line. line.items ≡ path.now ++ codes "\t" ++ face_line style shown.now ++ codes "\n") }
 {
     let mut line = Vec::new(alloc);
     line.extend_from_slice(path.as_bytes())?;
-    add_value(alloc, shown, &mut line)?;
+    add_value(alloc, style, shown, &mut line)?;
     Ok(line)
 }
 
@@ -156,7 +175,7 @@ fn lines_of_members<S: Source>(
     ensures reads { OnlyReadsFile (cursor_read result) checked.old checked.new }
     ensures exact { IsTrue checked.old.source.honest → (w : Value) → IsHeadFor checked.old container.now.head w
         → IsContainer container.now.members container.now.count w
-        → GivesCursor (λ lines. lines.items ≡ listed container.now.path.now (Ok w)) result }
+        → GivesCursor (λ lines. lines.items ≡ listed container.now.style container.now.path.now (Ok w)) result }
 {
     let mut lines = Vec::new(alloc);
     add_members(alloc, checked, container, &mut lines)?;
@@ -175,7 +194,7 @@ pub(crate) fn add_members<S: Source>(
     ensures reads { OnlyReadsFile (cursor_read result) checked.old checked.new }
     ensures exact { IsTrue checked.old.source.honest → (w : Value) → IsHeadFor checked.old container.now.head w
         → IsContainer container.now.members container.now.count w
-        → GivesCursor (λ _. lines.new.items ≡ lines.old.items ++ first_lines container.now.path.now w container.now.count) result }
+        → GivesCursor (λ _. lines.new.items ≡ lines.old.items ++ first_lines container.now.style container.now.path.now w container.now.count) result }
 {
     for i in 0..container.count {
         add_member(alloc, checked, container, i, lines)?;
@@ -197,7 +216,7 @@ fn add_member<S: Source>(
     ensures reads { OnlyReadsFile (cursor_read result) checked.old checked.new }
     ensures exact { IsTrue checked.old.source.honest → (w : Value) → IsHeadFor checked.old container.now.head w
         → IsContainer container.now.members container.now.count w
-        → GivesCursor (λ _. lines.new.items ≡ lines.old.items ++ member_line container.now.path.now w i) result }
+        → GivesCursor (λ _. lines.new.items ≡ lines.old.items ++ member_line container.now.style container.now.path.now w i) result }
 {
     match container.members {
         Members::Dict => add_pair(alloc, checked, container, i, lines),
@@ -219,11 +238,11 @@ fn add_item<S: Source>(
     ensures reads { OnlyReadsFile (cursor_read result) checked.old checked.new }
     ensures exact { IsTrue checked.old.source.honest → (w : Value) → IsHeadFor checked.old container.now.head w
         → IsContainer container.now.members container.now.count w
-        → GivesCursor (λ _. lines.new.items ≡ lines.old.items ++ member_line container.now.path.now w i) result }
+        → GivesCursor (λ _. lines.new.items ≡ lines.old.items ++ member_line container.now.style container.now.path.now w i) result }
 {
     let shown = member_face(alloc, checked, &container.head, i)?;
     add_item_name(alloc, container, i, lines)?;
-    Ok(add_value(alloc, &shown, lines)?)
+    Ok(add_value(alloc, container.style, &shown, lines)?)
 }
 
 /// Adds the name of member `i` of an array or set.
@@ -256,19 +275,28 @@ fn add_pair<S: Source>(
     ensures reads { OnlyReadsFile (cursor_read result) checked.old checked.new }
     ensures exact { IsTrue checked.old.source.honest → (w : Value) → IsHeadFor checked.old container.now.head w
         → IsContainer container.now.members container.now.count w
-        → GivesCursor (λ _. lines.new.items ≡ lines.old.items ++ member_line container.now.path.now w i) result }
+        → GivesCursor (λ _. lines.new.items ≡ lines.old.items ++ member_line container.now.style container.now.path.now w i) result }
 {
     let units = member_text(alloc, checked, &container.head, 2 * i)?;
     let shown = member_face(alloc, checked, &container.head, 2 * i + 1)?;
-    add_key_name(alloc, container.path, i, units.as_slice(), lines)?;
-    Ok(add_value(alloc, &shown, lines)?)
+    let pair = Pair {
+        number: i,
+        key: units.as_slice(),
+    };
+    add_key_name(alloc, container.style, container.path, &pair, lines)?;
+    Ok(add_value(alloc, container.style, &shown, lines)?)
 }
 
 /// Adds a tab, the line of `get` for this face, and a line feed.
-pub(crate) fn add_value(alloc: Global, shown: &Face, lines: &mut Vec<u8>) -> Result<(), AllocError>
-    ensures { OnOk result (lines.new.items ≡ lines.old.items ++ codes "\t" ++ face_line shown.now ++ codes "\n") }
+pub(crate) fn add_value(
+    alloc: Global,
+    style: Style,
+    shown: &Face,
+    lines: &mut Vec<u8>,
+) -> Result<(), AllocError>
+    ensures { OnOk result (lines.new.items ≡ lines.old.items ++ codes "\t" ++ face_line style shown.now ++ codes "\n") }
 {
     lines.push(b'\t')?;
-    add_face(alloc, shown, lines)?;
+    add_face(alloc, style, shown, lines)?;
     Ok(lines.push(b'\n')?)
 }

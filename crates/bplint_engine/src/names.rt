@@ -4,7 +4,7 @@ ghost use Rattle.std.specs.Prelude.{◌≡◌, ◌↔◌, IfOk, IsTrue, Some, le
 ghost use Rattle.bplint_lines.specs.MemberNames.{bracketed, index_name, key_name};
 ghost use Rattle.bplint_engine.specs.Names.{Extends, IsNameIn, name_in};
 
-use bplint_lines::{add_index, add_index_name, add_key_name};
+use bplint_lines::{Pair, Style, add_index, add_index_name, add_key_name};
 use std::alloc::{AllocError, Global};
 use std::marker::Model;
 
@@ -97,21 +97,20 @@ impl Names {
         })
     }
 
-    /// Appends the name of the value of a key with these units. It is pair `i` of the dictionary with this name. Drops
-    /// what followed that name before.
+    /// Appends the name of the value of a pair of the dictionary with this name. Drops what followed that name before.
     pub(crate) fn push_key(
         &mut self,
         alloc: Global,
+        style: Style,
         dict: Name,
-        i: u64,
-        units: &[u16],
+        pair: &Pair<'_>,
     ) -> Result<Name, AllocError>
         requires { IsNameIn self.old dict }
         ensures { IfOk result (λ name. Extends self.old self.new dict name
-            × (name_in self.new name ≡ key_name (name_in self.old dict) i units.now)) }
+            × (name_in self.new name ≡ key_name style (name_in self.old dict) pair.now.number pair.now.key.now)) }
     {
         self.text.truncate(dict.end);
-        add_key_name(alloc, "", i, units, &mut self.text)?;
+        add_key_name(alloc, style, "", pair, &mut self.text)?;
         if stands_alone(&self.text[dict.end..]) {
             return Ok(Name {
                 start: dict.end,
@@ -125,7 +124,7 @@ impl Names {
     }
 }
 
-/// Returns true if the added name is an index in brackets, which does not extend the name before it.
+/// Returns true if the added name begins with an index in brackets, and so does not extend the name before it.
 fn stands_alone(added: &[u8]) -> bool
     ensures { IsTrue result ↔ (slice_get added.now 0 ≡ Some 0x5B) }
 {

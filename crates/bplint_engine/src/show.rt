@@ -1,19 +1,26 @@
 //! The calls of `show`: values under paths of a file that has no certificate.
 
-ghost use Rattle.std.specs.Prelude.{◌∷◌, [], IsTrue, map, string_bytes};
+ghost use Rattle.std.specs.Prelude.{◌∷◌, ◌≡◌, [], IfErr, IsTrue, MatchResult, map, string_bytes};
 ghost use Rattle.bplint_engine.specs.Prelude.{OnlyReads, Leaves, read_failed, Answers, LinesSay, LintSays, PrintSays};
-ghost use Rattle.bplint_engine.specs.Prelude.{found_line};
+ghost use Rattle.bplint_engine.specs.Prelude.{found_line, IsLeastFor, IsRefusal, Lists, is_read};
+ghost use Rattle.bplint_lines.specs.Faults.{IsExcused};
 
 use crate::certify::checked_by_lint;
 use crate::get::{lines_for, path_in, queries_of};
 use crate::output::{Output, send_made};
 use crate::print::print_checked;
-use bplint_lines::{RunFault, Said};
+use bplint_lines::{RunFault, Said, Style};
+use bplist_cert::Checked;
+use bplist_lint::upgrade;
 use bplist_octets::Source;
 use std::alloc::Global;
 use std::io::Write;
 
-/// Writes what `Get` writes for these path texts, with the certificate of the least heights. Returns the source too.
+/// From so many paths on, the keys are sorted first. Then a path takes no time that grows with the number of keys.
+const MANY: usize = 16;
+
+/// Writes what `Get` writes for these path texts, with the certificate of the least heights, and with texts in this
+/// style. Returns the source too.
 ///
 /// These errors come before anything is written, in this order: `Path` for the first wrong path text, then `Fault` or
 /// `Circle` as `Lint` returns it. `Read`, `Memory`, `Write` and `Changed` mean the same as in [`crate::run_on`].
@@ -21,33 +28,74 @@ pub fn show_on<S: Source, W: Write>(
     alloc: Global,
     src: S,
     paths: &[String],
+    style: Style,
     out: &mut W,
 ) -> (Result<Said, RunFault>, S)
     ensures source { OnlyReads (read_failed result.0) (S.means src) (S.means result.1) }
     ensures exact { IsTrue (S.means src).honest
-        → Leaves (LinesSay found_line (LintSays (S.means src).octets) (S.means src).octets
+        → Leaves (LinesSay (found_line style) (LintSays (S.means src).octets) (S.means src).octets
         (map (λ text. string_bytes text) paths.now)) 0 (W.contents out.old) (W.contents out.new) result.0 }
 {
-    send_made(show_output(alloc, src, paths), out)
+    send_made(show_output(alloc, src, paths, style), out)
 }
 
 /// Returns the lines of `show`, one for each path text, and the source.
-fn show_output<S: Source>(alloc: Global, src: S, texts: &[String]) -> (Result<Output, RunFault>, S)
+fn show_output<S: Source>(
+    alloc: Global,
+    src: S,
+    texts: &[String],
+    style: Style,
+) -> (Result<Output, RunFault>, S)
     ensures source { OnlyReads (read_failed result.0) (S.means src) (S.means result.1) }
     ensures exact { IsTrue (S.means src).honest
-        → ∥ Answers (LinesSay found_line (LintSays (S.means src).octets) (S.means src).octets
+        → ∥ Answers (LinesSay (found_line style) (LintSays (S.means src).octets) (S.means src).octets
         (map (λ text. string_bytes text) texts.now)) result.0 ∥₁ }
 {
     let queries = match queries_of(alloc, texts) {
         Ok(queries) => queries,
         Err(fault) => return (Err(fault), src),
     };
-    match checked_by_lint(alloc, src) {
+    match checked_for(alloc, src, queries.len()) {
         Ok(mut checked) => {
-            let made = lines_for(alloc, &mut checked, &queries);
+            let made = lines_for(alloc, style, &mut checked, &queries);
             (made, checked.into_parts().0)
         }
         Err((fault, src)) => (Err(fault), src),
+    }
+}
+
+/// Lints the file. Returns it with a certificate that suits this number of paths: with key lists if there are many.
+fn checked_for<S: Source>(alloc: Global, src: S, count: usize) -> Result<Checked<S>, (RunFault, S)>
+    ensures handed { MatchResult result
+        (λ checked. checked.source ≡ S.means src)
+        (λ refused. OnlyReads (is_read refused.0) (S.means src) (S.means refused.1)) }
+    ensures exact { IsTrue (S.means src).honest → MatchResult result
+        (λ checked. (lists : Lists) × IsLeastFor (S.means src).octets checked.frame lists)
+        (λ refused. IsRefusal (LintSays (S.means src).octets) refused.0) }
+{
+    match checked_by_lint(alloc, src) {
+        Ok(checked) if count >= MANY => with_key_lists(alloc, checked),
+        other => other,
+    }
+}
+
+/// Returns a checked file with the key lists of its dictionaries, by which a key is found by halving.
+fn with_key_lists<S: Source>(
+    alloc: Global,
+    checked: Checked<S>,
+) -> Result<Checked<S>, (RunFault, S)>
+    ensures handed { MatchResult result
+        (λ listed. (listed.source ≡ checked.source) × (listed.frame ≡ checked.frame))
+        (λ refused. OnlyReads (is_read refused.0) checked.source (S.means refused.1)) }
+    ensures excused { IsTrue checked.source.honest → IfErr result (λ refused. IsExcused refused.0) }
+{
+    let mut checked = checked;
+    let frame = checked.frame();
+    let made = upgrade(alloc, &mut checked);
+    let (src, _) = checked.into_parts();
+    match made {
+        Ok(certificate) => Ok(Checked::new(src, frame, certificate)),
+        Err(fault) => Err((RunFault::from(fault), src)),
     }
 }
 

@@ -17,7 +17,7 @@ ghost use Rattle.bplint_engine.specs.TreeWalks.{AreOpen, GoesOn, IsKept, IsMembe
 use crate::ls::add_value;
 use crate::members::{Members, member_node, member_text, members_of};
 use crate::names::{Name, Names};
-use bplint_lines::RunFault;
+use bplint_lines::{Pair, RunFault, Style};
 use bplist_cert::Checked;
 use bplist_cursor::{CursorFault, Face, Node, face, node_head};
 use bplist_objects::Head;
@@ -71,20 +71,21 @@ pub(crate) fn write_tree<S: Source, W: Write>(
     checked: &mut Checked<S>,
     node: Node,
     listing: Listing,
+    style: Style,
     out: &mut W,
 ) -> Result<(), RunFault>
     requires { listing.stack.items ≡ [] }
     ensures reads { OnlyReadsFile (read_failed result) checked.old checked.new }
     ensures exact { IsTrue checked.old.source.honest → (w : Value) → IsHeld checked.old node.object.0 w
-        → length (tree_lines listing.names w) ≤ listing.room → listing.sink ≡ begun
-        → SendsAll (W.contents out.old) (W.contents out.new) (joined_lines (tree_lines listing.names w)) result }
+        → length (tree_lines style listing.names w) ≤ listing.room → listing.sink ≡ begun
+        → SendsAll (W.contents out.old) (W.contents out.new) (joined_lines (tree_lines style listing.names w)) result }
 {
     let mut listing = listing;
     let top = Named {
         node,
         name: listing.names.whole(),
     };
-    list(checked, top, &mut listing, out)?;
+    list(checked, top, &mut listing, style, out)?;
     listing.sink.flush(out)?;
     Ok(())
 }
@@ -94,19 +95,20 @@ fn list<S: Source, W: Write>(
     checked: &mut Checked<S>,
     top: Named,
     listing: &mut Listing,
+    style: Style,
     out: &mut W,
 ) -> Result<(), RunFault>
     requires begins { listing.old.stack.items ≡ [] }
     requires name { IsNameIn listing.old.names top.name × (top.name.«end» ≡ length listing.old.names) }
     ensures reads { OnlyReadsFile (read_failed result) checked.old checked.new }
     ensures exact { IsTrue checked.old.source.honest → (w : Value) → IsHeld checked.old top.node.object.0 w
-        → length (tree_lines (name_in listing.old.names top.name) w) ≤ listing.old.room
+        → length (tree_lines style (name_in listing.old.names top.name) w) ≤ listing.old.room
         → Puts (W.contents out.old) (W.contents out.new) listing.old.sink listing.new.sink
-        (joined_lines (tree_lines (name_in listing.old.names top.name) w)) result }
+        (joined_lines (tree_lines style (name_in listing.old.names top.name) w)) result }
 {
-    begin(checked, top, listing, out)?;
+    begin(checked, top, listing, style, out)?;
     while let Some(opened) = listing.stack.pop() {
-        step(checked, opened, listing, out)?;
+        step(checked, opened, listing, style, out)?;
     }
     Ok(())
 }
@@ -116,6 +118,7 @@ fn begin<S: Source, W: Write>(
     checked: &mut Checked<S>,
     at: Named,
     listing: &mut Listing,
+    style: Style,
     out: &mut W,
 ) -> Result<(), RunFault>
     requires stack { AreOpen checked.old.frame listing.old.names (reverse listing.old.stack.items) }
@@ -126,14 +129,14 @@ fn begin<S: Source, W: Write>(
         < 2 * listing.old.room + length listing.old.stack.items) }
     ensures exact { IsTrue checked.old.source.honest → (w : Value) → IsHeld checked.old at.node.object.0 w
         → MatchResult result
-        (λ _. (left : List (List ℕ)) → StackLeft checked.old listing.old.names (reverse listing.old.stack.items) left
-        → GoesOn checked.old (W.contents out.old) (W.contents out.new) listing.old listing.new
-        (tree_lines (name_in listing.old.names at.name) w ++ left))
-        (λ fault. length (tree_lines (name_in listing.old.names at.name) w) ≤ listing.old.room
+        (λ _. (left : List (List ℕ)) → StackLeft style checked.old listing.old.names (reverse listing.old.stack.items) left
+        → GoesOn style checked.old (W.contents out.old) (W.contents out.new) listing.old listing.new
+        (tree_lines style (name_in listing.old.names at.name) w ++ left))
+        (λ fault. length (tree_lines style (name_in listing.old.names at.name) w) ≤ listing.old.room
         → Fails (W.contents out.old) (W.contents out.new) listing.old.sink
-        (joined_lines (tree_lines (name_in listing.old.names at.name) w)) fault) }
+        (joined_lines (tree_lines style (name_in listing.old.names at.name) w)) fault) }
 {
-    let Some((members, count)) = write_line(checked, at, listing, out)? else {
+    let Some((members, count)) = write_line(checked, at, listing, style, out)? else {
         return Ok(());
     };
     let head = node_head(checked, at.node)?;
@@ -152,6 +155,7 @@ fn write_line<S: Source, W: Write>(
     checked: &mut Checked<S>,
     at: Named,
     listing: &mut Listing,
+    style: Style,
     out: &mut W,
 ) -> Result<Option<(Members, u64)>, RunFault>
     requires { IsNameIn listing.old.names at.name }
@@ -163,10 +167,10 @@ fn write_line<S: Source, W: Write>(
     ensures exact { IsTrue checked.old.source.honest → (w : Value) → IsHeld checked.old at.node.object.0 w
         → MatchResult result
         (λ found. Takes (W.contents out.old) (W.contents out.new) listing.old.sink listing.new.sink
-        (named_line (name_in listing.old.names at.name) w)
+        (named_line style (name_in listing.old.names at.name) w)
         × MatchOption found (IsLeaf w) (λ container. IsContainer container.0 container.1 w))
         (λ fault. 0 < listing.old.room → Fails (W.contents out.old) (W.contents out.new) listing.old.sink
-        (named_line (name_in listing.old.names at.name) w) fault) }
+        (named_line style (name_in listing.old.names at.name) w) fault) }
 {
     if listing.room == 0 {
         return Err(RunFault::Changed);
@@ -174,7 +178,7 @@ fn write_line<S: Source, W: Write>(
     listing.room -= 1;
     let length = checked.len();
     let shown = face(listing.alloc, checked, at.node)?;
-    listing.make_line(at.name, &shown)?;
+    listing.make_line(style, at.name, &shown)?;
     listing.sink.put(out, &listing.line)?;
     Ok(members_of(&shown, length))
 }
@@ -184,6 +188,7 @@ fn step<S: Source, W: Write>(
     checked: &mut Checked<S>,
     opened: Opened,
     listing: &mut Listing,
+    style: Style,
     out: &mut W,
 ) -> Result<(), RunFault>
     requires stack { AreOpen checked.old.frame listing.old.names (opened ∷ reverse listing.old.stack.items) }
@@ -192,20 +197,20 @@ fn step<S: Source, W: Write>(
     ensures falls { OnOk result (2 * listing.new.room + length listing.new.stack.items
         ≤ 2 * listing.old.room + length listing.old.stack.items) }
     ensures exact { IsTrue checked.old.source.honest → (left : List (List ℕ))
-        → StackLeft checked.old listing.old.names (opened ∷ reverse listing.old.stack.items) left → MatchResult result
-        (λ _. GoesOn checked.old (W.contents out.old) (W.contents out.new) listing.old listing.new left)
+        → StackLeft style checked.old listing.old.names (opened ∷ reverse listing.old.stack.items) left → MatchResult result
+        (λ _. GoesOn style checked.old (W.contents out.old) (W.contents out.new) listing.old listing.new left)
         (λ fault. length left ≤ listing.old.room
         → Fails (W.contents out.old) (W.contents out.new) listing.old.sink (joined_lines left) fault) }
 {
     if opened.is_done() {
         return Ok(());
     }
-    let at = name_member(checked, &opened, listing)?;
+    let at = name_member(checked, &opened, listing, style)?;
     listing.stack.push(Opened {
         next: opened.next + 1,
         ..opened
     })?;
-    begin(checked, at, listing, out)
+    begin(checked, at, listing, style, out)
 }
 
 /// Returns the next member of a container, with its name.
@@ -213,6 +218,7 @@ fn name_member<S: Source>(
     checked: &mut Checked<S>,
     opened: &Opened,
     listing: &mut Listing,
+    style: Style,
 ) -> Result<Named, CursorFault>
     requires stack { IsOpen checked.old.frame listing.old.names opened.now }
     requires within { opened.now.next < opened.now.count }
@@ -221,7 +227,7 @@ fn name_member<S: Source>(
     ensures name { IfOk result (λ at. Extends listing.old.names listing.new.names opened.now.name at.name) }
     ensures exact { IsTrue checked.old.source.honest → (w : Value) → IsHeadFor checked.old opened.now.head w
         → IsContainer opened.now.members opened.now.count w
-        → GivesCursor (IsMemberAt checked.old w (name_in listing.old.names opened.now.name) opened.now.next listing.new.names)
+        → GivesCursor (IsMemberAt style checked.old w (name_in listing.old.names opened.now.name) opened.now.next listing.new.names)
         result }
 {
     match opened.members {
@@ -239,7 +245,7 @@ fn name_member<S: Source>(
                 .push_place(listing.alloc, opened.name, opened.next)?;
             Ok(Named { node, name })
         }
-        Members::Dict => name_value(checked, opened, listing),
+        Members::Dict => name_value(checked, opened, listing, style),
     }
 }
 
@@ -248,6 +254,7 @@ fn name_value<S: Source>(
     checked: &mut Checked<S>,
     opened: &Opened,
     listing: &mut Listing,
+    style: Style,
 ) -> Result<Named, CursorFault>
     requires stack { IsOpen checked.old.frame listing.old.names opened.now }
     requires within { opened.now.next < opened.now.count }
@@ -257,15 +264,19 @@ fn name_value<S: Source>(
     ensures name { IfOk result (λ at. Extends listing.old.names listing.new.names opened.now.name at.name) }
     ensures exact { IsTrue checked.old.source.honest → (w : Value) → IsHeadFor checked.old opened.now.head w
         → IsContainer opened.now.members opened.now.count w
-        → GivesCursor (IsMemberAt checked.old w (name_in listing.old.names opened.now.name) opened.now.next listing.new.names)
+        → GivesCursor (IsMemberAt style checked.old w (name_in listing.old.names opened.now.name) opened.now.next listing.new.names)
         result }
 {
     let i = opened.next;
     let units = member_text(listing.alloc, checked, &opened.head, 2 * i)?;
     let node = member_node(checked, &opened.head, 2 * i + 1)?;
+    let pair = Pair {
+        number: i,
+        key: units.as_slice(),
+    };
     let name = listing
         .names
-        .push_key(listing.alloc, opened.name, i, units.as_slice())?;
+        .push_key(listing.alloc, style, opened.name, &pair)?;
     Ok(Named { node, name })
 }
 
@@ -286,15 +297,15 @@ impl Listing {
     }
 
     /// Makes the line of a value with this name and this face.
-    fn make_line(&mut self, name: Name, shown: &Face) -> Result<(), AllocError>
+    fn make_line(&mut self, style: Style, name: Name, shown: &Face) -> Result<(), AllocError>
         requires { IsNameIn self.old.names name }
         ensures line { OnOk result (self.new.line.items
-            ≡ name_in self.old.names name ++ codes "\t" ++ face_line shown.now ++ codes "\n") }
+            ≡ name_in self.old.names name ++ codes "\t" ++ face_line style shown.now ++ codes "\n") }
         ensures rest { IsKept self.old self.new }
         ensures names { self.new.names ≡ self.old.names }
     {
         self.line.clear();
         self.line.extend_from_slice(self.names.get(name))?;
-        add_value(self.alloc, shown, &mut self.line)
+        add_value(self.alloc, style, shown, &mut self.line)
     }
 }

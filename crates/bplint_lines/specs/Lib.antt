@@ -5,3 +5,4 @@ pub mod Faults
 pub mod MemberNames
 pub mod OutputLines
 pub mod RawFaults
+pub mod Texts

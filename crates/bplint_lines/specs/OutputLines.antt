@@ -9,7 +9,9 @@ use Rattle.bplist_cursor.specs.declared.replies.Face.{Face}
 use Rattle.bplist_cursor.specs.declared.replies.Face.TheVariants as faces
 use Rattle.bplist_cursor.specs.declared.node.Why.{Why}
 use Rattle.bplist_cursor.specs.declared.node.Why.TheVariants.{NoKey, NoIndex, NotSteppable}
-use Rattle.bplist_cursor.specs.Texts.{text_of_units, text_of_bytes}
+use Rattle.bplist_cursor.specs.Texts.{text_of_bytes}
+use Rattle.bplint_lines.specs.declared.texts.Style.{Style}
+use Rattle.bplint_lines.specs.Texts.{text_in}
 
 -- the words for the kinds, in the order of their declaration
 abbrev pub kind_word : Kind → List ℕ
@@ -25,18 +27,18 @@ abbrev pub check_line : ℕ → ℕ → List ℕ
 check_line n h = codes "ok objects " ++ decimal n ++ codes " height " ++ decimal h
 
 -- the line of `get`: a kind, and a leaf's value or a container's count
-abbrev pub face_line : Face → List ℕ
-face_line faces.Null = codes "null"
-face_line (faces.Bool b) = if b then codes "true" else codes "false"
-face_line (faces.Int i) = codes "int " ++ signed_decimal i
-face_line (faces.Real l) = codes "real " ++ encode_lower l
-face_line (faces.Date l) = codes "date " ++ encode_lower l
-face_line (faces.Bytes l) = codes "data " ++ text_of_bytes l
-face_line (faces.Text units) = codes "text " ++ text_of_units units
-face_line (faces.Uid x) = codes "uid " ++ decimal x
-face_line (faces.Array count) = codes "array " ++ decimal count
-face_line (faces.Set count) = codes "set " ++ decimal count
-face_line (faces.Dict count) = codes "dict " ++ decimal count
+abbrev pub face_line : Style → Face → List ℕ
+face_line style faces.Null = codes "null"
+face_line style (faces.Bool b) = if b then codes "true" else codes "false"
+face_line style (faces.Int i) = codes "int " ++ signed_decimal i
+face_line style (faces.Real l) = codes "real " ++ encode_lower l
+face_line style (faces.Date l) = codes "date " ++ encode_lower l
+face_line style (faces.Bytes l) = codes "data " ++ text_of_bytes l
+face_line style (faces.Text units) = codes "text " ++ text_in style units
+face_line style (faces.Uid x) = codes "uid " ++ decimal x
+face_line style (faces.Array count) = codes "array " ++ decimal count
+face_line style (faces.Set count) = codes "set " ++ decimal count
+face_line style (faces.Dict count) = codes "dict " ++ decimal count
 
 -- the line for a path that leads nowhere: the step that fails, and why
 abbrev pub missing_line : ℕ → Why → List ℕ

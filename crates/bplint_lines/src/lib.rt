@@ -15,15 +15,18 @@
 //! | the same for raw bytes | [`RawFault`] |
 //! | explain a fault | [`explain`] |
 //! | explain a rule, find the rule of a word | [`rule_text`], [`rule_of_word`] |
-//! | write the line of an answer | [`add_lint`], [`add_check`], [`add_face`], [`add_missing`], [`kind_name`] |
+//! | write the line of an answer | [`add_lint`], [`add_check`], [`add_face`], [`add_missing`] |
+//! | get a word of such a line | [`kind_name`], [`reason_of`] |
 //! | write the name of a member | [`add_index_name`], [`add_key_name`], [`add_index`] |
 //! | tell whether each path led to a value | [`Said`] |
+//! | find the path to an object, or to all | [`path_to`], [`paths_in`] |
 //!
 //! specs/Answers.antt defines answers, and what a run leaves with the writer.
 //!
 //! The modules, in reading order:
 //!
 //! - `fault`, `raw_fault`: how a run ends, [`Said`] and [`RunFault`], or [`RawFault`].
+//! - `texts`: how lines write texts, [`Style`].
 //! - `output_lines`, `member_names`: the lines of answers, and the names of members in them.
 //! - `explanation`: rules in plain words, and the lines under the line of a fault.
 //! - `file_lines`, `object_path`: what an explanation says of the file, and the path to an object.
@@ -36,9 +39,12 @@ mod member_names;
 mod object_path;
 mod output_lines;
 mod raw_fault;
+mod texts;
 
 pub use explanation::{explain, rule_of_word, rule_text};
 pub use fault::{RunFault, Said};
-pub use member_names::{add_index, add_index_name, add_key_name};
-pub use output_lines::{add_check, add_face, add_lint, add_missing, kind_name};
+pub use member_names::{Pair, add_index, add_index_name, add_key_name};
+pub use object_path::{ObjectPath, ObjectPaths, path_to, paths_in};
+pub use output_lines::{add_check, add_face, add_lint, add_missing, kind_name, reason_of};
 pub use raw_fault::RawFault;
+pub use texts::Style;

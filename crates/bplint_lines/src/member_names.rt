@@ -3,11 +3,12 @@
 //! Each call adds a name to the bytes. The only error is refused memory.
 
 ghost use Rattle.std.specs.Prelude.{◌≡◌, ◌++◌, ◌∷◌, OnOk, true};
-ghost use Rattle.std.specs.List.{flat_map, list_all, list_any};
+ghost use Rattle.std.specs.List.{flat_map, list_all};
 ghost use Rattle.bplist_cursor.specs.Path.{escaped};
 ghost use Rattle.bplint_lines.specs.MemberNames as spec;
-ghost use Rattle.bplint_lines.specs.MemberNames.{bracketed, index_name, key_name};
+ghost use Rattle.bplint_lines.specs.MemberNames.{bracketed, index_name, key_name, unshown_name};
 
+use crate::texts::{Style, add_utf8_text, have_unshown};
 use std::alloc::{AllocError, Global};
 
 /// Adds the path text of member `i` of an array.
@@ -32,26 +33,51 @@ pub fn add_index(alloc: Global, i: u64, lines: &mut Vec<u8>) -> Result<(), Alloc
     lines.extend_from_slice(index.as_bytes())
 }
 
-/// Adds the path text of the value of pair `i`, whose key has these units. Adds the index in brackets if the key cannot
-/// be shown.
+/// A pair of a dictionary.
+#[derive(Clone, Copy, Drop)]
+pub struct Pair<'a> {
+    /// Its number, counted from 0.
+    pub number: u64,
+    /// The UTF-16 units of its key.
+    pub key: &'a [u16],
+}
+
+/// Adds the path text of the value of a pair, in the dictionary with this path text. If the key cannot be shown, adds the
+/// index in brackets instead, and in UTF-8 style then the key as a text.
 pub fn add_key_name(
     alloc: Global,
+    style: Style,
     path: &str,
-    i: u64,
-    units: &[u16],
+    pair: &Pair<'_>,
     lines: &mut Vec<u8>,
 ) -> Result<(), AllocError>
-    ensures { OnOk result (lines.new.items ≡ lines.old.items ++ key_name path.now i units.now) }
+    ensures { OnOk result (lines.new.items ≡ lines.old.items ++ key_name style path.now pair.now.number pair.now.key.now) }
 {
-    if have_unshown(units) {
-        return add_index(alloc, i, lines);
+    if have_unshown(pair.key) {
+        return add_unshown(alloc, style, pair, lines);
     }
-    if are_ascii(units) {
-        return add_ascii_path(path, units, lines);
+    if are_ascii(pair.key) {
+        return add_ascii_path(path, pair.key, lines);
     }
-    match String::from_utf16(alloc, units)? {
+    match String::from_utf16(alloc, pair.key)? {
         Ok(key) => add_path(path, key.as_bytes(), lines),
-        Err(_) => add_index(alloc, i, lines),
+        Err(_) => add_unshown(alloc, style, pair, lines),
+    }
+}
+
+/// Adds the name of the value of a pair whose key cannot be shown.
+fn add_unshown(
+    alloc: Global,
+    style: Style,
+    pair: &Pair<'_>,
+    lines: &mut Vec<u8>,
+) -> Result<(), AllocError>
+    ensures { OnOk result (lines.new.items ≡ lines.old.items ++ unshown_name style pair.now.number pair.now.key.now) }
+{
+    add_index(alloc, pair.number, lines)?;
+    match style {
+        Style::OldStyle => Ok(()),
+        Style::Utf8 => add_utf8_text(alloc, pair.key, lines),
     }
 }
 
@@ -60,24 +86,6 @@ fn are_ascii(units: &[u16]) -> bool
     ensures { result ≡ list_all spec.is_ascii units.now }
 {
     units.iter().all(|unit| *unit < 0x80)
-}
-
-/// Returns true if a line cannot show one of the units.
-fn have_unshown(units: &[u16]) -> bool
-    ensures { result ≡ list_any spec.is_unshown units.now }
-{
-    units.iter().any(|unit| is_unshown(*unit))
-}
-
-/// Returns true for a control character, a line or paragraph separator, and a control of text direction. These could
-/// begin a new line, give a command to the terminal, or change the order in which a line is displayed.
-fn is_unshown(unit: u16) -> bool
-    ensures { result ≡ spec.is_unshown unit }
-{
-    matches!(
-        unit,
-        0..=0x1F | 0x7F..=0x9F | 0x61C | 0x200E..=0x200F | 0x2028..=0x202E | 0x2066..=0x2069
-    )
 }
 
 /// Adds a path text, `/` and a token. In the token, `~` becomes `~0` and `/` becomes `~1`.

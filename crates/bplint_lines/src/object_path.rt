@@ -1,4 +1,4 @@
-//! Finds the path from the top to an object, in any file.
+//! Finds the path from the top to an object, or to all objects, in any file.
 //!
 //! The search follows members of arrays and values of dictionaries, as paths do. It does not go on from an object that
 //! breaks a rule about markers or counts.
@@ -8,7 +8,8 @@ ghost use Rattle.bplist_octets.specs.Meaning.{OnlyReads};
 ghost use Rattle.bplist_objects.specs.Safe.{IsSafe, IsSafeFrame, IsSafeHead, ref_count};
 ghost use Rattle.bplist_objects.specs.Failures.{failed_to_read};
 
-use crate::member_names::{add_index, add_index_name, add_key_name};
+use crate::member_names::{Pair, add_index, add_index_name, add_key_name};
+use crate::texts::Style;
 use bplist_objects::{
     Failure, Frame, Head, Kind, ObjectFault, ObjectNo, read_units, ref_at, shape_of,
 };
@@ -31,23 +32,25 @@ pub(crate) struct KeyFront {
 #[derive(Clone, Copy, Drop)]
 struct Step {
     from: u32,
-    index: u64,
+    index: u32,
 }
 
-/// The state of the search: the objects that were found, in order, and the step that found each first.
+/// The steps to the objects that a search found. Takes 8 bytes for each object.
 #[derive(Drop)]
-struct PathSearch {
-    /// By object number: the step to each object that was found. The top has a step from itself.
-    steps: Vec<Option<Step>>,
-    /// The objects that were found.
-    met: Vec<u32>,
+pub struct ObjectPaths {
+    top: u32,
+    /// By object number: the step that found the object first. The top, and an object that was not found, have a step
+    /// from themselves.
+    steps: Vec<Step>,
+    /// The largest number of steps of a path.
+    longest: usize,
     /// How many more references may be read. If no objects overlap, a file has fewer references than bytes.
     budget: u64,
 }
 
 /// The path from the top to an object.
 #[derive(Drop)]
-pub(crate) enum ObjectPath {
+pub enum ObjectPath {
     /// This path text leads to the object.
     Path(Vec<u8>),
     /// No path leads to the object.
@@ -57,7 +60,7 @@ pub(crate) enum ObjectPath {
 }
 
 /// Returns the text of the first path from the top to an object.
-pub(crate) fn path_to<S: Source>(
+pub fn path_to<S: Source>(
     alloc: Global,
     src: &mut S,
     frame: &Frame,
@@ -66,52 +69,72 @@ pub(crate) fn path_to<S: Source>(
     requires { IsSafeFrame (length (S.means src.old).octets) frame.now }
     ensures reads { OnlyReads (failed_to_read result) (S.means src.old) (S.means src.new) }
 {
-    let search = search_for(alloc, src, frame, target.0)?;
-    match search.steps_back(alloc, frame.top.0, target.0)? {
-        Some(steps) => Ok(ObjectPath::Path(path_of(alloc, src, frame, &steps)?)),
-        None if search.budget == 0 => Ok(ObjectPath::Unknown),
-        None => Ok(ObjectPath::None),
-    }
+    let mut paths = ObjectPaths::new(alloc, frame, usize::MAX)?;
+    paths.search(alloc, src, frame, Some(target))?;
+    paths.path_to(alloc, src, frame, target)
 }
 
-/// Searches from the top for an object, breadth first.
-fn search_for<S: Source>(
+/// Searches from the top for all objects, breadth first, so that the path to each is a shortest one. An object counts as
+/// not found if its path has more than `longest` steps. Takes 12 bytes of memory for each object, of which 8 stay.
+pub fn paths_in<S: Source>(
     alloc: Global,
     src: &mut S,
     frame: &Frame,
-    target: u32,
-) -> Result<PathSearch, Failure>
+    longest: usize,
+) -> Result<ObjectPaths, Failure>
     requires { IsSafeFrame (length (S.means src.old).octets) frame.now }
     ensures reads { OnlyReads (failed_to_read result) (S.means src.old) (S.means src.new) }
 {
-    let mut search = PathSearch {
-        steps: vec![in alloc; None; frame.objects as usize]?,
-        met: Vec::new(alloc),
-        budget: frame.table,
-    };
-    let top = frame.top.0;
-    search.meet(
-        top as u64,
-        Step {
-            from: top,
-            index: 0,
-        },
-    )?;
-    for k in 0..frame.objects as usize {
-        match search.met.get(k) {
-            Some(n) if *n != target && *n < frame.objects => {
-                let n = *n;
-                search.go_on(src, frame, ObjectNo(n))?;
-            }
-            _ => break,
-        }
-    }
-    Ok(search)
+    let mut paths = ObjectPaths::new(alloc, frame, longest)?;
+    paths.search(alloc, src, frame, None)?;
+    Ok(paths)
 }
 
-impl PathSearch {
-    /// Finds the objects that object `n` refers to.
-    fn go_on<S: Source>(&mut self, src: &mut S, frame: &Frame, n: ObjectNo) -> Result<(), Failure>
+impl ObjectPaths {
+    /// The start of a search: only the top was found.
+    fn new(alloc: Global, frame: &Frame, longest: usize) -> Result<ObjectPaths, AllocError> {
+        let steps = (0..frame.objects).map(|from| Step { from, index: 0 });
+        Ok(ObjectPaths {
+            top: frame.top.0,
+            steps: steps.collect(alloc)?,
+            longest,
+            budget: frame.table,
+        })
+    }
+
+    /// Searches from the top for an object, or for all objects, breadth first.
+    fn search<S: Source>(
+        &mut self,
+        alloc: Global,
+        src: &mut S,
+        frame: &Frame,
+        target: Option<ObjectNo>,
+    ) -> Result<(), Failure>
+        requires { IsSafeFrame (length (S.means src.old).octets) frame.now }
+        ensures reads { OnlyReads (failed_to_read result) (S.means src.old) (S.means src.new) }
+    {
+        let mut met = Vec::new(alloc);
+        met.push(self.top)?;
+        for k in 0..frame.objects as usize {
+            match met.get(k) {
+                Some(n) if Some(ObjectNo(*n)) != target && *n < frame.objects => {
+                    let n = *n;
+                    self.go_on(src, frame, ObjectNo(n), &mut met)?;
+                }
+                _ => break,
+            }
+        }
+        Ok(())
+    }
+
+    /// Finds the objects that object `n` refers to. Adds those that were not found before to `met`.
+    fn go_on<S: Source>(
+        &mut self,
+        src: &mut S,
+        frame: &Frame,
+        n: ObjectNo,
+        met: &mut Vec<u32>,
+    ) -> Result<(), Failure>
         requires safe { IsSafe (length (S.means src.old).octets) frame.now }
         requires within { n.0 < frame.now.objects }
         ensures reads { OnlyReads (failed_to_read result) (S.means src.old) (S.means src.new) }
@@ -130,43 +153,69 @@ impl PathSearch {
             }
             self.budget -= 1;
             let m = ref_at(src, frame, &head, first + index)?;
-            self.meet(m, Step { from: n.0, index })?;
+            self.meet(m, n.0, index, met)?;
         }
         Ok(())
     }
 
-    /// Records the step to an object that was not found before.
-    fn meet(&mut self, object: u64, step: Step) -> Result<(), AllocError> {
-        let Ok(n) = u32::try_from(object) else {
+    /// Records the step to an object if it was not found before. No file in which objects do not overlap has so many
+    /// references that an index does not fit.
+    fn meet(
+        &mut self,
+        object: u64,
+        from: u32,
+        index: u64,
+        met: &mut Vec<u32>,
+    ) -> Result<(), AllocError> {
+        let (Ok(n), Ok(index)) = (u32::try_from(object), u32::try_from(index)) else {
             return Ok(());
         };
-        if let Some(slot) = self.steps.get_mut(n as usize) {
-            if slot.is_none() {
-                *slot = Some(step);
-                self.met.push(n)?;
+        if n == self.top {
+            return Ok(());
+        }
+        if let Some(step) = self.steps.get_mut(n as usize) {
+            if step.from == n && from != n {
+                *step = Step { from, index };
+                met.push(n)?;
             }
         }
         Ok(())
     }
 
-    /// Returns the steps from an object back to the top, the last step first, or nothing if the object was not found.
-    fn steps_back(
+    /// Returns the path to an object.
+    pub fn path_to<S: Source>(
         &self,
         alloc: Global,
-        top: u32,
-        target: u32,
-    ) -> Result<Option<Vec<Step>>, AllocError> {
+        src: &mut S,
+        frame: &Frame,
+        object: ObjectNo,
+    ) -> Result<ObjectPath, Failure>
+        requires { IsSafeFrame (length (S.means src.old).octets) frame.now }
+        ensures reads { OnlyReads (failed_to_read result) (S.means src.old) (S.means src.new) }
+    {
+        match self.steps_back(alloc, object.0)? {
+            Some(steps) => Ok(ObjectPath::Path(path_of(alloc, src, frame, &steps)?)),
+            None if self.budget == 0 => Ok(ObjectPath::Unknown),
+            None => Ok(ObjectPath::None),
+        }
+    }
+
+    /// Returns the steps from an object back to the top, the last step first, or nothing if the object was not found or
+    /// has too many.
+    fn steps_back(&self, alloc: Global, object: u32) -> Result<Option<Vec<Step>>, AllocError> {
         let mut steps = Vec::new(alloc);
-        let mut n = target;
+        let mut n = object;
         for _ in 0..self.steps.len() {
-            if n == top {
+            if n == self.top {
                 return Ok(Some(steps));
             }
-            let Some(Some(step)) = self.steps.get(n as usize) else {
-                return Ok(None);
-            };
-            steps.push(*step)?;
-            n = step.from;
+            match self.steps.get(n as usize) {
+                Some(step) if step.from != n && steps.len() < self.longest => {
+                    steps.push(*step)?;
+                    n = step.from;
+                }
+                _ => return Ok(None),
+            }
         }
         Ok(None)
     }
@@ -207,11 +256,12 @@ fn add_step<S: Source>(
     let Some(head) = head_in(src, frame, ObjectNo(step.from))? else {
         return Ok(());
     };
-    if head.kind == Kind::Dict && step.index < head.count {
-        let key = key_front(alloc, src, frame, &head, step.index)?;
-        return Ok(add_key(alloc, step.index, key.as_ref(), path)?);
+    let index = step.index as u64;
+    if head.kind == Kind::Dict && index < head.count {
+        let key = key_front(alloc, src, frame, &head, index)?;
+        return Ok(add_key(alloc, index, key.as_ref(), path)?);
     }
-    Ok(add_index_name(alloc, "", step.index, path)?)
+    Ok(add_index_name(alloc, "", index, path)?)
 }
 
 /// Adds the token of a pair with this key. A key that was cut is given by its index, because its start could be the
@@ -223,7 +273,13 @@ fn add_key(
     path: &mut Vec<u8>,
 ) -> Result<(), AllocError> {
     match key {
-        Some(key) if !key.is_cut => add_key_name(alloc, "", index, &key.units, path),
+        Some(key) if !key.is_cut => {
+            let pair = Pair {
+                number: index,
+                key: &key.units,
+            };
+            add_key_name(alloc, Style::OldStyle, "", &pair, path)
+        }
         _ => add_index(alloc, index, path),
     }
 }

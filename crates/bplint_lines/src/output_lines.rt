@@ -3,11 +3,12 @@
 //! Each call adds a line to the bytes, without a line feed. The only error is refused memory.
 
 ghost use Rattle.std.specs.Prelude.{◌≡◌, ℕ, ◌++◌, OnOk, codes};
-ghost use Rattle.std.specs.Fmt.{decimal};
+ghost use Rattle.std.specs.Fmt.{decimal, signed_decimal};
 ghost use Rattle.hex.specs.Hex.{encode_lower};
 ghost use Rattle.bplint_lines.specs.OutputLines.{kind_word, lint_line, check_line, face_line, missing_line};
 
-use bplist_ascii::{add_text_of_bytes, add_text_of_units};
+use crate::texts::{Style, add_text};
+use bplist_ascii::add_text_of_bytes;
 use bplist_cursor::{Face, Why};
 use bplist_objects::Kind;
 use std::alloc::{AllocError, Global};
@@ -40,9 +41,14 @@ pub fn add_check(
     lines.extend_from_slice(line.as_bytes())
 }
 
-/// Adds the line of `get` for the value under a path.
-pub fn add_face(alloc: Global, face: &Face, lines: &mut Vec<u8>) -> Result<(), AllocError>
-    ensures { OnOk result (lines.new.items ≡ lines.old.items ++ face_line face.now) }
+/// Adds the line of `get` for the value under a path, with a text in this style.
+pub fn add_face(
+    alloc: Global,
+    style: Style,
+    face: &Face,
+    lines: &mut Vec<u8>,
+) -> Result<(), AllocError>
+    ensures { OnOk result (lines.new.items ≡ lines.old.items ++ face_line style face.now) }
 {
     match face {
         Face::Null => lines.extend_from_slice(b"null"),
@@ -57,7 +63,7 @@ pub fn add_face(alloc: Global, face: &Face, lines: &mut Vec<u8>) -> Result<(), A
         }
         Face::Text(units) => {
             lines.extend_from_slice(b"text ")?;
-            add_text_of_units(units.as_slice(), lines)
+            add_text(alloc, style, units.as_slice(), lines)
         }
         Face::Uid(number) => add_number(alloc, b"uid ", *number as u64, lines),
         Face::Array(count) => add_number(alloc, b"array ", *count, lines),
@@ -81,7 +87,7 @@ pub fn add_missing(
 }
 
 fn add_integer(alloc: Global, number: i128, lines: &mut Vec<u8>) -> Result<(), AllocError>
-    ensures { OnOk result (lines.new.items ≡ lines.old.items ++ face_line (Face.Int number)) }
+    ensures { OnOk result (lines.new.items ≡ lines.old.items ++ codes "int " ++ signed_decimal number) }
 {
     let line = format!(in alloc; "int {number}")?;
     lines.extend_from_slice(line.as_bytes())
@@ -100,7 +106,8 @@ fn add_number(
     lines.extend_from_slice(digits.as_bytes())
 }
 
-fn add_hexadecimal(
+/// Adds a word and the hexadecimal digits of bytes.
+pub(crate) fn add_hexadecimal(
     alloc: Global,
     word: &[u8],
     bytes: &[u8],
@@ -134,7 +141,7 @@ pub fn kind_name(kind: Kind) -> &'static str
 }
 
 /// Returns the word that ends the line for a path that leads nowhere.
-fn reason_of(why: Why) -> &'static str
+pub fn reason_of(why: Why) -> &'static str
     ensures { (step : ℕ) → missing_line step why ≡ codes "missing " ++ decimal step ++ codes " " ++ result.now }
 {
     match why {

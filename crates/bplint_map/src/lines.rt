@@ -53,7 +53,7 @@ pub(crate) fn end_of(row: &Row) -> u64
 }
 
 /// Adds the line of an object.
-fn add_object(line: &mut String, row: &Row, verdict: &Verdict) -> Result<(), AllocError>
+pub(crate) fn add_object(line: &mut String, row: &Row, verdict: &Verdict) -> Result<(), AllocError>
     ensures { OnOk result (string_bytes line.new ≡ string_bytes line.old ++ part_line verdict.now (object row.now)) }
 {
     let (place, number) = (row.place, row.number);

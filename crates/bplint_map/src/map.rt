@@ -22,7 +22,7 @@ use std::alloc::{AllocError, Global};
 use std::io::Write;
 
 /// The line with the names of the columns.
-const TITLE: &str = "place\tend\tobject\tkind\tcount\theight\n";
+pub(crate) const TITLE: &str = "place\tend\tobject\tkind\tcount\theight\n";
 
 /// What a map is made of.
 #[derive(Drop)]
@@ -103,7 +103,7 @@ fn front_lines(alloc: Global) -> Result<String, AllocError>
 }
 
 /// Returns the lines of the offset table and the trailer.
-fn back_lines(alloc: Global, frame: &Frame, length: u64) -> Result<String, AllocError>
+pub(crate) fn back_lines(alloc: Global, frame: &Frame, length: u64) -> Result<String, AllocError>
     requires { IsSafe length frame.now }
     ensures { let end = frame.now.table + frame.now.objects * frame.now.offset_size in IfOk result (λ lines. string_bytes lines
         ≡ region_line frame.now.table end (codes "table") ++ region_line end length (codes "trailer")) }
@@ -149,7 +149,7 @@ fn put_rows<P: Framed, W: Write>(
 
 /// The total length of the objects whose bodies are read. The limit keeps files with overlapping objects from taking
 /// longer than others.
-fn looked_at_most(frame: &Frame) -> u64
+pub(crate) fn looked_at_most(frame: &Frame) -> u64
     ensures { frame.now.table < 2 ^ 32 → result ≡ 16 * frame.now.table }
 {
     frame.table.saturating_mul(16)

@@ -4,16 +4,14 @@ use Rattle.std.proofs.lemmas.Bool.{cases_lt}
 use Rattle.std.proofs.lemmas.Grind.{not_there}
 use Rattle.bplist_objects.specs.declared.fault.ObjectFault.{ObjectFault}
 use Rattle.bplist_objects.specs.declared.fault.ObjectFault.TheVariants as errors
-use Rattle.bplist_objects.specs.declared.frame.Frame.{Frame}
 use Rattle.bplist_objects.specs.declared.head.Head.{Head}
 use Rattle.bplist_objects.specs.Answers.{Gives, Never, read_failed}
 use Rattle.bplist_objects.specs.Heads.{Content, HasShape, IsHeadOf, Spells, content_at}
 use Rattle.bplist_cert.specs.CheckedFile.{CheckedFile, IsChecked}
 use Rattle.bplist_cert.specs.Valid.{IsVouchedBy}
-use Rattle.bplist_c.specs.Objects.{OnObject, kind_number}
+use Rattle.bplist_c.specs.Objects.{OnObject}
 use Rattle.bplist_c.specs.declared.status.Status.{Status}
 use Rattle.bplist_c.specs.declared.status.Status.TheVariants as statuses
-use Rattle.bplist_c.specs.declared.verdict.Top.{Top}
 
 -- this is the head of a vouched object
 abbrev pub IsHead : CheckedFile → ℕ → Result Head Status → Type 0
@@ -95,8 +93,9 @@ stable_le a b h = elim (cases_lt b a) [
 pub top_vouched : (checked : CheckedFile) → IsChecked checked → IsTrue checked.source.honest → IsVouchedBy checked.certificate.heights checked.frame.top.0
 top_vouched checked is honest = stable_le _ _ (λ bad. not_there (is.accepted honest) (λ a. bad a.valid.top))
 
--- the numbers of a top
-pub same_top : (F G : Frame) (h k : Head) (kind height : ℕ) → F ≡ G → h ≡ k → kind ≡ kind_number h.kind
-    → let top : Top = record { objects = F.objects; object = F.top.0; kind = kind; height = height } in
-    top ≡ record { objects = G.objects; object = G.top.0; kind = kind_number k.kind; height = height }
-same_top F G h k kind height e d is = cc
+-- the top has a head
+pub top_has_head : (checked : CheckedFile) → IsChecked checked → IsTrue checked.source.honest
+    → ((head : Head) → IsHeadOf checked.source.octets checked.frame checked.frame.top.0 head → ⊥) → ⊥
+top_has_head checked is honest lost = not_there (is.accepted honest) (λ a.
+    let spells = (a.valid.vouched checked.frame.top.0 a.valid.top).spells in
+    lost spells.shape (spells.has, subst (Spells checked.source.octets checked.frame checked.frame.top.0) spells.means spells))

@@ -10,11 +10,17 @@ use Rattle.bplist_cert.specs.Encoding.{octets_of}
 use Rattle.bplist_cert.specs.Lists.{Lists}
 use Rattle.bplist_cert.specs.Sorted.{IsAccepted}
 use Rattle.bplist_lint.specs.declared.answer.Lint.{Lint}
+use Rattle.bplist_lint.specs.declared.answer.LintRefusal.{LintRefusal}
+use Rattle.bplist_c.specs.declared.accepted.Accepted.{Accepted}
 use Rattle.bplist_c.specs.declared.handle.BplistHandle.{BplistHandle}
 use Rattle.bplist_c.specs.declared.session.Session.{Session}
 use Rattle.bplist_c.specs.declared.status.Status.{Status}
 use Rattle.bplist_c.specs.declared.status.Status.TheVariants as statuses
+use Rattle.bplist_c.specs.declared.verdict.BplistVerdict.{BplistVerdict}
 use Rattle.bplist_c.specs.Sessions.{IsSessionOf}
+use Rattle.bplist_c.specs.Statuses.{number_of}
+use Rattle.bplist_c.specs.Verdicts.{ShowsLint, refused_told}
+use Rattle.bplist_c.specs.declared.verdict.TheConstants.{NO_VERDICT}
 
 -- these bytes and this certificate are a valid pair
 abbrev pub IsAcceptedFor : List ℕ → Lists → Type 0
@@ -31,10 +37,29 @@ IsOpened f certificate sorted h = (h.length ≡ length f) × ((s : Session) × (
     × (s.certificate.heights ≡ certificate.heights) × (IsSome certificate.keys → s.certificate ≡ certificate)
     × (sorted ≡ false → s.certificate ≡ certificate) × (IsTrue sorted → IsSome s.certificate.keys))
 
--- the verdict from a certificate: the height of the top, and no counts
-abbrev pub certified : Frame → Lists → Lint
-certified F certificate =
-    record { certificate = certificate; height = slice_index certificate.heights F.top.0; reached = 0; references = 0 }
+-- the answer of the linter with this certificate, the height of the top, and these figures
+abbrev pub lint_of : Frame → Lists → ℕ → ℕ → Lint
+lint_of F certificate reached references = record {
+  certificate = certificate;
+  height = slice_index certificate.heights F.top.0;
+  reached = reached;
+  references = references;
+}
+
+-- the linter's answer as a checked file with the verdict on it, or as status and verdict
+abbrev pub Accepts : Bor (List ℕ) → Result Lint LintRefusal → Result Accepted (Status × BplistVerdict) → Type 0
+Accepts file (Ok lint) (Ok accepted) =
+    IsCheckedFor file lint.certificate accepted.checked × ShowsLint file.now (Ok lint) accepted.verdict 0
+Accepts file (Err why) (Err told) = told ≡ refused_told why
+Accepts file answer result = ⊥
+
+module _ (sorted : Bool) (handle : BplistHandle) (verdict : BplistVerdict) (status : ℕ) where
+  -- the handle is open, and verdict and status are those of the accepted file; or memory was refused; or the file was
+  abbrev pub Keeps : Result Accepted (Status × BplistVerdict) → Type 0
+  Keeps (Ok accepted) = let checked = accepted.checked in
+      ((status ≡ 0) × (verdict ≡ accepted.verdict) × IsOpened checked.source.octets checked.certificate sorted handle)
+      ⊎ ((status ≡ number_of statuses.Memory) × (verdict ≡ NO_VERDICT) × (handle.length ≡ 0))
+  Keeps (Err told) = (status ≡ number_of told.0) × (verdict ≡ told.1) × (handle.length ≡ 0)
 
 -- these bytes are a valid certificate of the file; its verdict has the height of the top and no counts
 abbrev pub IsPair : List ℕ → List ℕ → Lint → Type 0

@@ -1,13 +1,13 @@
 -- The names that the contracts of this crate use, gathered from other files. Declares nothing.
 pub use Rattle.bplist_octets.specs.Octets.{part}
 pub use Rattle.bplist_octets.specs.Slices.{source_over}
-pub use Rattle.bplist_objects.specs.Frame.{IsFrame}
+pub use Rattle.bplist_objects.specs.Frame.{IsFrame, off}
 pub use Rattle.bplist_objects.specs.Heads.{IsHeadOf, Spells, leaf}
 pub use Rattle.bplist_objects.specs.Holds.{Holds}
-pub use Rattle.bplist_objects.specs.Safe.{IsSafeBody, IsSafeHead, ref_count}
+pub use Rattle.bplist_objects.specs.Safe.{IsSafe, IsSafeBody, IsSafeHead, ref_count}
 pub use Rattle.bplist_objects.specs.Scan.{nth_number}
 pub use Rattle.bplist_objects.specs.Units.{IsTextKind, units_of}
-pub use Rattle.bplist_objects.specs.Value.{int}
+pub use Rattle.bplist_objects.specs.Value.{Value, int}
 pub use Rattle.bplist_objects.specs.declared.frame.Frame.{Frame}
 pub use Rattle.bplist_objects.specs.declared.head.Head.{Head}
 pub use Rattle.bplist_objects.specs.declared.head.Kind.TheVariants.{Dict}
@@ -29,7 +29,7 @@ pub use Rattle.bplist_cursor.specs.Found.{AreMeasuresOf, IsFound}
 pub use Rattle.bplist_cursor.specs.Members.{member_reference}
 pub use Rattle.bplist_cursor.specs.Nodes.{cap, nodes}
 pub use Rattle.bplist_cursor.specs.declared.node.Found.{Found}
-pub use Rattle.bplist_c.specs.Lifecycle.{CertificateSays, IsAcceptedFor, IsCheckedFor, IsOpened, IsPair, certified}
+pub use Rattle.bplist_c.specs.Lifecycle.{Accepts, CertificateSays, IsAcceptedFor, IsCheckedFor, IsOpened, IsPair, Keeps, lint_of}
 pub use Rattle.bplist_c.specs.Lookup.{FindSays, step_answer, told_found, why_status}
 pub use Rattle.bplist_c.specs.Members.{AreSpelled, MembersSay}
 pub use Rattle.bplist_c.specs.Objects.{AreFaces, FacesSay, IsFace, OnObject, body_of, bytes_of_body, int_answer, kind_number, uid_answer, units_answer}

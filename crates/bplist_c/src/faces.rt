@@ -12,6 +12,7 @@ use bplist_octets::SliceSource;
 use std::alloc::Global;
 
 /// Returns the kind and the body of an object. All numbers are 0 if the certificate does not vouch for the object.
+#[inline(always)]
 fn face_or_zeros(checked: &Checked<SliceSource<'_>>, object: u32) -> BplistBody
     ensures { IsFace checked.now object result }
 {

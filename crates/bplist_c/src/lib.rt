@@ -19,6 +19,8 @@
 //! | `status` | results and outputs, `bplist_version`, `bplist_rule_name`, `bplist_rule_text`, `bplist_status_text` |
 //! | `verdict` | the verdict on a file |
 //! | `linter` | `bplist_lint`, `bplist_circle` |
+//! | `accepted` | files that are accepted, with the verdicts on them |
+//! | `hint` | `bplist_looks_like` |
 //! | `session`, `handle`, `loose` | what an open handle holds, and how C holds it |
 //! | `loan` | lends the checked file of a handle to one call |
 //! | `lifecycle` | `bplist_open`, `bplist_open_certified`, `bplist_close`, `bplist_certificate` |
@@ -33,8 +35,10 @@
 //! again and makes a `Checked` of both by moving them, without a new check.
 #![tactic(auto)]
 
+mod accepted;
 mod faces;
 mod handle;
+mod hint;
 mod lifecycle;
 mod linter;
 mod loan;

@@ -1,39 +1,24 @@
 //! Opens and closes handles.
 
 ghost use Rattle.std.specs.Prelude.{◌≡◌, ◌≢◌, ◌⊎◌, ⊤, ℕ, List, None, Ok, Result, IfSome, IsSome, MatchResult, false};
-ghost use Rattle.bplist_c.specs.Prelude.{Head as head, IsHeadOf, source_over, IsVouchingFault, IsChecked};
-ghost use Rattle.bplist_c.specs.Prelude.{octets_of as certificate_octets, IsCertificate, Lint as lint_answer};
-ghost use Rattle.bplist_c.specs.Prelude.{LintRefusal as lint_refusal, IsFileFault, IsFileCircle, IsLinted, Lints};
-ghost use Rattle.bplist_c.specs.Prelude.{no_circle, Status as status, Closed, Opened, CertificateSays, IsAcceptedFor};
-ghost use Rattle.bplist_c.specs.Prelude.{IsCheckedFor, IsOpened, IsPair, certified, kind_number, IsSame, Puts};
-ghost use Rattle.bplist_c.specs.Prelude.{items_of, number_of as number, NO_VERDICT, ShowsLint};
+ghost use Rattle.bplist_c.specs.Prelude.{source_over, IsVouchingFault, IsChecked, octets_of as certificate_octets};
+ghost use Rattle.bplist_c.specs.Prelude.{IsCertificate, Lint as lint_answer, LintRefusal as lint_refusal};
+ghost use Rattle.bplist_c.specs.Prelude.{IsFileFault, IsFileCircle, IsLinted, Lints, no_circle, Status as status};
+ghost use Rattle.bplist_c.specs.Prelude.{Closed, Opened, CertificateSays, IsCheckedFor, IsOpened, IsPair, IsSame, Puts};
+ghost use Rattle.bplist_c.specs.Prelude.{items_of, number_of as number, NO_VERDICT, ShowsLint, Accepts, Keeps};
 ghost use Rattle.bplist_cert.specs.declared.certificate.CertRefusal.TheVariants as refusals;
 
+use crate::accepted::{Accepted, accept, with_verdict};
 use crate::handle::BplistHandle;
-use crate::linter::{lint_file, show};
-use crate::object::{head_of_object, number_of};
+use crate::linter::lint_file;
 use crate::session::Session;
 use crate::status::{Status, put_answer};
-use crate::verdict::{BplistVerdict, NO_VERDICT, Top};
+use crate::verdict::{BplistVerdict, NO_VERDICT};
 use bplist_cert::{CertRefusal, Certificate, Checked, Refusal, check};
-use bplist_lint::{Lint, upgrade};
-use bplist_objects::trailer_of;
+use bplist_lint::upgrade;
 use bplist_octets::SliceSource;
 use std::alloc::Global;
 use std::mem;
-
-/// Makes the checked file of these bytes and a certificate that is valid for them.
-fn vouched(file: &[u8], certificate: Certificate) -> Checked<SliceSource<'_>>
-    requires { IsAcceptedFor file.now certificate }
-    ensures { IsCheckedFor file.entry certificate result }
-{
-    let mut source = SliceSource::new(file);
-    // A file with a valid certificate has a frame, and the trailer alone gives it.
-    match trailer_of(&mut source) {
-        Ok(frame) => Checked::new(source, frame, certificate),
-        Err(_) => unreachable!(),
-    }
-}
 
 /// Adds key lists to the certificate of a checked file. Returns `None` if memory is refused.
 fn with_keys(alloc: Global, checked: Checked<SliceSource<'_>>) -> Option<Checked<SliceSource<'_>>>
@@ -78,30 +63,30 @@ fn sorted_handle(
     handle_of(alloc, checked)
 }
 
-/// Puts the session of a checked file into a closed handle. `out` already has the verdict on the file. If memory is
-/// refused, it becomes a verdict of zeros, and the handle stays closed.
+/// Puts the session of an accepted file into a closed handle, and tells the verdict and the status. If the file is
+/// refused, or memory is, the handle stays closed.
 fn keep(
     alloc: Global,
     handle: &mut BplistHandle,
-    checked: Checked<SliceSource<'_>>,
+    answer: Result<Accepted<'_>, (Status, BplistVerdict)>,
     sorted: bool,
     out: &mut BplistVerdict,
 ) -> u32
     requires { handle.old.length ≡ 0 }
-    ensures { ((result ≡ 0) × (out.new ≡ out.old)
-        × IsOpened checked.entry.source.octets checked.entry.certificate sorted handle.new)
-        ⊎ ((result ≡ 2) × (out.new ≡ NO_VERDICT) × (handle.new.length ≡ 0)) }
+    ensures { Keeps sorted handle.new out.new result answer.entry }
 {
-    match sorted_handle(alloc, checked, sorted) {
-        Some(opened) => {
-            *handle = opened;
-            0
-        }
-        None => {
-            *out = NO_VERDICT;
-            Status::Memory.number()
-        }
-    }
+    let (status, verdict) = match answer {
+        Ok(Accepted { checked, verdict }) => match sorted_handle(alloc, checked, sorted) {
+            Some(opened) => {
+                *handle = opened;
+                (0, verdict)
+            }
+            None => (Status::Memory.number(), NO_VERDICT),
+        },
+        Err((status, verdict)) => (status.number(), verdict),
+    };
+    *out = verdict;
+    status
 }
 
 /// Lints a file, and opens it if it holds a value.
@@ -123,18 +108,8 @@ pub extern "C" fn bplist_open(
         *out = NO_VERDICT;
         return Status::Opened.number();
     }
-    let answer = lint_file(alloc, file);
-    let status = show(file, &answer, out);
-    match answer {
-        Ok(Lint { certificate, .. }) => keep(
-            alloc,
-            handle,
-            vouched(file, certificate),
-            sorted,
-            out,
-        ),
-        Err(_refusal) => status,
-    }
+    let accepted = accept(file, lint_file(alloc, file));
+    keep(alloc, handle, accepted, sorted, out)
 }
 
 /// Decodes a certificate and checks it against the file. Returns the checked file, or the refusal.
@@ -158,32 +133,21 @@ fn check_pair<'a>(
     }
 }
 
-/// Returns the number of the top's kind.
-fn top_kind(checked: &Checked<SliceSource<'_>>) -> u32
-    ensures { (head : head) → IsHeadOf checked.now.source.octets checked.now.frame checked.now.frame.top.0 head
-        → result ≡ kind_number head.kind }
+/// Returns the file that a certificate vouches for, or the status and the verdict of one that is refused.
+fn accept_pair<'a>(
+    alloc: Global,
+    file: &'a [u8],
+    certificate: &[u8],
+) -> Result<Accepted<'a>, (Status, BplistVerdict)>
+    ensures { (answer : Result lint_answer lint_refusal)
+        × Lints (IsPair file.now certificate.now) (IsVouchingFault file.now certificate.now) no_circle answer
+        × Accepts file.entry answer result }
 {
-    let _octets = checked.octets();
-    let frame = checked.frame();
-    match head_of_object(checked, frame.top.0) {
-        Ok(head) => number_of(head.kind),
-        Err(_) => 0,
+    match check_pair(alloc, file, certificate) {
+        Ok(checked) => with_verdict(checked, 0, 0),
+        Err(CertRefusal::Fault(fault)) => Err((Status::Fault, BplistVerdict::of_fault(fault))),
+        Err(CertRefusal::Memory) => Err((Status::Memory, NO_VERDICT)),
     }
-}
-
-/// Returns the verdict that a certificate gives of a file.
-fn verdict_of(checked: &Checked<SliceSource<'_>>) -> BplistVerdict
-    ensures { ShowsLint checked.now.source.octets (Ok (certified checked.now.frame checked.now.certificate)) result 0 }
-{
-    let _octets = checked.octets();
-    let frame = checked.frame();
-    let top = Top {
-        objects: frame.objects,
-        object: frame.top.0,
-        kind: top_kind(checked),
-        height: checked.height(frame.top),
-    };
-    BplistVerdict::of_top(top, 0, 0)
 }
 
 /// Opens a file with the bytes of a certificate, which may come from anywhere.
@@ -206,20 +170,8 @@ pub extern "C" fn bplist_open_certified(
         *out = NO_VERDICT;
         return Status::Opened.number();
     }
-    match check_pair(alloc, file, certificate) {
-        Ok(checked) => {
-            *out = verdict_of(&checked);
-            keep(alloc, handle, checked, sorted, out)
-        }
-        Err(CertRefusal::Fault(fault)) => {
-            *out = BplistVerdict::of_fault(fault);
-            Status::Fault.number()
-        }
-        Err(CertRefusal::Memory) => {
-            *out = NO_VERDICT;
-            Status::Memory.number()
-        }
-    }
+    let accepted = accept_pair(alloc, file, certificate);
+    keep(alloc, handle, accepted, sorted, out)
 }
 
 /// Closes a handle, and frees what it holds.

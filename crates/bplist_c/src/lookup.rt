@@ -1,14 +1,14 @@
 //! Follows paths and single steps.
 
-ghost use Rattle.std.specs.Prelude.{◌≡◌, ◌∷◌, [], ℕ, Result};
-ghost use Rattle.bplist_c.specs.Prelude.{Status as status, Holds, IsFound, Found as place, FindSays, told_found};
+ghost use Rattle.std.specs.Prelude.{◌≡◌, ◌∷◌, [], ℕ, MatchResult, Result};
+ghost use Rattle.bplist_c.specs.Prelude.{Status as status, Holds, Value as value, IsFound, Found as place, FindSays, told_found};
 ghost use Rattle.bplist_c.specs.Prelude.{step_answer, why_status, OnObject, IsFileOf, IsSame, OnHandle, Tells};
 
 use crate::handle::BplistHandle;
 use crate::loan::{give_back, lend};
 use crate::status::{self, Status};
 use bplist_cert::Checked;
-use bplist_cursor::{Found, Node, Path, PathFault, Why, locate_in_slice, step_from};
+use bplist_cursor::{Found, Node, Path, PathFault, Why, locate, step_from};
 use bplist_objects::ObjectNo;
 use bplist_octets::SliceSource;
 use std::alloc::Global;
@@ -34,6 +34,21 @@ fn status_of(why: Why) -> Status
     }
 }
 
+/// Follows a path from the top. Returns `OtherFile` if an object is not what the check found: then the file has changed.
+fn locate_in(checked: &mut Checked<SliceSource<'_>>, path: &Path) -> Result<Found, Status>
+    ensures same { checked.new ≡ checked.old }
+    ensures exact { MatchResult result (λ found. (v : value) → Holds checked.old.source.octets checked.old.frame
+        checked.old.frame.top.0 v → IsFound checked.old checked.old.frame.top.0 v path.now found) (λ _. ⊥) }
+{
+    let _before = checked.octets();
+    let found = locate(checked, path);
+    let _after = checked.octets();
+    match found {
+        Ok(found) => Ok(found),
+        Err(_) => Err(Status::OtherFile),
+    }
+}
+
 /// Finds the object that a path text leads to, or the place at which the text is wrong.
 fn find(
     alloc: Global,
@@ -47,7 +62,7 @@ fn find(
         return Err(Status::NotUtf8);
     };
     match Path::parse(alloc, text) {
-        Ok(path) => Ok(Ok(locate_in_slice(checked, &path))),
+        Ok(path) => Ok(Ok(locate_in(checked, &path)?)),
         Err(PathFault::Text { place }) => Ok(Err(place as u64)),
         Err(PathFault::Memory) => Err(Status::Memory),
     }

@@ -1,7 +1,7 @@
 //! Gives the kind, the body and the number of an object.
 
-ghost use Rattle.std.specs.Prelude.{◌≡◌, ℕ, IfOk, Ok, Result, length};
-ghost use Rattle.bplist_c.specs.Prelude.{int, IsHeadOf, Spells, leaf, IsSafeBody, IsSafeHead, BplistBody as body};
+ghost use Rattle.std.specs.Prelude.{◌≡◌, ◌<◌, ℕ, IfOk, Ok, Result, length};
+ghost use Rattle.bplist_c.specs.Prelude.{off, IsSafe, int, IsHeadOf, Spells, leaf, IsSafeBody, IsSafeHead, BplistBody as body};
 ghost use Rattle.bplist_c.specs.Prelude.{Status as status, BplistInteger as number, OnObject, body_of, int_answer};
 ghost use Rattle.bplist_c.specs.Prelude.{kind_number, uid_answer, IsFileOf, IsSame, OnHandle, Tells};
 
@@ -9,8 +9,8 @@ use crate::handle::BplistHandle;
 use crate::loan::{give_back, lend};
 use crate::status::{Status, tell};
 use bplist_cert::Checked;
-use bplist_objects::{Head, Kind, ObjectNo, int_of, shape_of, uid_of};
-use bplist_octets::SliceSource;
+use bplist_objects::{Frame, Head, Kind, ObjectNo, int_of, shape_at, uid_of};
+use bplist_octets::{SliceSource, sized};
 use std::alloc::Global;
 
 /// The kind of an object, and its body.
@@ -37,7 +37,29 @@ pub struct BplistInteger {
     pub high: u64,
 }
 
+/// Returns the place of object `n`, as its entry in the offset table gives it. Each usual size of an entry has an arm of
+/// its own, because a read of constant length compiles to no call.
+#[inline(always)]
+fn place_of(file: &[u8], frame: &Frame, n: ObjectNo) -> u64
+    requires safe { IsSafe (length file.now) frame.now }
+    requires within { n.0 < frame.now.objects }
+    ensures { result ≡ off file.now frame.now n.0 }
+{
+    let _objects = frame.objects;
+    let size = frame.offset_size as usize;
+    let at = frame.table as usize + n.0 as usize * size;
+    match size {
+        1 => sized(&file[at..at + 1]),
+        2 => sized(&file[at..at + 2]),
+        3 => sized(&file[at..at + 3]),
+        4 => sized(&file[at..at + 4]),
+        _ => sized(&file[at..at + size]),
+    }
+}
+
 /// Returns the head of a vouched object.
+// Inlined, so that the head stays in registers: a head in memory takes as long as the rest of `bplist_faces`.
+#[inline(always)]
 pub(crate) fn head_of_object(
     checked: &Checked<SliceSource<'_>>,
     object: u32,
@@ -51,8 +73,9 @@ pub(crate) fn head_of_object(
         return Err(Status::NoObject);
     }
     let frame = checked.frame();
-    let mut source = SliceSource::new(checked.octets());
-    match shape_of(&mut source, &frame, n) {
+    let file = checked.octets();
+    let place = place_of(file, &frame, n);
+    match shape_at(&mut SliceSource::new(file), &frame, n, place) {
         Ok(head) => Ok(head),
         Err(_) => Err(Status::NoObject),
     }
@@ -66,6 +89,7 @@ pub(crate) fn number_of(kind: Kind) -> u32
 }
 
 /// Returns the kind and the body of an object.
+#[inline(always)]
 pub(crate) fn face_of(checked: &Checked<SliceSource<'_>>, object: u32) -> Result<BplistBody, Status>
     ensures { OnObject checked.now object IsHeadOf (λ head answer. answer ≡ Ok (body_of head)) result }
 {
@@ -98,7 +122,7 @@ fn integer_of(checked: &Checked<SliceSource<'_>>, object: u32) -> Result<BplistI
     match head.kind {
         Kind::Int => match int_of(&mut SliceSource::new(file), &head) {
             Ok(number) => Ok(halves(number)),
-            Err(_) => unreachable!(),
+            Err(_) => Err(Status::OtherFile),
         },
         _ => Err(Status::OtherKind),
     }
@@ -113,7 +137,7 @@ fn uid_of_object(checked: &Checked<SliceSource<'_>>, object: u32) -> Result<u32,
     match head.kind {
         Kind::Uid => match uid_of(&mut SliceSource::new(file), &head) {
             Ok(number) => Ok(number),
-            Err(_) => unreachable!(),
+            Err(_) => Err(Status::OtherFile),
         },
         _ => Err(Status::OtherKind),
     }

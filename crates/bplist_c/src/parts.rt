@@ -46,10 +46,8 @@ fn read_part(file: &[u8], head: &Head, from: u64, into: &mut [u16])
     requires within { from + length into.old ≤ head.now.count }
     ensures { into.new ≡ part (units_of file.now head.now) from (length into.old) }
 {
-    match read_units(&mut SliceSource::new(file), head, from, into) {
-        Ok(()) => (),
-        Err(_) => unreachable!(),
-    }
+    // No read of a slice fails.
+    let _read = read_units(&mut SliceSource::new(file), head, from, into);
 }
 
 /// Writes the units of a text from unit `from` on to a buffer, as many as there are and as fit. Writes their number to

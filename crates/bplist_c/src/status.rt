@@ -13,7 +13,7 @@ use bplist_objects::{rule_name, rule_of_number, texts_of};
 /// The version, which is also that of the header.
 const MAJOR: u32 = 0;
 
-const MINOR: u32 = 3;
+const MINOR: u32 = 4;
 
 const PATCH: u32 = 0;
 
@@ -28,7 +28,7 @@ pub(crate) enum Status {
     Closed,
     /// The handle to open is already open.
     Opened,
-    /// The file is not the one that was opened.
+    /// The file has changed, or is not the one that was opened.
     OtherFile,
     /// The certificate does not vouch for the object: the number does not exist, or the object is not reachable from
     /// the top.
@@ -100,9 +100,8 @@ impl Status {
             Status::Memory => "A growth of memory was refused.",
             Status::Closed => "The handle is closed.",
             Status::Opened => "The handle is open already.",
-            Status::OtherFile => "The file is not the one that was opened.",
-            Status::NoObject =>
-                "The file has no object with that number, or its top object does not reach it.",
+            Status::OtherFile => "The file has changed, or is not the one that was opened.",
+            Status::NoObject => "The file has no checked object with that number.",
             Status::OtherKind => "The object is of another kind than the call asks for.",
             Status::NoMember => "The object has no such member.",
             Status::NoKey => "The dictionary has no such key.",
@@ -160,7 +159,7 @@ pub(crate) fn put_answer<T: Copy>(
 /// Returns the version as one number.
 #[unsafe(no_mangle)]
 pub extern "C" fn bplist_version() -> u32
-    ensures { result ≡ 0 * 2 ^ 16 + 3 * 2 ^ 8 + 0 }
+    ensures { result ≡ 0 * 2 ^ 16 + 4 * 2 ^ 8 + 0 }
 {
     MAJOR << 16 | MINOR << 8 | PATCH
 }

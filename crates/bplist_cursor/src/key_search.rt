@@ -9,6 +9,8 @@ ghost use Rattle.bplist_cursor.specs.Prelude.{HonestlyChecked, text, Spells, lea
 ghost use Rattle.bplist_cursor.specs.Prelude.{SpellsText, GivesCursor, cursor_read, OnlyReadsFile, part, compare_units};
 ghost use Rattle.bplist_cursor.specs.Prelude.{Keyed, IsVouchedBy, GivesRead, read_failed, SpellTexts, HonestlyKeyed};
 ghost use Rattle.bplist_cursor.specs.Prelude.{IsKeyIndex, IsCompared, IsKeyList, RisesAtMost, ListStarts, IsUnlisted};
+ghost use Rattle.bplist_cursor.specs.Prelude.{IsSafeBody, IsTextKind};
+ghost use Rattle.bplist_objects.specs.Units.{units_of};
 ghost use Rattle.std.specs.List.{AllZip};
 ghost use Rattle.std.specs.Int.Digits.{digits_of};
 
@@ -22,6 +24,22 @@ use bplist_octets::Source;
 use std::alloc::Global;
 use std::cmp::Ordering;
 
+/// Returns the head of text `k`, or `Changed` if object `k` is not a text.
+fn key_head<S: Source>(checked: &mut Checked<S>, k: ObjectNo) -> Result<Head, Unread>
+    requires within { k.0 < checked.old.frame.objects }
+    ensures reads { OnlyReadsFile (read_failed result) checked.old checked.new }
+    ensures exact { HonestlyChecked checked.old (λ f F. (us : list ℕ) → Spells f F k.0 (leaf (text us))
+        → GivesRead (λ head. us ≡ units_of f head) result) }
+    ensures kind { IfOk result (λ head. IsTextKind head.kind) }
+    ensures body { IfOk result (IsSafeBody (length checked.old.source.octets)) }
+{
+    let head = checked_head(checked, k)?;
+    match head.kind {
+        Kind::Ascii | Kind::Wide => Ok(head),
+        _ => Err(Unread::Changed),
+    }
+}
+
 /// Returns the units of text `k`, or `Changed` if object `k` is not a text.
 fn key_text<S: Source>(
     alloc: Global,
@@ -33,11 +51,8 @@ fn key_text<S: Source>(
     ensures exact { HonestlyChecked checked.old (λ f F. (us : list ℕ) → Spells f F k.0 (leaf (text us))
         → GivesCursor (λ units. units ≡ us) result) }
 {
-    let head = checked_head(checked, k)?;
-    match head.kind {
-        Kind::Ascii | Kind::Wide => text_units(alloc, checked, &head),
-        _ => Err(CursorFault::Changed),
-    }
+    let head = key_head(checked, k)?;
+    text_units(alloc, checked, &head)
 }
 
 /// Returns the units of a dictionary's keys, in written order.
@@ -75,11 +90,8 @@ fn compare_key<S: Source>(
         → GivesRead (λ o. o ≡ compare_units us units.now) result) }
     ensures comparisons { comparisons.new ≤ comparisons.old + 1 }
 {
-    let head = checked_head(checked, k)?;
-    match head.kind {
-        Kind::Ascii | Kind::Wide => Ok(key_cmp(checked, &head, units, comparisons)?),
-        _ => Err(Unread::Changed),
-    }
+    let head = key_head(checked, k)?;
+    Ok(key_cmp(checked, &head, units, comparisons)?)
 }
 
 /// Returns the index of the key with these units, found by comparing all keys in turn.

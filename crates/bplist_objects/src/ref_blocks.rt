@@ -1,6 +1,7 @@
 //! The references of an object, block by block.
 
-ghost use Rattle.std.specs.Prelude.{◌≡◌, ◌≤◌, ◌<◌, ◌+◌, ℕ, IfOk, OnOk, IsTrue, is_err, false, length, slice_index, take};
+ghost use Rattle.std.specs.Prelude.{◌≡◌, ◌≤◌, ◌<◌, ◌+◌, ℕ, IfOk, OnOk, OnErr, IsTrue, is_err, false, length};
+ghost use Rattle.std.specs.Prelude.{slice_index, take};
 ghost use Rattle.bplist_objects.specs.Safe.{IsSafeHead, ref_count};
 ghost use Rattle.bplist_objects.specs.Framed.{HonestlyIn, frame_in};
 ghost use Rattle.bplist_objects.specs.Scan.{ref};
@@ -87,12 +88,14 @@ impl RefBlocks {
         }
     }
 
-    /// Reads the next block. Returns false if there are no more references.
+    /// Reads the next block. Returns false if there are no more references. After a failed read the same block is next, and
+    /// `block` may lend anything.
     #[inline(always)]
     pub fn read<P: Framed>(&mut self, src: &mut P) -> Result<bool, ReadFault>
         requires { IsSafeHead (frame_in (P.means src.old)) self.old.head }
         ensures reads { OnlyReads (is_err result) (P.means src.old) (P.means src.new) }
         ensures same { AreOf self.old.head self.old.bound self.new }
+        ensures stays { OnErr result (self.new.next ≡ self.old.next) }
         ensures next { IfOk result (λ more. IsTrue more
             → IsBlock (P.means src.old) self.old.head self.old.bound self.old.next self.new.next (block_of self.new)) }
         ensures first { IfOk result (λ more. IsTrue more → self.new.first ≡ self.old.next) }

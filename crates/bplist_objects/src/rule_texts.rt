@@ -44,15 +44,15 @@ static TEXTS: [(&str, &str); 32] = [
         "byte 7 of the trailer is 0 or 9",
     ),
     (
-        "Offset table and trailer go exactly to the end of the file.",
+        "The offset table and the trailer end exactly at the end of the file.",
         "two entries of one byte each in a table of three bytes",
     ),
     (
-        "A reference has bytes enough to hold the number of objects.",
+        "References are wide enough for the number of objects.",
         "256 objects and references of one byte",
     ),
     (
-        "An entry of the offset table has bytes enough to hold the place of the table.",
+        "Entries of the offset table are wide enough for the place of the table.",
         "a table at place 256 and entries of one byte",
     ),
     (
@@ -68,7 +68,7 @@ static TEXTS: [(&str, &str); 32] = [
         "an object that begins with 0f or 70",
     ),
     (
-        "A count of 15 or more is an integer of 1 to 16 bytes behind the marker.",
+        "If the marker of data, a text or a container ends in f, its count follows as an integer of 1, 2, 4, 8 or 16 bytes.",
         "data that begins with 4f 15",
     ),
     (
@@ -76,7 +76,7 @@ static TEXTS: [(&str, &str); 32] = [
         "data of five bytes, two bytes before the table",
     ),
     (
-        "A text of one byte a character has bytes below 80 (hexadecimal) alone.",
+        "Every byte of an ASCII text is below 0x80.",
         "the text 51 e9",
     ),
     ("A UID is at most 4294967295.", "the UID 84 01 00 00 00 00"),
@@ -121,11 +121,11 @@ static TEXTS: [(&str, &str); 32] = [
         "the heights 1 1 for an array of object 1",
     ),
     (
-        "A path text is empty or begins with /, and 0 or 1 stands behind each ~ in it.",
+        "A path is empty or begins with /. Each ~ in it is followed by 0 or 1.",
         "the path text a/b, or /a~2",
     ),
     (
-        "The objects that count take no more bytes in all than lie between the header and the offset table. For lint the reached ones count, for check those of height 1 or more.",
+        "Together the objects fit between the header and the offset table. lint adds up the reachable objects, check those of height 1 or more.",
         "two objects that lie over one another and fill the file",
     ),
     (

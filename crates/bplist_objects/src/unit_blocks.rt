@@ -1,6 +1,6 @@
 //! The units of a text, block by block.
 
-ghost use Rattle.std.specs.Prelude.{◌≡◌, ◌≤◌, ◌+◌, IfOk, OnOk, IsTrue, is_err, false, length, take};
+ghost use Rattle.std.specs.Prelude.{◌≡◌, ◌≤◌, ◌+◌, IfOk, OnOk, OnErr, IsTrue, is_err, false, length, take};
 ghost use Rattle.bplist_octets.specs.Meaning.{OnlyReads, Honestly};
 ghost use Rattle.bplist_octets.specs.Octets.{part};
 ghost use Rattle.bplist_objects.specs.Safe.{IsSafeBody};
@@ -63,13 +63,15 @@ impl UnitBlocks {
         }
     }
 
-    /// Reads the next block. Returns false if there are no more units.
+    /// Reads the next block. Returns false if there are no more units. After a failed read the same block is next, and
+    /// `block` may lend anything.
     #[inline(always)]
     pub fn read<S: Source>(&mut self, src: &mut S) -> Result<bool, ReadFault>
         requires kind { IsTextKind self.old.head.kind }
         requires head { IsSafeBody (length (S.means src.old).octets) self.old.head }
         ensures reads { OnlyReads (is_err result) (S.means src.old) (S.means src.new) }
         ensures same { self.new.head ≡ self.old.head }
+        ensures stays { OnErr result (self.new.next ≡ self.old.next) }
         ensures next { IfOk result (λ more. IsTrue more
             → IsUnitBlock (S.means src.old) self.old.head self.old.next self.new.next (last_units self.new)) }
         ensures end { IfOk result (λ more. more ≡ false

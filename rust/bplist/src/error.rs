@@ -1,7 +1,7 @@
 //! Why a file is refused, and why a path leads to no value.
 
 use std::error;
-use std::fmt::{self, Display, Formatter};
+use std::fmt::{self, Debug, Display, Formatter};
 
 use crate::ffi::{self, Status, Verdict};
 
@@ -15,7 +15,7 @@ const CERTIFICATES: std::ops::RangeInclusive<u32> = 24..=27;
 const KEY_ORDER: u32 = 32;
 
 /// A rule about property lists or certificates. Rules have numbers from 1 to 32.
-#[derive(Clone, Copy, Debug, PartialEq, Eq, Hash, PartialOrd, Ord)]
+#[derive(Clone, Copy, PartialEq, Eq, Hash, PartialOrd, Ord)]
 pub struct Rule(u32);
 
 impl Rule {
@@ -32,6 +32,13 @@ impl Rule {
     /// Returns what the rule requires, as one sentence, for example `The keys of a dictionary differ.`
     pub fn sentence(self) -> String {
         ffi::rule_text(self.0)
+    }
+}
+
+impl Debug for Rule {
+    /// Writes number and name, as in `Rule(3, Magic)`.
+    fn fmt(&self, f: &mut Formatter<'_>) -> fmt::Result {
+        write!(f, "Rule({}, {})", self.number(), self.name())
     }
 }
 
@@ -118,6 +125,8 @@ pub enum Error {
     Refused(Fault),
     /// Memory was refused. The call can be repeated.
     OutOfMemory,
+    /// Somebody has changed the bytes of the file during the call. Only unsafe code can do that, as in a mapped file.
+    Changed,
 }
 
 impl Error {
@@ -128,6 +137,7 @@ impl Error {
                 Ok(fault) => Error::Refused(fault),
                 Err(_) => Error::OutOfMemory,
             },
+            Status::OTHER_FILE => Error::Changed,
             _ => Error::OutOfMemory,
         }
     }
@@ -138,6 +148,7 @@ impl Display for Error {
         match self {
             Error::Refused(fault) => Display::fmt(fault, f),
             Error::OutOfMemory => f.write_str("out of memory"),
+            Error::Changed => f.write_str("the file has changed"),
         }
     }
 }

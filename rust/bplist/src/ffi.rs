@@ -17,6 +17,7 @@ impl Status {
     pub(crate) const OK: Status = Status(0);
     pub(crate) const FAULT: Status = Status(1);
     pub(crate) const MEMORY: Status = Status(2);
+    pub(crate) const OTHER_FILE: Status = Status(5);
     pub(crate) const NO_OBJECT: Status = Status(6);
     pub(crate) const NO_KEY: Status = Status(9);
     pub(crate) const NO_INDEX: Status = Status(10);
@@ -119,6 +120,13 @@ extern "C" {
         room: usize,
         count: *mut u64,
     ) -> Status;
+    fn bplist_looks_like(
+        file: *const u8,
+        length: usize,
+        words: *mut u8,
+        room: usize,
+        count: *mut u64,
+    ) -> Status;
     fn bplist_rule_name(rule: u32, name: *mut u8, room: usize, count: *mut u64) -> Status;
     fn bplist_rule_text(rule: u32, text: *mut u8, room: usize, count: *mut u64) -> Status;
     fn bplist_status_text(status: u32, text: *mut u8, room: usize, count: *mut u64) -> Status;
@@ -211,12 +219,27 @@ fn answer<T>(status: Status, found: T) -> Result<T, Status> {
     }
 }
 
-/// Returns a name or a sentence. All are ASCII, of at most 200 bytes.
+/// Returns a name or a sentence.
 fn sentence(call: Writes, number: u32) -> String {
+    text_by(|text, room, count| {
+        // SAFETY: `text_by` gives the bytes and the number.
+        unsafe { call(number, text, room, count) }
+    })
+}
+
+/// Returns what a file looks like, in words, or an empty text.
+pub(crate) fn looks_like(file: &[u8]) -> String {
+    text_by(|text, room, count| {
+        // SAFETY: `text_by` gives the bytes and the number.
+        unsafe { bplist_looks_like(file.as_ptr(), file.len(), text, room, count) }
+    })
+}
+
+/// Returns the text that a call writes. All are ASCII, of at most 200 bytes.
+fn text_by(call: impl FnOnce(*mut u8, usize, *mut u64) -> Status) -> String {
     let mut text = [0; 200];
     let mut count = 0;
-    // SAFETY: `text` and `count` are local to this function.
-    let status = unsafe { call(number, text.as_mut_ptr(), text.len(), &mut count) };
+    let status = call(text.as_mut_ptr(), text.len(), &mut count);
     match answer(status, count as usize) {
         Ok(count) => String::from_utf8_lossy(&text[..count]).into_owned(),
         Err(_) => String::new(),
@@ -247,9 +270,21 @@ pub(crate) fn lint(file: &[u8]) -> (Status, Verdict) {
     (status, verdict)
 }
 
+/// Makes the buffer longer, with zeros. A circle or a certificate is as long as a hostile file likes, so refused memory
+/// is a status and does not end the process.
+fn grow<T: Clone + Default>(buffer: &mut Vec<T>, length: u64) -> Result<(), Status> {
+    let length = usize::try_from(length).map_err(|_| Status::MEMORY)?;
+    buffer
+        .try_reserve_exact(length.saturating_sub(buffer.len()))
+        .map_err(|_| Status::MEMORY)?;
+    buffer.resize(length, T::default());
+    Ok(())
+}
+
 /// Returns the objects of the circle for which a file is refused.
 pub(crate) fn circle(file: &[u8], length: u64) -> Result<Vec<u32>, Status> {
-    let mut objects = vec![0; length as usize];
+    let mut objects = Vec::new();
+    grow(&mut objects, length)?;
     let mut count = 0;
     // SAFETY: `objects` and `count` are local to this function.
     let status = unsafe {
@@ -436,7 +471,7 @@ impl<'f> Session<'f> {
                 )
             };
             match status {
-                Status::SHORT => octets.resize(count as usize, 0),
+                Status::SHORT => grow(&mut octets, count)?,
                 other => return answer(other, octets),
             }
         }

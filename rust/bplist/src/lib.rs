@@ -23,7 +23,7 @@
 //! | to do this | items |
 //! |---|---|
 //! | open a file | [`Plist::open`], [`Options`], [`Plist`] |
-//! | learn whether a file holds a value, and why not | [`lint`], [`Error`], [`Fault`], [`Rule`] |
+//! | learn whether a file holds a value, and why not | [`lint`], [`looks_like`], [`Error`], [`Fault`], [`Rule`] |
 //! | read a value | [`Value`], [`Text`], [`Date`], [`Array`], [`Set`], [`Dict`] |
 //! | follow a path | [`Plist::at`], [`PathError`] |
 //!
@@ -33,20 +33,25 @@
 //!
 //! The crate is a layer over the C library bplist. The answers of the library are proved; this layer is tested. It has
 //! no dependencies. The build looks for `libbplist.a` in the directory that the environment variable `BPLIST_LIB_DIR`
-//! names, or with pkg-config. All unsafe code is in one module, `ffi`.
+//! names, or with pkg-config. All unsafe code is in one module, `ffi`. The folder `examples` has two small programs.
 #![deny(unsafe_code)]
 #![warn(missing_docs)]
 
+#[forbid(unsafe_code)]
 mod containers;
+#[forbid(unsafe_code)]
 mod error;
 #[allow(unsafe_code)]
 mod ffi;
+#[forbid(unsafe_code)]
 mod plist;
+#[forbid(unsafe_code)]
 mod text;
+#[forbid(unsafe_code)]
 mod value;
 
 pub use containers::{Array, Dict, Iter, Pairs, Set};
 pub use error::{Error, Fault, PathError, Rule};
-pub use plist::{library_version, lint, Options, Plist, Summary};
+pub use plist::{library_version, lint, looks_like, Options, Plist, Summary};
 pub use text::{Text, Units};
 pub use value::{Date, Value};

@@ -44,6 +44,17 @@ pub fn lint(file: &[u8]) -> Result<Summary, Error> {
     }
 }
 
+/// Returns what a file looks like that holds no value, in words, or `None` if that is not known. The words are a guess
+/// from the first and the last bytes. A file with a right header, trailer and offset table has none.
+///
+/// ```
+/// let words = bplist::looks_like(b"<?xml version='1.0'?><plist><true/></plist>");
+/// assert_eq!(words.as_deref(), Some("an XML property list"));
+/// ```
+pub fn looks_like(file: &[u8]) -> Option<String> {
+    Some(ffi::looks_like(file)).filter(|words| !words.is_empty())
+}
+
 /// Returns the version of the linked libbplist.a: major, minor and patch number.
 pub fn library_version() -> (u8, u8, u8) {
     let [_, major, minor, patch] = ffi::version().to_be_bytes();
@@ -144,8 +155,8 @@ impl<'f> Plist<'f> {
         }
     }
 
-    /// Returns the value of the object with this number, or `None` if the number does not exist or the object is not
-    /// reachable from the top.
+    /// Returns the value of the object with this number, or `None` if the file has no checked object with that number.
+    /// Objects that the top does not reach are checked only if a certificate gives them a height.
     pub fn object(&self, number: u32) -> Option<Value<'_>> {
         Value::of(&self.session, number)
     }

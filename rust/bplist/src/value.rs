@@ -43,8 +43,7 @@ pub(crate) fn known<T>(answer: Result<T, Status>) -> T {
 }
 
 impl<'a> Value<'a> {
-    /// Returns the value of an object, or `None` if the number does not exist or the object is not reachable from the
-    /// top.
+    /// Returns the value of an object, or `None` if the file has no checked object with that number.
     pub(crate) fn of(session: &'a Session<'a>, object: u32) -> Option<Value<'a>> {
         let body = match session.face(object) {
             Err(Status::NO_OBJECT) => return None,

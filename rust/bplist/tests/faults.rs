@@ -2,7 +2,7 @@
 
 mod common;
 
-use bplist::{library_version, lint, Error, Fault, Options, Plist};
+use bplist::{library_version, lint, looks_like, Error, Fault, Options, Plist};
 use common::file;
 
 fn fault<T: std::fmt::Debug>(answer: Result<T, Error>) -> Fault {
@@ -41,7 +41,25 @@ fn of_lint() {
         (short.rule().name().as_str(), short.object(), short.place()),
         ("TooShort", None, Some(0))
     );
+    assert_eq!(
+        format!("{:?}", Error::Refused(short)),
+        "Refused(Fault { rule: Rule(2, TooShort), object: None, place: Some(0), circle: [] })"
+    );
     assert_eq!(lint(&file(&[b"\x09"])).unwrap().reached, 1);
+}
+
+#[test]
+fn of_looks() {
+    let sound = file(&[b"\x09"]);
+    assert_eq!(looks_like(&sound), None);
+    let longer = [&sound[..], b"\r\n"].concat();
+    let place = sound.len() - 32;
+    assert_eq!(
+        looks_like(&longer),
+        Some(format!("2 bytes too many after a trailer at {place}"))
+    );
+    assert_eq!(looks_like(b"").as_deref(), Some("an empty file"));
+    assert_eq!(looks_like(b"anything else"), None);
 }
 
 #[test]

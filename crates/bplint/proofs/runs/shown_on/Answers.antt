@@ -10,3 +10,6 @@ returns-in-Text g c = λ honest. rw c.in-Text.is (c.show_text_on.ensures.exact h
 
 pub returns-in-Tree : goal.returns-in-Tree
 returns-in-Tree g c = λ honest. rw c.in-Tree.is (c.list_all_on.ensures.exact honest)
+
+pub returns-in-Members : goal.returns-in-Members
+returns-in-Members g c = λ honest. rw c.in-Members.is (c.list_on.ensures.exact honest)

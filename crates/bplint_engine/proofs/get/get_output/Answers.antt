@@ -1,6 +1,7 @@
 use Rattle.std.proofs.lemmas.Grind.{merely}
 use Rattle.bplint_engine.specs.Check.{CheckSays}
 use Rattle.bplint_engine.specs.Get.{found_line}
+use Rattle.bplint_lines.specs.declared.texts.Style.TheVariants.{OldStyle}
 use Rattle.bplint_engine.proofs.GetAnswers.{certified_say}
 use Rattle.bplint_engine.proofs.PathAnswers.{AreLines, file_refused, path_refused}
 use Rattle.bplint_engine.proofs.PathQueries.{bytes_of}
@@ -10,12 +11,12 @@ use Rattle.bplint_engine.proofs.get.get_output.Goals as goal
 pub returns-in-Err-clause-exact : goal.returns-in-Err-clause-exact
 returns-in-Err-clause-exact g c =
     λ honest cert made. let f = (g.S.Source.means c.args.src).octets in
-    merely (path_refused (CheckSays f cert) f (bytes_of c.args.texts.now) (AreLines found_line) _ c.in-Err.ensures)
+    merely (path_refused (CheckSays f cert) f (bytes_of c.args.texts.now) (AreLines (found_line OldStyle)) _ c.in-Err.ensures)
 
 pub returns-in-Err-decoded-clause-exact : goal.returns-in-Err-decoded-clause-exact
 returns-in-Err-decoded-clause-exact g c =
     λ honest cert made. let f = (g.S.Source.means c.args.src).octets in
-    merely (file_refused (CheckSays f cert) f (bytes_of c.args.texts.now) (AreLines found_line) _ _ c.in-Ok.ensures.1
+    merely (file_refused (CheckSays f cert) f (bytes_of c.args.texts.now) (AreLines (found_line OldStyle)) _ _ c.in-Ok.ensures.1
     (rw c.from.ensures (octets_refused f cert c.in-Err-decoded.refusal (rw c.in-Err-decoded.is at made))))
 
 pub returns-clause-exact : goal.returns-clause-exact

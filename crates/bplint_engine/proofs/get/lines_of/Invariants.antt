@@ -4,4 +4,4 @@ use Rattle.bplint_engine.specs.Get.{reply_line}
 use Rattle.bplint_engine.proofs.get.lines_of.Given as goal
 
 abbrev pub invariant-loop-reply : goal.invariant-loop-reply
-invariant-loop-reply l = l.bytes.items ≡ flat_map reply_line (take l.reply-index l.replies)
+invariant-loop-reply l = l.bytes.items ≡ flat_map (reply_line l.style) (take l.reply-index l.replies)

@@ -16,6 +16,6 @@ loop-i-preserved g c = record {
       let adds = rw c.loop-i.invariant.same at c.in_ok-add_member.ensures.exact in
       let path = c.args.container.now.path.now in
       rw add-one (adds honest w of is
-      ∙ ap (λ x. x ++ member_line path w c.loop-i.i) (c.loop-i.invariant.lines honest w of is)
-      ∙ append_assoc c.args.lines.now.items (first_lines path w c.loop-i.i) (member_line path w c.loop-i.i));
+      ∙ ap (λ x. x ++ member_line c.args.container.now.style path w c.loop-i.i) (c.loop-i.invariant.lines honest w of is)
+      ∙ append_assoc c.args.lines.now.items (first_lines c.args.container.now.style path w c.loop-i.i) (member_line c.args.container.now.style path w c.loop-i.i));
 }

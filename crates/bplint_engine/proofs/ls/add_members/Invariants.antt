@@ -9,5 +9,5 @@ invariant-loop-i g l = record {
   same : l.checked ≡ l.fn.checked;
   lines : IsTrue l.fn.checked.source.honest → (w : Value) → IsHeadFor l.fn.checked l.container.head w
       → IsContainer l.container.members l.container.count w
-      → l.lines.items ≡ l.initial.lines.items ++ first_lines l.container.path.now w l.i;
+      → l.lines.items ≡ l.initial.lines.items ++ first_lines l.container.style l.container.path.now w l.i;
 }

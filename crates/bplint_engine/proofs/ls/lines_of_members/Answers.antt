@@ -8,5 +8,5 @@ returns-clause-exact g c =
     λ honest w of is. let container = c.args.container.now in
     let empty : c.new-lines.result.items ≡ [] = search rules in
     c.in_ok-add_members.ensures.exact honest w of is
-    ∙ ap (λ xs. xs ++ first_lines container.path.now w container.count) empty
-    ∙ container_listed container.members container.count container.path.now w is
+    ∙ ap (λ xs. xs ++ first_lines container.style container.path.now w container.count) empty
+    ∙ container_listed container.style container.members container.count container.path.now w is

@@ -17,4 +17,4 @@ pub returns-in_ok-bytes-in-At-clause-exact : goal.returns-in_ok-bytes-in-At-clau
 returns-in_ok-bytes-in-At-clause-exact g c =
     λ honest v holds. let found = rw c.in-At.is at (c.in_ok-node.ensures.exact honest v holds) in
     let lists = rw c.in_ok-node.ensures.reads at c.in_ok-bytes-in-At.ensures.exact in
-    subst (λ r. (All ≡ said_of (r ∷ [])) × (c.in_ok-bytes-in-At.bytes.items ≡ listed c.args.text.now r)) (sym found.2.1) (refl, lists honest found.1 found.2.0 found.2.2)
+    subst (λ r. (All ≡ said_of (r ∷ [])) × (c.in_ok-bytes-in-At.bytes.items ≡ listed c.args.style c.args.text.now r)) (sym found.2.1) (refl, lists honest found.1 found.2.0 found.2.2)

@@ -5,6 +5,7 @@ use Rattle.bplist_cursor.specs.Leads.{LeadTo}
 use Rattle.bplint_lines.specs.declared.fault.Said.TheVariants.{SomeMissing}
 use Rattle.bplint_lines.specs.Answers.{gives}
 use Rattle.bplint_engine.specs.Get.{found_line}
+use Rattle.bplint_lines.specs.declared.texts.Style.TheVariants.{OldStyle}
 use Rattle.bplint_engine.specs.Raw.{LeadsToRawless, NodeShowsRaw, PathShowsRaw, raw_bytes}
 use Rattle.bplint_engine.proofs.LeftBytes.{sent_within}
 use Rattle.bplint_engine.proofs.SentAnswers.{cursor_leaves, missing_made, raw_as}
@@ -24,7 +25,7 @@ returns-in-At-clause-exact g c = λ honest v holds.
     let w = found.2.0 in
     raw_as (NodeShowsRaw w) (PathShowsRaw c.args.path.now v) (λ n. (n ≡ c.in-At.node.object.0) × (raw_bytes w ≡ None)) (LeadsToRawless file.source.octets file.frame c.args.path.now v)
     _ _ _
-    (λ a h. subst (λ r. MatchResult r (λ x. NodeShowsRaw x a) (λ missing. a ≡ gives SomeMissing (found_line (Err missing)))) (sym found.2.1) h)
+    (λ a h. subst (λ r. MatchResult r (λ x. NodeShowsRaw x a) (λ missing. a ≡ gives SomeMissing (found_line OldStyle (Err missing)))) (sym found.2.1) h)
     (λ n h. (w, subst (LeadTo file.source.octets file.frame file.frame.top.0 c.args.path.now) (sym h.0) found.0, found.2.1, h.1))
     (left honest found.1 w found.2.2)
 
@@ -33,7 +34,7 @@ returns-in_err-send_output-in-Missing-clause-exact g c = λ honest v holds.
     let found = rw c.in-Missing.is at (c.in_ok-node.ensures.exact honest v holds) in
     let p = err_from_is_err_and c.from_residual-in_err-send_output-in-Missing.result c.from_residual-in_err-send_output-in-Missing.ensures.1 in
     let says = missing_made (PathShowsRaw c.args.path.now v) _ _ _
-    (λ a h. subst (λ r. MatchResult r (λ x. NodeShowsRaw x a) (λ missing. a ≡ gives SomeMissing (found_line (Err missing)))) (sym found) h)
+    (λ a h. subst (λ r. MatchResult r (λ x. NodeShowsRaw x a) (λ missing. a ≡ gives SomeMissing (found_line OldStyle (Err missing)))) (sym found) h)
     c.missing_output.ensures.made c.missing_output.ensures.refused in
     let old = g.W.Write.contents c.args.out.now in
     let new = g.W.Write.contents c.send_output.new.out in
@@ -43,7 +44,7 @@ pub returns-in_ok-send_output-in-Missing-clause-exact : goal.returns-in_ok-send_
 returns-in_ok-send_output-in-Missing-clause-exact g c = λ honest v holds.
     let found = rw c.in-Missing.is at (c.in_ok-node.ensures.exact honest v holds) in
     let says = missing_made (PathShowsRaw c.args.path.now v) _ _ _
-    (λ a h. subst (λ r. MatchResult r (λ x. NodeShowsRaw x a) (λ missing. a ≡ gives SomeMissing (found_line (Err missing)))) (sym found) h)
+    (λ a h. subst (λ r. MatchResult r (λ x. NodeShowsRaw x a) (λ missing. a ≡ gives SomeMissing (found_line OldStyle (Err missing)))) (sym found) h)
     c.missing_output.ensures.made c.missing_output.ensures.refused in
     let old = g.W.Write.contents c.args.out.now in
     let new = g.W.Write.contents c.send_output.new.out in

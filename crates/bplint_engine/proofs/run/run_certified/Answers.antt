@@ -6,6 +6,7 @@ use Rattle.bplint_engine.specs.Certify.{CertifySays}
 use Rattle.bplint_engine.specs.Commands.{Asked}
 use Rattle.bplint_engine.specs.Check.{CheckSays}
 use Rattle.bplint_engine.specs.Get.{LinesSay, found_line}
+use Rattle.bplint_lines.specs.declared.texts.Style.TheVariants.{OldStyle}
 use Rattle.bplint_engine.specs.Said.{Says, most}
 use Rattle.bplint_engine.proofs.LeftBytes.{sent}
 use Rattle.bplint_engine.proofs.run.run_certified.Goals as goal
@@ -17,7 +18,7 @@ returns-in-Get-clause-exact g c =
     let lent = c.deref.ensures.value in
     let made = rw lent at (c.get_output.ensures.exact honest cert decoded) in
     let f = (g.S.Source.means c.args.src).octets in
-    rw (← view) (rw is (∥∥₁_map made (λ m. sent (LinesSay found_line (CheckSays f cert) f _) 0 _ _ _ _ m c.send_made-in-Get.ensures.sent)))
+    rw (← view) (rw is (∥∥₁_map made (λ m. sent (LinesSay (found_line OldStyle) (CheckSays f cert) f _) 0 _ _ _ _ m c.send_made-in-Get.ensures.sent)))
 
 pub returns-in-Print-clause-exact : goal.returns-in-Print-clause-exact
 returns-in-Print-clause-exact g c =

@@ -12,7 +12,7 @@ use Rattle.bplint_engine.proofs.tree_walk.begin.Goals as goal
 pub returns-in_err-members-clause-exact : goal.returns-in_err-members-clause-exact
 returns-in_err-members-clause-exact g c = λ honest w held.
     let p = err_from_is_err_and c.from_residual.result c.from_residual.ensures.1 in
-    rw (p.1, p.2) (λ few. line_fails _ _ _ (name_in c.args.listing.now.names c.args.at.name) w _ c.args.listing.now.room (c.in_err-members.ensures.exact honest w held) few)
+    rw (p.1, p.2) (λ few. line_fails c.args.style _ _ _ (name_in c.args.listing.now.names c.args.at.name) w _ c.args.listing.now.room (c.in_err-members.ensures.exact honest w held) few)
 
 pub returns-in_err-head-clause-exact : goal.returns-in_err-head-clause-exact
 returns-in_err-head-clause-exact g c = λ honest w held.
@@ -22,14 +22,14 @@ returns-in_err-head-clause-exact g c = λ honest w held.
     let content = held_members file.source.octets file.frame w c.args.at.node.object.0 held.1 in
     let stops = rw c.in_ok-members.ensures.reads at c.in_err-head.ensures.exact in
     let line = c.in_ok-members.ensures.exact honest w held in
-    rw (p.1, p.2) (λ few. line_stopped _ _ name w _ line.0 (unread_excused c.in_err-head.field-0.0 (stops honest held.0 content.0 content.1)))
+    rw (p.1, p.2) (λ few. line_stopped c.args.style _ _ name w _ line.0 (unread_excused c.in_err-head.field-0.0 (stops honest held.0 content.0 content.1)))
 
 pub returns-in_err-push-clause-exact : goal.returns-in_err-push-clause-exact
 returns-in_err-push-clause-exact g c = λ honest w held.
     let is : c.from_residual-in_err-push.result ≡ Err Memory = search rules in
     let name = name_in c.args.listing.now.names c.args.at.name in
     let line = c.in_ok-members.ensures.exact honest w held in
-    rw is (λ few. line_stopped _ _ name w Memory line.0 tt)
+    rw is (λ few. line_stopped c.args.style _ _ name w Memory line.0 tt)
 
 pub returns-clause-exact : goal.returns-clause-exact
 returns-clause-exact g c = λ honest w held left stands.
@@ -38,5 +38,5 @@ returns-clause-exact g c = λ honest w held left stands.
     let is = rw c.in-Some.is at line.1 in
     let heads = (rw c.in_ok-members.ensures.reads at c.in_ok-head.ensures.exact) honest held.0 in
     let o : Opened = record { head = c.in_ok-head.head; members = c.in-Some.members; count = c.in-Some.count; next = 0; name = c.args.at.name } in
-    begun_container file _ _ c.args.listing.now _ o w left (c.args.at.node.object.0, held.0, held.1, heads) is refl c.requires.name.1
+    begun_container c.args.style file _ _ c.args.listing.now _ o w left (c.args.at.node.object.0, held.0, held.1, heads) is refl c.requires.name.1
     line.0 c.in_ok-members.ensures.room c.in_ok-members.ensures.names (c.in_ok-push.ensures.items ∙ ap (λ l. l ++ o ∷ []) c.in_ok-members.ensures.stack) stands

@@ -14,7 +14,7 @@ invariant-loop-opened g l = record {
   same : l.checked ≡ l.fn.checked;
   stack : AreOpen l.fn.checked.frame l.listing.names (reverse l.listing.stack.items);
   lines : IsTrue l.fn.checked.source.honest → (w : Value) → IsHeld l.fn.checked l.fn.top.node.object.0 w
-      → GoesOn l.fn.checked (g.W.Write.contents l.fn.out) (g.W.Write.contents l.out) l.fn.listing l.listing (tree_lines (name_in l.fn.listing.names l.fn.top.name) w);
+      → GoesOn l.fn.style l.fn.checked (g.W.Write.contents l.fn.out) (g.W.Write.contents l.out) l.fn.listing l.listing (tree_lines l.fn.style (name_in l.fn.listing.names l.fn.top.name) w);
 }
 
 abbrev pub decreases-loop-opened : goal.decreases-loop-opened

@@ -20,7 +20,7 @@ returns-then-is_done-clause-stack g c =
 pub returns-then-is_done-clause-exact : goal.returns-then-is_done-clause-exact
 returns-then-is_done-clause-exact g c = λ honest left stands.
     let done : c.args.opened.next ≡ c.args.opened.count = first_of (search rules, grind (arith, common_steps)) in
-    step_ends c.args.checked.now c.args.checked.now.frame _ c.args.listing.now c.args.opened left done c.requires.stack stands
+    step_ends c.args.style c.args.checked.now c.args.checked.now.frame _ c.args.listing.now c.args.opened left done c.requires.stack stands
 
 pub returns-in_err-at-clause-exact : goal.returns-in_err-at-clause-exact
 returns-in_err-at-clause-exact g c = λ honest left stands.
@@ -41,7 +41,7 @@ returns-clause-exact g c = λ honest left stands.
     let of = stands.2 in
     let member = c.in_ok-at.ensures.exact honest of.0 of.1 of.2 in
     let name = name_in c.name_member.new.listing.names c.in_ok-at.at.name in
-    let next = left_next file names c.name_member.new.listing.names o (reverse c.args.listing.now.stack.items) stands.0 stands.1 left of.0 name member.0 of.1 of.2 of.3 stands.3 stands.4
+    let next = left_next c.args.style file names c.name_member.new.listing.names o (reverse c.args.listing.now.stack.items) stands.0 stands.1 left of.0 name member.0 of.1 of.2 of.3 stands.3 stands.4
     member.1 c.in_ok-at.ensures.name.same in
     let pushed = next.stands (o.next + 1) refl in
     let kept = c.name_member.new.listing in
@@ -50,5 +50,5 @@ returns-clause-exact g c = λ honest left stands.
     ap reverse c.in_ok-push.ensures.items ∙ reverse-append kept.stack.items (on ∷ []) ∙ ap (λ l. on ∷ reverse l) c.in_ok-at.ensures.rest.stack in
     let begins = (rw c.in_ok-at.ensures.reads at c.begin.ensures.exact) honest member.0 member.2 in
     let mid : Listing = record { alloc = kept.alloc; stack = c.push.new.self; names = kept.names; line = kept.line; room = kept.room; sink = kept.sink } in
-    step_goes file (g.W.Write.contents c.args.out.now) (g.W.Write.contents c.begin.new.out) c.begin.result c.args.listing.now mid c.begin.new.listing left (tree_lines name member.0) next.rest
-    next.is c.in_ok-at.ensures.rest.sink c.in_ok-at.ensures.rest.room (subst (λ os. StackLeft file kept.names os next.rest) (sym items) pushed) begins
+    step_goes c.args.style file (g.W.Write.contents c.args.out.now) (g.W.Write.contents c.begin.new.out) c.begin.result c.args.listing.now mid c.begin.new.listing left (tree_lines c.args.style name member.0) next.rest
+    next.is c.in_ok-at.ensures.rest.sink c.in_ok-at.ensures.rest.room (subst (λ os. StackLeft c.args.style file kept.names os next.rest) (sym items) pushed) begins

@@ -1,4 +1,4 @@
-use Rattle.std.proofs.Common.{arith, ◌≡◌, ◌++◌, ◌∙◌, Ok, length, drop, slice_index_or, refl, sym, ap, subst}
+use Rattle.std.proofs.Common.{arith, ◌≡◌, ◌++◌, ◌∙◌, Ok, length, drop, slice_index_or, sym, ap, subst}
 use Rattle.std.proofs.lemmas.List.{get_or-take, length-take-le}
 use Rattle.bplist_c.specs.Objects.{IsFace}
 use Rattle.bplist_c.proofs.UnitSteps.{fitting}

@@ -1,29 +1,14 @@
 use Rattle.std.proofs.Common.{◌∙◌, sym}
 use Rattle.std.proofs.lemmas.Result.{err_from_is_err_and}
-use Rattle.bplist_objects.specs.Value.{text}
-use Rattle.bplist_objects.specs.Heads.{leaf}
-use Rattle.bplist_objects.proofs.Leaves.{text_value}
 use Rattle.bplist_cursor.proofs.Causes.{unread_excused}
 use Rattle.bplist_cursor.proofs.VouchedObjects.{gives_weaker}
-use Rattle.bplist_cursor.proofs.Keys.{text_kinds}
 use Rattle.bplist_cursor.proofs.key_search.key_text.Goals as goal
 
 pub returns-in_err-head-clause-exact : goal.returns-in_err-head-clause-exact
 returns-in_err-head-clause-exact g c = λ honest us s.
     let p = err_from_is_err_and c.from_residual.result c.from_residual.ensures.1 in
-    rw (p.1, p.2) (unread_excused c.in_err-head.field-0.0 (c.in_err-head.ensures.exact honest (leaf (text us)) s))
+    rw (p.1, p.2) (unread_excused c.in_err-head.field-0.0 (c.in_err-head.ensures.exact honest us s))
 
-pub returns-in-Ascii-clause-exact : goal.returns-in-Ascii-clause-exact
-returns-in-Ascii-clause-exact g c = λ honest us s.
-    let head = c.in_ok-head.head in
-    let is = text_value c.args.checked.now.source.octets c.args.checked.now.frame head.kind head.count head.body us (c.in_ok-head.ensures.exact honest (leaf (text us)) s) in
-    gives_weaker _ _ c.text_units.result (λ units told. told honest ∙ sym is.1) (rw c.in_ok-head.ensures.reads at c.text_units.ensures.value)
-
-pub returns-in_default : goal.returns-in_default
-returns-in_default g c = record {
-  reads = c.in_ok-head.ensures.reads;
-  exact = λ honest us s.
-      let head = c.in_ok-head.head in
-      let is = text_value c.args.checked.now.source.octets c.args.checked.now.frame head.kind head.count head.body us (c.in_ok-head.ensures.exact honest (leaf (text us)) s) in
-      absurd (text_kinds head.kind is.0 c.in_default.not-Ascii c.in_default.not-Wide);
-}
+pub returns-clause-exact : goal.returns-clause-exact
+returns-clause-exact g c = λ honest us s.
+    gives_weaker _ _ c.text_units.result (λ units told. told honest ∙ sym (c.in_ok-head.ensures.exact honest us s)) (rw c.in_ok-head.ensures.reads at c.text_units.ensures.value)

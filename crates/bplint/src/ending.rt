@@ -1,0 +1,132 @@
+//! How a run ends: the line of its fault on standard error, with what is below it, and the exit status.
+
+ghost use Rattle.std.specs.Prelude.{◌≡◌, Err, MatchResult, None, Ok};
+ghost use Rattle.bplint.specs.ExitStatuses.{EndsWith, IsRefusedWith};
+ghost use Rattle.clap.specs.Values.{kind_of};
+
+use bplint_lines::{RawFault, RunFault, Said};
+use clap::Error;
+use clap::error::ErrorKind;
+use std::alloc::{AllocError, Global};
+
+/// The exit status of a wrong command line.
+pub const WRONG_LINE: u8 = 2;
+
+/// How a run ended.
+#[derive(Drop)]
+pub struct Ending {
+    pub answer: Result<Said, RawFault>,
+    /// Lines for standard error: below the line of the fault, or alone if there is no fault.
+    pub under: String,
+    /// True if a fault has no line, because nobody reads standard output any more.
+    pub silent: bool,
+}
+
+impl Ending {
+    /// The end of a run with this answer, with nothing below it.
+    pub fn of(alloc: Global, answer: Result<Said, RunFault>) -> Ending
+        ensures { MatchResult answer (λ said. result.answer ≡ Ok said) (λ fault. result.answer ≡ Err (RawFault.Run fault)) }
+    {
+        Ending::over(answer.map_err(RawFault::Run), String::new(alloc))
+    }
+
+    /// The end of a run with this fault, with nothing below it.
+    pub fn with(alloc: Global, fault: RunFault) -> Ending
+        ensures { result.answer ≡ Err (RawFault.Run fault) }
+    {
+        Ending::of(alloc, Err(fault))
+    }
+
+    /// The end of a run with this answer over these lines.
+    pub fn over(answer: Result<Said, RawFault>, under: String) -> Ending
+        ensures { result.answer ≡ answer }
+    {
+        Ending {
+            answer,
+            under,
+            silent: false,
+        }
+    }
+}
+
+/// Prints the line of a fault after the prefix, with the lines below it. Returns the exit status. Prints everything with
+/// one write, so that the lines of parallel runs do not mix.
+pub fn end<R: Eprint>(rt: &R, alloc: Global, prefix: &str, ending: Ending) -> u8
+    ensures { EndsWith ending.answer result }
+{
+    let Ending {
+        answer,
+        under,
+        silent,
+    } = ending;
+    match answer {
+        Ok(said) => {
+            print_alone(rt, prefix, &under);
+            status_of(said)
+        }
+        Err(fault) if silent => fault.status(),
+        Err(fault) => match lines_of(alloc, prefix, &fault, &under) {
+            Ok(lines) => {
+                let _ = rt.eprint(lines);
+                fault.status()
+            }
+            Err(_) => {
+                let _ = rt.eprintln("memory");
+                RunFault::Memory.status()
+            }
+        },
+    }
+}
+
+/// Prints lines that stand below no fault.
+fn print_alone<R: Eprint>(rt: &R, prefix: &str, lines: &str) {
+    if !lines.is_empty() {
+        let _ = rt.eprint(prefix);
+        let _ = rt.eprint(lines);
+    }
+}
+
+/// Returns the exit status of an answer.
+fn status_of(said: Said) -> u8
+    ensures { EndsWith (Ok said) result }
+{
+    match said {
+        Said::All => 0,
+        Said::SomeMissing => 1,
+    }
+}
+
+/// Returns the line of a fault after the prefix, and the lines below it.
+fn lines_of(
+    alloc: Global,
+    prefix: &str,
+    fault: &RawFault,
+    under: &str,
+) -> Result<String, AllocError> {
+    let line = fault.line(alloc)?;
+    format!(in alloc; "{prefix}{line}\n{under}")
+}
+
+/// Prints a line about a wrong command line. Returns its exit status.
+pub fn refuse_line<R: Eprint>(rt: &R, line: &str) -> u8
+    ensures { result ≡ 2 }
+{
+    let _ = rt.eprintln(line);
+    WRONG_LINE
+}
+
+/// Prints the error or help text of `clap`. Returns the exit status.
+pub fn refuse<R: Print + Eprint>(rt: &R, alloc: Global, error: Error) -> u8
+    ensures { IsRefusedWith (kind_of error) result }
+{
+    match error.kind() {
+        ErrorKind::OutOfMemory => end(rt, alloc, "", Ending::with(alloc, RunFault::Memory)),
+        kind => {
+            let _ = error.print(rt);
+            match kind {
+                ErrorKind::DisplayHelp | ErrorKind::DisplayVersion => 0,
+                _ => WRONG_LINE,
+            }
+        }
+    }
+}

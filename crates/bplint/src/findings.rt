@@ -1,0 +1,231 @@
+//! What `lint` says of each file: its line or its fault, its name alone, or nothing. A run counts its files, and keeps the
+//! greatest exit status.
+
+ghost use Rattle.std.specs.Prelude.{◌≤◌};
+
+use crate::args::{Job, Lint, Printed, Request, Task};
+use crate::ending::{Ending, end};
+use crate::folders::{shown_name, shown_octets};
+use crate::input::Inputs;
+use crate::labels::{Labelled, Labels};
+use crate::output::{NoOut, OutFile};
+use crate::reasons::{Names, completed, prefix_of};
+use crate::runs::{answer, finding_of};
+use crate::tally::Tally;
+use crate::unread::Unread;
+use bplint_engine::{Command, Verb};
+use bplint_json::Finding;
+use bplint_lines::RunFault;
+use std::alloc::{AllocError, Global};
+use std::fs::{File, Files};
+use std::io::Write;
+
+/// Says what `lint` finds, and counts it.
+#[derive(Drop)]
+pub struct Findings<'a, R> {
+    rt: &'a R,
+    alloc: Global,
+    lint: &'a Lint<'a>,
+    request: Request<'a>,
+    pub tally: Tally,
+    /// True if nobody reads standard output any more, which ends the run.
+    pub closed: bool,
+}
+
+impl<'a, R: Files<File = File> + Print + Eprint> Findings<'a, R> {
+    /// Makes the findings of a run, without any so far.
+    pub fn new(rt: &'a R, alloc: Global, lint: &'a Lint<'a>) -> Findings<'a, R> {
+        Findings {
+            rt,
+            alloc,
+            lint,
+            request: request_in(alloc, lint),
+            tally: Tally::new(),
+            closed: false,
+        }
+    }
+
+    /// Lints an input, and says what it found.
+    pub fn add(&mut self, name: &str, inputs: Inputs) {
+        if self.prints_json() {
+            let finding = finding_of(self.alloc, inputs.file);
+            return self.print_finding(name.as_bytes(), &finding);
+        }
+        let Ok(prefix) = self.prefix_of(name) else {
+            return self.end_without_memory();
+        };
+        let mut out = OutFile::new(self.rt, "-");
+        let ending = match self.lint.printed {
+            Printed::Lines => {
+                let labels = Labels {
+                    prefix: &prefix,
+                    paths: &[],
+                };
+                let mut out = Labelled::new(self.alloc, &mut out, labels);
+                answer(self.alloc, &self.request, inputs, &mut out)
+            }
+            Printed::Faults | Printed::Names | Printed::Json => {
+                answer(self.alloc, &self.request, inputs, &mut NoOut)
+            }
+        };
+        if self.is_named_alone(&ending) {
+            return self.print_name(name);
+        }
+        let ending = completed(self.alloc, ending, &self.names_of(name), out.fault());
+        self.end(&prefix, ending);
+    }
+
+    /// Returns true if the name of a file is all that is said of how its run ended.
+    fn is_named_alone(&self, ending: &Ending) -> bool {
+        match (&ending.answer, self.lint.printed) {
+            (Err(fault), Printed::Names) => fault.status() == 1,
+            _ => false,
+        }
+    }
+
+    /// Prints the name of a file that is not sound, and counts the file.
+    fn print_name(&mut self, name: &str) {
+        match self.name_line(name) {
+            Ok(line) => self.print(&line, 1),
+            Err(_) => self.end_without_memory(),
+        }
+    }
+
+    /// Returns the line with the name of a file alone. If a zero byte ends it, it is the name as it is.
+    fn name_line(&self, name: &str) -> Result<Vec<u8>, AllocError> {
+        let mut line = Vec::new(self.alloc);
+        if self.lint.zero {
+            line.extend_from_slice(name.as_bytes())?;
+            line.push(0)?;
+        } else {
+            line.extend_from_slice(shown_name(self.alloc, name)?.as_bytes())?;
+            line.push(b'\n')?;
+        }
+        Ok(line)
+    }
+
+    fn prints_json(&self) -> bool {
+        match self.lint.printed {
+            Printed::Json => true,
+            _ => false,
+        }
+    }
+
+    /// Prints the JSON line of a finding about the file with this name, and counts the file.
+    fn print_finding(&mut self, name: &[u8], finding: &Finding) {
+        match finding.line(self.alloc, name) {
+            Ok(line) => self.print(&line, finding.status()),
+            Err(_) => self.end_without_memory(),
+        }
+    }
+
+    /// Prints a line to standard output, and counts a file whose run ended with this status.
+    fn print(&mut self, line: &[u8], status: u8)
+        requires { status ≤ 4 }
+    {
+        let mut out = OutFile::new(self.rt, "-");
+        if out.write_all(line).is_ok() {
+            return self.tally.count(status);
+        }
+        let ending = Ending::with(self.alloc, RunFault::Write { sent: 0 });
+        let ending = completed(self.alloc, ending, &self.names_of("-"), out.fault());
+        self.end("", ending);
+    }
+
+    /// Says that an input could not be read.
+    pub fn add_unread(&mut self, unread: Unread<'_>) {
+        if self.prints_json() {
+            let (name, finding) = (unread.name, unread.finding(self.rt, self.alloc));
+            return self.print_finding(name.as_bytes(), &finding);
+        }
+        let Ok(prefix) = self.prefix_of(unread.name) else {
+            return self.end_without_memory();
+        };
+        let ending = unread.ending(self.rt, self.alloc, self.lint.explain);
+        self.end(&prefix, ending);
+    }
+
+    /// Says that a path is not UTF-8, and cannot be opened.
+    pub fn add_unnamed(&mut self, path: &[u8]) {
+        if self.prints_json() {
+            let finding = Finding::Unread {
+                fault: RunFault::Open,
+                cause: String::from_str(self.alloc, "its name is not UTF-8").ok(),
+            };
+            return self.print_finding(path, &finding);
+        }
+        match unnamed_ending(self.alloc, path, self.lint.explain) {
+            Ok((prefix, ending)) => self.end(&prefix, ending),
+            Err(_) => self.end_without_memory(),
+        }
+    }
+
+    /// Prints the counts.
+    pub fn print_counts(&mut self) {
+        match self.tally.line(self.alloc) {
+            Ok(line) => {
+                let _ = self.rt.eprintln(line);
+            }
+            Err(_) => self.end_without_memory(),
+        }
+    }
+
+    /// Prints how a run ended, and counts it.
+    fn end(&mut self, prefix: &str, ending: Ending) {
+        self.closed = ending.silent;
+        let status = end(self.rt, self.alloc, prefix, ending);
+        self.tally.count(status);
+    }
+
+    /// Ends the run after memory for its lines was refused.
+    fn end_without_memory(&mut self) {
+        self.end("", Ending::with(self.alloc, RunFault::Memory));
+    }
+
+    /// Returns what begins the lines of a file.
+    fn prefix_of(&self, name: &str) -> Result<String, AllocError> {
+        prefix_of(self.alloc, name, self.lint.named)
+    }
+
+    /// Returns the names that the lines below a fault of this file give.
+    fn names_of<'n>(&self, name: &'n str) -> Names<'n> {
+        Names {
+            file: name,
+            cert: "",
+            out: "-",
+            named: self.lint.named,
+            explain: self.lint.explain,
+        }
+    }
+}
+
+/// Returns the request that `lint` makes for each file.
+fn request_in<'a>(alloc: Global, lint: &Lint<'_>) -> Request<'a> {
+    Request {
+        task: Task::Command(Job {
+            command: Command {
+                verb: Verb::Lint,
+                paths: Vec::new(alloc),
+                limit: 0,
+                hex: lint.choice.hex,
+                sorted: false,
+            },
+        }),
+        explain: lint.explain,
+    }
+}
+
+/// Returns the prefix of the lines for a path that is not UTF-8, and how its run ends.
+fn unnamed_ending(
+    alloc: Global,
+    path: &[u8],
+    explain: bool,
+) -> Result<(String, Ending), AllocError> {
+    let shown = shown_octets(alloc, path)?;
+    let prefix = format!(in alloc; "{shown}: ")?;
+    let mut ending = Ending::with(alloc, RunFault::Open);
+    if explain {
+        ending.under.push_str("  file: its name is not UTF-8\n")?;
+    }
+    Ok((prefix, ending))
+}

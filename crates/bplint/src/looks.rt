@@ -1,0 +1,45 @@
+//! Which files `lint` lints, and which it counts as other forms of a property list or passes over.
+
+use crate::input::Operand;
+use crate::input_fault::InputFault;
+use bplist_hints::hint_of;
+use bplist_octets::SliceSource;
+
+/// What `lint` does with a file.
+#[derive(Clone, Copy, Drop)]
+pub enum Look {
+    /// It lints the file.
+    Lint,
+    /// It counts the file as another form of a property list: XML, or text of the old style.
+    OtherForm,
+    /// It passes over the file.
+    PassOver,
+}
+
+/// Returns what to do with a file that was found in a folder. `all` says that no file is passed over.
+pub fn look_at_found(file: &mut Operand, name: &str, all: bool) -> Result<Look, InputFault> {
+    if file.is_bplist()? {
+        return Ok(Look::Lint);
+    }
+    if !all && !has_usual_ending(name) {
+        return Ok(Look::PassOver);
+    }
+    look_at(file)
+}
+
+/// Returns what to do with a file that is linted unless it has another form.
+pub fn look_at(file: &mut Operand) -> Result<Look, InputFault> {
+    let hint = match file {
+        Operand::Whole(text) => hint_of(&mut SliceSource::new(text))?,
+        Operand::File(file) => hint_of(file)?,
+    };
+    Ok(match hint {
+        Some(hint) if hint.is_other_form() => Look::OtherForm,
+        _ => Look::Lint,
+    })
+}
+
+/// Returns true if the name of a file ends as those of property lists do.
+fn has_usual_ending(name: &str) -> bool {
+    name.ends_with(".plist") || name.ends_with(".strings") || name.ends_with(".nib")
+}

@@ -1,0 +1,205 @@
+//! What is below the line of a fault: the name of the file, the path text that is wrong, and why the system failed.
+
+ghost use Rattle.std.specs.Prelude.{◌≡◌};
+
+use crate::args::{Request, Shown, Task};
+use crate::ending::Ending;
+use crate::folders::{shown_name, shown_octets};
+use crate::input_fault::HexFault;
+use crate::output::OutFault;
+use bplint_lines::{RawFault, RunFault};
+use bplist_cursor::Path;
+use bplist_objects::Rule;
+use std::alloc::{AllocError, Global};
+use std::io::ErrorKind;
+
+/// The names that the lines below a fault give.
+#[derive(Clone, Copy, Drop)]
+pub struct Names<'a> {
+    /// The name of FILE.
+    pub file: &'a str,
+    /// The name of CERT, or nothing.
+    pub cert: &'a str,
+    /// The name of OUT; `-` is standard output.
+    pub out: &'a str,
+    /// True if the line of a fault begins with the name of FILE.
+    pub named: bool,
+    /// True if there are lines below a fault.
+    pub explain: bool,
+}
+
+/// Returns what begins the lines of a file, which is nothing if they are not to name it.
+pub fn prefix_of(alloc: Global, name: &str, named: bool) -> Result<String, AllocError> {
+    if !named {
+        return Ok(String::new(alloc));
+    }
+    let shown = shown_name(alloc, name)?;
+    format!(in alloc; "{shown}: ")
+}
+
+/// Completes the end of a run whose answer went to OUT: a fault gets the name of its file, or why OUT could not be
+/// written. Nothing is said if nobody reads standard output any more.
+pub fn completed(
+    alloc: Global,
+    ending: Ending,
+    names: &Names<'_>,
+    out: Option<OutFault>,
+) -> Ending {
+    let is_write = match &ending.answer {
+        Ok(_) => return ending,
+        Err(RawFault::Run(RunFault::Write { .. })) => true,
+        Err(_) => false,
+    };
+    match out {
+        Some(OutFault::Closed) if is_write => Ending {
+            silent: true,
+            ..ending
+        },
+        _ if !names.explain => ending,
+        Some(OutFault::Failed(kind)) if is_write => {
+            below(alloc, ending, out_line(alloc, names.out, kind))
+        }
+        _ if names.named => ending,
+        _ => {
+            let name = name_line(alloc, faulty_name(names, &ending));
+            below(alloc, ending, name)
+        }
+    }
+}
+
+/// Puts a line above those below a fault. If memory was refused for it, that is the fault.
+fn below(alloc: Global, ending: Ending, line: Result<String, AllocError>) -> Ending {
+    let Ending { answer, under, .. } = ending;
+    match joined(line, &under) {
+        Ok(under) => Ending::over(answer, under),
+        Err(_) => Ending::with(alloc, RunFault::Memory),
+    }
+}
+
+fn joined(line: Result<String, AllocError>, under: &str) -> Result<String, AllocError> {
+    let mut lines = line?;
+    lines.push_str(under)?;
+    Ok(lines)
+}
+
+/// Returns the name of the input whose fault ends a run: CERT, if a rule about certificates is broken.
+fn faulty_name<'a>(names: &Names<'a>, ending: &Ending) -> &'a str {
+    match &ending.answer {
+        Err(RawFault::Run(RunFault::Fault(fault))) if is_about_certificates(fault.rule) =>
+            names.cert,
+        _ => names.file,
+    }
+}
+
+/// Returns true if the place of this rule is in the certificate.
+fn is_about_certificates(rule: Rule) -> bool {
+    match rule {
+        Rule::CertMagic
+        | Rule::CertLength
+        | Rule::CertCount
+        | Rule::TopNotVouched
+        | Rule::KeyOrder => true,
+        _ => false,
+    }
+}
+
+/// Returns the line that says that OUT is left as it is.
+pub fn keeps_line(alloc: Global, out: &str) -> Result<String, AllocError> {
+    let shown = shown_name(alloc, out)?;
+    format!(in alloc;
+        "error: {shown} begins with bplist, so it is left as it is; with --force the certificate replaces it"
+    )
+}
+
+/// Returns the line that says that no command takes a certificate.
+pub fn too_long_line(alloc: Global, out: &str) -> Result<String, AllocError> {
+    let shown = shown_name(alloc, out)?;
+    format!(in alloc;
+        "warning: {shown} has more than 67,108,864 bytes; check, get and print refuse it as too long\n"
+    )
+}
+
+/// Returns the line with the name of a file.
+pub fn name_line(alloc: Global, name: &str) -> Result<String, AllocError> {
+    let shown = shown_name(alloc, name)?;
+    format!(in alloc; "  name: {shown}\n")
+}
+
+/// Returns the line with the name of an input, and why it could not be read.
+pub fn file_line(alloc: Global, name: &str, why: &str) -> Result<String, AllocError> {
+    let shown = shown_name(alloc, name)?;
+    format!(in alloc; "  file: {shown}: {why}\n")
+}
+
+/// Returns the line with the name of OUT, and why it could not be written.
+pub fn out_line(alloc: Global, name: &str, kind: ErrorKind) -> Result<String, AllocError> {
+    let why = match kind {
+        ErrorKind::NotFound => "no such folder",
+        ErrorKind::PermissionDenied => "no permission",
+        ErrorKind::IsADirectory => "a folder",
+        ErrorKind::StorageFull | ErrorKind::QuotaExceeded => "no space left",
+        _ => "it cannot be written",
+    };
+    if name == "-" {
+        return format!(in alloc; "  out: standard output: {why}\n");
+    }
+    let shown = shown_name(alloc, name)?;
+    format!(in alloc; "  out: {shown}: {why}\n")
+}
+
+/// Returns where a text is not hexadecimal, in words.
+pub fn hex_words(alloc: Global, fault: HexFault) -> Result<String, AllocError> {
+    match fault {
+        HexFault::NoDigit { place, octet } => {
+            let shown = shown_octets(alloc, &[octet])?;
+            format!(in alloc; "byte {place} is no hexadecimal digit: '{shown}'")
+        }
+        HexFault::OddDigits(count) => format!(in alloc; "an odd number of digits: {count}"),
+    }
+}
+
+/// Returns the lines about the first path text of a request that is wrong: the text, and a mark below the byte at this
+/// place, with what is wrong there.
+pub fn path_lines(
+    alloc: Global,
+    request: &Request<'_>,
+    place: usize,
+) -> Result<String, AllocError> {
+    let Some(text) = wrong_path(alloc, &request.task) else {
+        return Ok(String::new(alloc));
+    };
+    let shown = shown_name(alloc, text)?;
+    let mut lines = format!(in alloc; "  path: {shown}\n        ")?;
+    let before = shown_name(alloc, text.get(..place).unwrap_or(""))?;
+    for _ in before.chars() {
+        lines.push(' ')?;
+    }
+    lines.push_str(if place == 0 {
+        "^ a path begins with /\n"
+    } else {
+        "^ after ~ comes 0, for ~, or 1, for /\n"
+    })?;
+    Ok(lines)
+}
+
+/// Returns the first wrong path text of a task.
+fn wrong_path<'a>(alloc: Global, task: &'a Task<'a>) -> Option<&'a str> {
+    match task {
+        Task::Command(job) => first_wrong(alloc, &job.command.paths),
+        Task::Show(Shown::Values { paths, .. }) => first_wrong(alloc, paths),
+        Task::Show(
+            Shown::Text { path, .. } | Shown::Members { path, .. } | Shown::Tree { path, .. },
+        ) => Some(path),
+        Task::Show(Shown::Map | Shown::MapPaths) => None,
+        Task::Raw(path) | Task::Json { path, .. } => Some(path),
+    }
+}
+
+fn first_wrong(alloc: Global, paths: &[String]) -> Option<&str> {
+    for path in paths {
+        if Path::parse(alloc, path).is_err() {
+            return Some(path.as_str());
+        }
+    }
+    None
+}

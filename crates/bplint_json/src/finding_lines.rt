@@ -1,0 +1,154 @@
+//! The JSON line of a finding.
+
+use crate::finding::Finding;
+use crate::json_of;
+use bplint_lines::kind_name;
+use bplist_objects::{ObjectNo, Rule, rule_name, rule_number, texts_of};
+use serde::Serialize;
+use std::alloc::{AllocError, Global};
+
+/// The name of a file.
+#[derive(Drop, Serialize)]
+struct Name<'a> {
+    /// The name. If it is not UTF-8, U+FFFD replaces what is wrong.
+    file: &'a str,
+    /// The bytes of a name that is not UTF-8, in hexadecimal.
+    #[serde(skip_serializing_if = "Option::is_none")]
+    file_hex: Option<String>,
+}
+
+/// The line for a file that holds a value.
+#[derive(Drop, Serialize)]
+struct SoundLine<'a> {
+    #[serde(flatten)]
+    name: Name<'a>,
+    ok: bool,
+    reached: u64,
+    height: u32,
+    top: &'a str,
+}
+
+/// The line for a file that breaks a rule.
+#[derive(Drop, Serialize)]
+struct BrokenLine<'a> {
+    #[serde(flatten)]
+    name: Name<'a>,
+    ok: bool,
+    rule: &'a str,
+    number: u32,
+    object: Option<u32>,
+    place: Option<u64>,
+    sentence: &'a str,
+    path: Option<&'a str>,
+    #[serde(skip_serializing_if = "Option::is_none")]
+    circle: Option<Vec<u32>>,
+}
+
+/// The line for a file that could not be read.
+#[derive(Drop, Serialize)]
+struct UnreadLine<'a> {
+    #[serde(flatten)]
+    name: Name<'a>,
+    ok: bool,
+    error: &'a str,
+    #[serde(skip_serializing_if = "Option::is_none")]
+    cause: Option<&'a str>,
+}
+
+impl Finding {
+    /// Returns the JSON line of a finding, with its line feed. `name` is the name of the file, which need not be UTF-8.
+    /// The only error is refused memory.
+    pub fn line(&self, alloc: Global, name: &[u8]) -> Result<Vec<u8>, AllocError> {
+        let file = String::from_utf8_lossy(alloc, name)?;
+        let name = Name {
+            file: file.as_str(),
+            file_hex: hex_of_name(alloc, name)?,
+        };
+        let mut line = self.object(alloc, name)?;
+        line.push(b'\n')?;
+        Ok(line)
+    }
+
+    /// Returns the JSON object of a finding.
+    fn object(&self, alloc: Global, name: Name<'_>) -> Result<Vec<u8>, AllocError> {
+        match self {
+            Finding::Sound {
+                reached,
+                height,
+                top,
+            } => json_of(
+                alloc,
+                &SoundLine {
+                    name,
+                    ok: true,
+                    reached: *reached,
+                    height: *height,
+                    top: kind_name(*top),
+                },
+            ),
+            Finding::Broken { fault, path } => {
+                let line = broken_line(name, fault.rule, path.as_ref());
+                json_of(
+                    alloc,
+                    &BrokenLine {
+                        object: fault.object.map(|object| object.0),
+                        place: Some(fault.place),
+                        ..line
+                    },
+                )
+            }
+            Finding::Circle { objects, path } => {
+                let circle = numbers_of(alloc, objects.as_slice())?;
+                let line = broken_line(name, Rule::Circle, path.as_ref());
+                json_of(
+                    alloc,
+                    &BrokenLine {
+                        object: circle.first().copied(),
+                        circle: Some(circle),
+                        ..line
+                    },
+                )
+            }
+            Finding::Unread { fault, cause } => {
+                let error = fault.line(alloc)?;
+                json_of(
+                    alloc,
+                    &UnreadLine {
+                        name,
+                        ok: false,
+                        error: error.as_str(),
+                        cause: cause.as_ref().map(|cause| cause.as_str()),
+                    },
+                )
+            }
+        }
+    }
+}
+
+/// Returns the line for a file that breaks this rule, without the object and place.
+fn broken_line<'a>(name: Name<'a>, rule: Rule, path: Option<&'a String>) -> BrokenLine<'a> {
+    let (sentence, _) = texts_of(rule);
+    BrokenLine {
+        name,
+        ok: false,
+        rule: rule_name(rule),
+        number: rule_number(rule),
+        object: None,
+        place: None,
+        sentence,
+        path: path.map(|path| path.as_str()),
+        circle: None,
+    }
+}
+
+/// Returns the bytes of a name in hexadecimal if it is not UTF-8.
+fn hex_of_name(alloc: Global, name: &[u8]) -> Result<Option<String>, AllocError> {
+    match std::str::from_utf8(name) {
+        Ok(_) => Ok(None),
+        Err(_) => Ok(Some(hex::encode(alloc, name)?)),
+    }
+}
+
+fn numbers_of(alloc: Global, objects: &[ObjectNo]) -> Result<Vec<u32>, AllocError> {
+    objects.iter().map(|object| object.0).collect(alloc)
+}

@@ -1,0 +1,305 @@
+//! The command `ls --json`: lists the members of a value, or the value and everything inside it.
+
+use crate::names::{Name, Names};
+use crate::rows::{Named, Site, missing_row, row_of};
+use bplint_engine::checked_by_lint;
+use bplint_lines::{RunFault, Said};
+use bplist_cert::Checked;
+use bplist_cursor::{CursorFault, Face, Found, Node, Path, count_nodes, face, locate, member};
+use bplist_objects::offset_of;
+use bplist_octets::{Sink, Source};
+use std::alloc::Global;
+use std::io::Write;
+
+/// What to list of a value.
+#[derive(Clone, Copy, Drop)]
+pub enum Depth {
+    /// Its members, or the value itself if it is a leaf.
+    Members,
+    /// The value and everything inside it, if it has at most so many nodes. Each key counts as a node.
+    All(u64),
+}
+
+/// Lists the value under a path: writes one JSON object, with a line feed, for each value that `ls` has a line for, in
+/// the same order. Returns the source too. A path that leads nowhere gets an object that says so.
+///
+/// These errors come before anything is written, in this order: `Path` for a wrong path text; `Fault` or `Circle` as
+/// `lint` returns it; `TooLong` if the value has more nodes than [`Depth::All`] allows. Before `Read`, `Memory`,
+/// `Write` or `Changed`, a first part of the lines may have been written.
+pub fn list_json_on<S: Source, W: Write>(
+    alloc: Global,
+    src: S,
+    path: &str,
+    depth: Depth,
+    out: &mut W,
+) -> (Result<Said, RunFault>, S) {
+    let steps = match Path::parse(alloc, path) {
+        Ok(steps) => steps,
+        Err(fault) => return (Err(RunFault::from(fault)), src),
+    };
+    match checked_by_lint(alloc, src) {
+        Ok(mut checked) => {
+            let made = match locate(&mut checked, &steps) {
+                Ok(found) => list_found(alloc, &mut checked, found, Wanted { path, depth }, out),
+                Err(fault) => Err(RunFault::from(fault)),
+            };
+            (made, checked.into_parts().0)
+        }
+        Err((fault, src)) => (Err(fault), src),
+    }
+}
+
+/// What to list.
+#[derive(Clone, Copy, Drop)]
+struct Wanted<'a> {
+    /// The path text of the value.
+    path: &'a str,
+    depth: Depth,
+}
+
+/// Lists what a path led to.
+fn list_found<S: Source, W: Write>(
+    alloc: Global,
+    checked: &mut Checked<S>,
+    found: Found,
+    wanted: Wanted<'_>,
+    out: &mut W,
+) -> Result<Said, RunFault> {
+    let mut listing = Listing {
+        alloc,
+        stack: Vec::new(alloc),
+        names: Names::new(alloc, wanted.path)?,
+        sink: Sink::new(),
+        out,
+    };
+    let said = match found {
+        Found::At(node) => {
+            listing.list(checked, node, wanted.depth)?;
+            Said::All
+        }
+        Found::Missing { step, why } => {
+            let row = missing_row(alloc, wanted.path, step, why)?;
+            listing.put(row)?;
+            Said::SomeMissing
+        }
+    };
+    listing.finish()?;
+    Ok(said)
+}
+
+/// The members of a container.
+#[derive(Clone, Copy, Drop)]
+enum Members {
+    Array,
+    Set,
+    Dict,
+}
+
+/// A container on the stack. Its members before number `next` are listed or begun.
+#[derive(Clone, Copy, Drop)]
+struct Opened {
+    node: Node,
+    members: Members,
+    /// The number of members, or of pairs.
+    count: u64,
+    next: u64,
+    name: Name,
+}
+
+/// The state of a listing.
+#[derive(Drop)]
+struct Listing<'a, W> {
+    alloc: Global,
+    /// The containers around the current node, the outermost first.
+    stack: Vec<Opened>,
+    names: Names,
+    sink: Sink,
+    out: &'a mut W,
+}
+
+impl<'a, W: Write> Listing<'a, W> {
+    /// Puts the lines of a node's value into the sink.
+    fn list<S: Source>(
+        &mut self,
+        checked: &mut Checked<S>,
+        node: Node,
+        depth: Depth,
+    ) -> Result<(), RunFault> {
+        let name = self.names.whole();
+        let shown = face(self.alloc, checked, node)?;
+        match depth {
+            Depth::Members => match opened_by(node, &shown, name) {
+                Some(opened) => self.list_members(checked, opened),
+                None => self.put_row(checked, node, name, &shown),
+            },
+            Depth::All(limit) => {
+                let nodes = count_nodes(self.alloc, checked, node)?;
+                if nodes > limit || nodes == u64::MAX {
+                    return Err(RunFault::TooLong);
+                }
+                self.begin(checked, node, name)?;
+                self.list_stack(checked)
+            }
+        }
+    }
+
+    /// Puts the lines of all members of a container into the sink.
+    fn list_members<S: Source>(
+        &mut self,
+        checked: &mut Checked<S>,
+        opened: Opened,
+    ) -> Result<(), RunFault> {
+        for next in 0..opened.count {
+            let (node, name) = self.name_member(checked, &Opened { next, ..opened })?;
+            let shown = face(self.alloc, checked, node)?;
+            self.put_row(checked, node, name, &shown)?;
+        }
+        Ok(())
+    }
+
+    /// Puts the lines of everything inside the containers on the stack into the sink. The number of turns is bounded by
+    /// the number of nodes, which was counted before.
+    fn list_stack<S: Source>(&mut self, checked: &mut Checked<S>) -> Result<(), RunFault> {
+        for _ in 0..u64::MAX {
+            let Some(opened) = self.stack.pop() else {
+                return Ok(());
+            };
+            if opened.next < opened.count {
+                let (node, name) = self.name_member(checked, &opened)?;
+                self.stack.push(Opened {
+                    next: opened.next + 1,
+                    ..opened
+                })?;
+                self.begin(checked, node, name)?;
+            }
+        }
+        Err(RunFault::Changed)
+    }
+
+    /// Puts the line of a node into the sink. Pushes the node on the stack if it is a container.
+    fn begin<S: Source>(
+        &mut self,
+        checked: &mut Checked<S>,
+        node: Node,
+        name: Name,
+    ) -> Result<(), RunFault> {
+        let shown = face(self.alloc, checked, node)?;
+        self.put_row(checked, node, name, &shown)?;
+        if let Some(opened) = opened_by(node, &shown, name) {
+            self.stack.push(opened)?;
+        }
+        Ok(())
+    }
+
+    /// Returns the next member of a container, with its name.
+    fn name_member<S: Source>(
+        &mut self,
+        checked: &mut Checked<S>,
+        opened: &Opened,
+    ) -> Result<(Node, Name), RunFault> {
+        let i = opened.next;
+        match opened.members {
+            Members::Array => {
+                let node = member_of(checked, opened.node, i)?;
+                Ok((node, self.names.push_index(opened.name, i)?))
+            }
+            Members::Set => {
+                let node = member_of(checked, opened.node, i)?;
+                Ok((node, self.names.push_place(opened.name, i)))
+            }
+            Members::Dict => {
+                let key = member_of(checked, opened.node, i.saturating_mul(2))?;
+                let number = i.saturating_mul(2).saturating_add(1);
+                let node = member_of(checked, opened.node, number)?;
+                match face(self.alloc, checked, key)? {
+                    Face::Text(units) => {
+                        let name = self.names.push_key(opened.name, i, units.as_slice())?;
+                        Ok((node, name))
+                    }
+                    _ => Err(RunFault::Changed),
+                }
+            }
+        }
+    }
+
+    /// Puts the line of a node with this face into the sink.
+    fn put_row<S: Source>(
+        &mut self,
+        checked: &mut Checked<S>,
+        node: Node,
+        name: Name,
+        shown: &Face,
+    ) -> Result<(), RunFault> {
+        let site = site_of(checked, node)?;
+        let row = row_of(self.alloc, self.named(name), shown, site)?;
+        self.put(row)
+    }
+
+    /// Writes what the sink holds.
+    fn finish(&mut self) -> Result<(), RunFault> {
+        self.sink.flush(self.out)?;
+        Ok(())
+    }
+
+    /// Puts a line into the sink.
+    fn put(&mut self, row: Vec<u8>) -> Result<(), RunFault> {
+        let mut row = row;
+        row.push(b'\n')?;
+        self.sink.put(self.out, &row)?;
+        Ok(())
+    }
+
+    /// Returns a name as it stands in a line.
+    fn named(&self, name: Name) -> Named<'_> {
+        let text = self.names.get(name);
+        match name.index {
+            None => Named {
+                path: Some(text),
+                index: None,
+                below: None,
+            },
+            Some(_) => Named {
+                path: None,
+                index: name.index,
+                below: if text.is_empty() { None } else { Some(text) },
+            },
+        }
+    }
+}
+
+/// Returns a node with this face as a container none of whose members are listed, or `None` for a leaf.
+fn opened_by(node: Node, shown: &Face, name: Name) -> Option<Opened> {
+    let (members, count) = match shown {
+        Face::Array(count) => (Members::Array, *count),
+        Face::Set(count) => (Members::Set, *count),
+        Face::Dict(count) => (Members::Dict, *count),
+        _ => return None,
+    };
+    Some(Opened {
+        node,
+        members,
+        count,
+        next: 0,
+        name,
+    })
+}
+
+fn member_of<S: Source>(checked: &mut Checked<S>, node: Node, i: u64) -> Result<Node, CursorFault> {
+    match member(checked, node, i)? {
+        Some(member) => Ok(member),
+        None => Err(CursorFault::Changed),
+    }
+}
+
+/// Returns the object of a node and its place.
+fn site_of<S: Source>(checked: &mut Checked<S>, node: Node) -> Result<Site, CursorFault> {
+    let frame = checked.frame();
+    if node.object.0 >= frame.objects {
+        return Err(CursorFault::Changed);
+    }
+    let place = offset_of(checked, &frame, node.object)?;
+    Ok(Site {
+        object: node.object.0,
+        place,
+    })
+}
