@@ -1,7 +1,7 @@
 ## bplint: `rt` of the kit proves and builds; python3 runs the tests on what is built.
 ##
 ##   make build          proves and builds the program, crates/bplint/out/bplint; half an hour the first time
-##   make look FILE=F    lints F with the program as it is built, or if a source is newer, unproved, in a minute and a half
+##   make look FILE=F    lints F, if nothing is built yet by an unproved program, which takes a minute and a half to compile
 ##   make lib            proves and builds the C library, into crates/bplist_c/out
 ##   make wheel          the Python package for pip, with the library in it, into dist/
 ##   make dist           archive, Debian packages, wheel and SHA256SUMS, into dist/
@@ -19,6 +19,7 @@
 
 VERSION := $(shell cat VERSION)
 BPLINT = crates/bplint/out/bplint
+LOOK = out/look/bplint
 DIST = dist
 
 # The C library, in LIBRARY: libbplist.a and libbplist.so (no link, which rt refuses there). The kit has the heap's three
@@ -73,18 +74,18 @@ $(BPLINT): $(PROGRAM_SOURCES)
 help:
 	@sed -n 's/^## \{0,1\}//p' $(firstword $(MAKEFILE_LIST))
 
-# `rt try` keeps no program, so only the proved one serves for a second file.
+# By the proved program if no source is newer, and otherwise by an unproved one.
 look:
 	@test -f '$(FILE)' || { echo "make look FILE=F: there is no file '$(FILE)'" >&2; exit 2; }
+	@program=$(BPLINT); $(MAKE) -q --no-print-directory $$program 2>/dev/null || program=$(LOOK); \
+	$(MAKE) -s $$program && echo "make look: $$program lint $(FILE)" && status=0 && \
+	{ $$program lint '$(FILE)' || status=$$?; } && echo "make look: it ended with status $$status" && exit $$status
+
+$(LOOK): $(PROGRAM_SOURCES)
 	$(NEED_RT)
-	@file=$$(realpath '$(FILE)'); status=0; \
-	if $(MAKE) -q --no-print-directory $(BPLINT) 2>/dev/null; then \
-	  echo 'make look: by $(BPLINT), which is proved and newer than its sources'; $(BPLINT) lint "$$file" || status=$$?; \
-	else \
-	  echo 'make look: compiles the program unproved, which takes a minute or two. After `make build` it need not'; \
-	  cd crates/bplint && rt try --data Info.plist="$$file" -- lint Info.plist || status=$$?; \
-	fi; \
-	echo "make look: bplint lint $(FILE) ended with status $$status"; exit $$status
+	@echo 'make look: compiles the program unproved, in a minute or two, and keeps it as $@'
+	@rm -f $@
+	@python3 -B packaging/look.py $@
 
 lib: $(LIBRARY)/libbplist.a
 
@@ -167,4 +168,4 @@ uninstall:
 	  made=$$(sort -r $(MADE)); rm $(MADE); for folder in $$made; do rmdir --ignore-fail-on-non-empty $$folder; done; fi
 
 clean:
-	rm -rf crates/*/out $(DIST)
+	rm -rf crates/*/out out $(DIST)

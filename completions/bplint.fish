@@ -62,6 +62,7 @@ complete -c bplint -n '__fish_seen_subcommand_from show' -l raw -d 'Write the by
 complete -c bplint -n '__fish_seen_subcommand_from map' -l paths -d 'Add the path to each object'
 complete -c bplint -n '__fish_seen_subcommand_from ls' -s R -l recursive -d 'List what is in the members too'
 complete -c bplint -n '__fish_seen_subcommand_from ls' -l limit -x -d 'Nodes at most'
+complete -c bplint -n '__fish_seen_subcommand_from ls' -l objects -d 'Add the number and place of each object'
 complete -c bplint -n '__fish_seen_subcommand_from certify' -l sorted -d 'Write sorted keys'
 complete -c bplint -n '__fish_seen_subcommand_from lint show ls map textconv explain certify check get print' -s h -l help -d 'Print help'
 complete -c bplint -n '__fish_seen_subcommand_from explain' -f -a 'TooLarge TooShort Magic NoObjects Top TableEarly TableLate OffsetSize RefSize Length RefNarrow OffsetNarrow OffsetHigh OffsetLow Marker Count Extent NotAscii UidLarge RefHigh KeyKind KeyTwice Circle CertMagic CertLength CertCount TopNotVouched ChildNotVouched HeightNotLess PathText Overfull KeyOrder'

@@ -25,18 +25,12 @@ import tempfile
 
 sys.path.insert(0, str(pathlib.Path(__file__).resolve().parents[1]))
 
-from gate.listing import CONTAINER_KINDS, LIMIT, LISTED, UNSHOWN, Tree, loaded, run  # noqa: E402
+from gate.listing import CONTAINER_KINDS, LIMIT, LISTED, Tree, loaded, run  # noqa: E402
 from helpers.contents import file_of, number  # noqa: E402
 from helpers.harness import closing  # noqa: E402
-from helpers.printed import key_step  # noqa: E402
+from helpers.printed import UNSHOWN, key_step, text_of  # noqa: E402
 from helpers.sample_files import table_files  # noqa: E402
 from helpers.writers import written  # noqa: E402
-
-
-def text_of(units):
-    """A text as Python has it: halves of surrogate pairs stay."""
-    octets = b"".join(number(unit, 2) for unit in units)
-    return octets.decode("utf-16-be", "surrogatepass")
 
 
 def is_utf16(units):

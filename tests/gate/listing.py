@@ -3,9 +3,9 @@
 
 Tests `bplint ls --recursive` and `bplint show --raw`, on each file of tests/vectors that holds a value and on files of other
 writers (tests/helpers/writers.py). The lines of `ls -R` are those of a plain walk over the file's bytes, of a walk with `ls`
-from container to container, and of a walk over what plistlib loads. The limit is tried at the number of nodes and one below.
-`show --raw` gives the bytes of data and texts, and the digits and words of numbers and booleans. At the end `ls -R` is git's
-textconv in a repository with two versions of a file.
+from container to container, and of a walk over what plistlib loads. With `--utf8` and `--objects` they are those of a plain
+walk too. The limit is tried at the number of nodes and one below. `show --raw` gives the bytes of data and texts, and the
+digits and words of numbers and booleans. Files that differ in one key alone have different listings with `--utf8`.
 
 One file counts as one test. Without plistutil its files are skipped. The last line is `N passed, M failed`, with
 `, K skipped` if some were.
@@ -13,6 +13,7 @@ One file counts as one test. Without plistutil its files are skipped. The last l
 import os
 import pathlib
 import plistlib
+import random
 import re
 import subprocess
 import sys
@@ -20,9 +21,10 @@ import tempfile
 
 sys.path.insert(0, str(pathlib.Path(__file__).resolve().parents[1]))
 
+from helpers.contents import file_of, number  # noqa: E402
 from helpers.harness import closing  # noqa: E402
 from helpers.layout import Layout  # noqa: E402
-from helpers.printed import key_step, line_of, quoted, units_of  # noqa: E402
+from helpers.printed import UNSHOWN, key_step, line_of, quoted, quoted_utf8, text_of, units_of  # noqa: E402
 from helpers.sample_files import table_files  # noqa: E402
 from helpers.writers import written  # noqa: E402
 
@@ -31,7 +33,6 @@ LISTED = 200_000
 CONTAINERS = 40
 RAW = 60
 CONTAINER_KINDS = ("array", "set", "dict")
-UNSHOWN = re.compile("[\x00-\x1f\x7f-\x9f\u061c\u200e\u200f\u2028-\u202e\u2066-\u2069]")
 
 
 def run(program, *words):
@@ -39,14 +40,11 @@ def run(program, *words):
     return ran.returncode, ran.stdout, ran.stderr
 
 
-def key_name(name, number, units):
-    """The name of a key's value: its place where the key is no text that a line can show."""
-    try:
-        key = b"".join(unit.to_bytes(2, "big") for unit in units).decode("utf-16-be")
-    except UnicodeDecodeError:
-        return f"[{number}]"
-    if UNSHOWN.search(key):
-        return f"[{number}]"
+def key_name(name, index, units, utf8=False):
+    """The name of a key's value: its index where the key is no text that a line can show, and the key behind it in UTF-8."""
+    key = text_of(units)
+    if UNSHOWN.search(key) or any("\ud800" <= char <= "\udfff" for char in key):
+        return f"[{index}]{quoted_utf8(units) if utf8 else ''}"
     return name + key_step(key)
 
 
@@ -74,7 +72,7 @@ class Tree:
         body = self.body(n)
         return int.from_bytes(body, "big", signed=len(body) >= 8)
 
-    def line(self, n):
+    def line(self, n, utf8=False):
         kind, count, _, _ = self.head(n)
         if kind in CONTAINER_KINDS:
             return f"{kind} {count}"
@@ -86,7 +84,9 @@ class Tree:
             return f"uid {int.from_bytes(self.body(n), 'big')}"
         if kind == "data":
             return f"data <{self.body(n).hex()}>"
-        return f"text {quoted(self.units(n))}" if kind == "text" else f"{kind} {self.body(n).hex()}"
+        if kind == "text":
+            return f"text {(quoted_utf8 if utf8 else quoted)(self.units(n))}"
+        return f"{kind} {self.body(n).hex()}"
 
     def raw(self, n):
         """The raw bytes of an object, or None."""
@@ -103,13 +103,13 @@ class Tree:
             return self.line(n).split(" ")[-1].encode()
         return None
 
-    def members(self, name, n):
+    def members(self, name, n, utf8=False):
         """The members of an object, each with its name."""
         head = self.head(n)
         kind, count = head[:2]
         below = self.plist.references(head)
         if kind == "dict":
-            return [(key_name(name, i, self.units(below[i])), below[count + i]) for i in range(count)]
+            return [(key_name(name, i, self.units(below[i]), utf8), below[count + i]) for i in range(count)]
         return [(f"{name}/{i}" if kind == "array" else f"[{i}]", m) for i, m in enumerate(below)]
 
     def nodes(self):
@@ -126,13 +126,13 @@ class Tree:
             counts.setdefault(n, 1 + sum(counts[m] for m in below))
         return counts
 
-    def walk(self):
+    def walk(self, utf8=False):
         """Each value in written order: its name, its object, and whether its name is a path."""
         stack = [("", self.plist.top, True)]
         while stack:
             name, n, has_path = stack.pop()
             yield name, n, has_path
-            below = self.members(name, n)
+            below = self.members(name, n, utf8)
             stack.extend((inner, m, has_path and not inner.startswith("[")) for inner, m in reversed(below))
 
 
@@ -207,6 +207,18 @@ def try_limit(program, path, nodes):
     assert got[0] == 0, f"a limit of {nodes}: {got}"
 
 
+def try_forms(program, path, tree):
+    """Tries `--utf8` and `--objects` beside a plain walk."""
+    for words in (["--utf8"], ["--objects"], ["--objects", "--utf8"]):
+        utf8 = "--utf8" in words
+        wanted = [[name, tree.line(n, utf8), n, tree.plist.places[n]] for name, n, _ in tree.walk(utf8)]
+        wanted = ["\t".join(map(str, row if "--objects" in words else row[:2])) for row in wanted]
+        status, out, err = run(program, "ls", "-R", *words, path)
+        assert (status, err) == (0, b""), f"ls -R {words}: status {status}, {err}"
+        lines = out.decode().split("\n")[:-1]
+        assert lines == wanted, f"ls -R {words}: {first_difference(wanted, lines)}"
+
+
 def try_raw(program, path, tree, rows):
     for name, n, has_path in rows[: RAW // 2] + rows[RAW // 2 :][-RAW // 2 :]:
         if not has_path:
@@ -245,6 +257,7 @@ def try_listing(program, path, octets):
     if value is not None:
         wanted = list(plistlib_lines(value))
         assert without_reals(lines) == wanted, f"plistlib: {first_difference(wanted, without_reals(lines))}"
+    try_forms(program, path, tree)
     if nodes < 3000:
         try_limit(program, path, nodes)
         try_raw(program, path, tree, rows)
@@ -271,35 +284,35 @@ def try_nested(program, path):
 
 def try_missing(program, path):
     path.write_bytes(plistlib.dumps({"a": 1}, fmt=plistlib.FMT_BINARY))
-    for words in (["ls", "-R"], ["show", "--raw"]):
-        plain = run(program, words[0], path, "/b")
-        assert run(program, *words, path, "/b") == plain, f"{words} of a path that leads nowhere"
+    missing = (1, b"missing 0 NoKey\n", b"")
+    for words in (["show"], ["ls"], ["ls", "-R"], ["ls", "--objects"], ["ls", "-R", "--objects"], ["ls", "-R", "--utf8"]):
+        assert run(program, *words, path, "/b") == missing, f"{words} of a path that leads nowhere"
         assert run(program, *words, path, "b")[0] == 2, f"{words} of a wrong path text"
+    assert run(program, "show", "--raw", path, "/b") == (1, b"", missing[1]), "show --raw of a path that leads nowhere"
+    assert run(program, "show", "--raw", path, "b")[0] == 2, "show --raw of a wrong path text"
     assert run(program, "ls", "-R", path, "/a") == run(program, "ls", path, "/a"), "ls -R of a leaf"
 
 
-def try_textconv(program, folder):
-    """`ls -R` shows what changed between two versions of a file in a repository of git."""
-    work = pathlib.Path(folder, "repository")
-    work.mkdir()
-    environment = {**os.environ, "GIT_CONFIG_GLOBAL": "/dev/null", "GIT_CONFIG_SYSTEM": "/dev/null", "HOME": folder}
+def keyed(units):
+    """A file with a dictionary of one pair: the key is a text of these units, and the value is true."""
+    key = b"\x6f\x11" + number(len(units), 2) + b"".join(number(unit, 2) for unit in units)
+    return file_of([b"\xd1" + number(1, 2) + number(2, 2), key, b"\x09"], 2)
 
-    def git(*words):
-        named = ["git", "-c", "user.name=n", "-c", "user.email=e@example.org", *words]
-        ran = subprocess.run(named, cwd=work, env=environment, capture_output=True, text=True, timeout=60, check=True)
-        return ran.stdout
 
-    git("init", "-q")
-    git("config", "diff.bplist.textconv", f"'{program}' ls -R")
-    pathlib.Path(work, ".gitattributes").write_text("*.plist diff=bplist\n")
-    target = pathlib.Path(work, "a.plist")
-    target.write_bytes(plistlib.dumps({"a": [1, 2], "b": "old"}, fmt=plistlib.FMT_BINARY))
-    git("add", ".")
-    git("commit", "-q", "-m", "first")
-    target.write_bytes(plistlib.dumps({"a": [1, 3, 4], "b": "old"}, fmt=plistlib.FMT_BINARY))
-    shown = [line for line in git("diff").split("\n") if line[:1] in ("+", "-") and line[:3] not in ("+++", "---")]
-    wanted = ["-/a\tarray 2", "+/a\tarray 3", "-/a/1\tint 2", "+/a/1\tint 3", "+/a/2\tint 4"]
-    assert sorted(shown) == sorted(wanted), f"git diff: {shown}"
+def try_keys(program, path):
+    """Two files that differ in a key alone have different listings with `--utf8`, also if no line can show the key."""
+    some = [0, 9, 10, 0x22, 0x5B, 0x5C, 0x5D, 0x7F, 0x85, 0x2028, 0x202E, 0xD83D, 0xDBFF, 0xDC00, 0xDE00, 0x41, 0x55, 0x30, 0x65E5]
+    source = random.Random(5)
+    keys = {(unit,) for unit in some} | {(first, second) for first in some for second in some}
+    keys |= {tuple(source.choice(some) for _ in range(source.randrange(3, 9))) for _ in range(200)}
+    found = {}
+    for key in sorted(keys):
+        path.write_bytes(keyed(key))
+        status, out, _ = run(program, "ls", "-R", "--utf8", path)
+        assert status == 0, f"{key}: status {status}"
+        wanted = f"\tdict 1\n{key_name('', 0, key, utf8=True)}\ttrue\n"
+        assert out.decode() == wanted, f"{key}: {out!r} in place of {wanted!r}"
+        assert found.setdefault(out, key) == key, f"{key} and {found[out]}: {out!r}"
 
 
 def all_files(folder):
@@ -319,7 +332,7 @@ def main():
             ("parts", try_parts, (program, path)),
             ("nested", try_nested, (program, path)),
             ("missing", try_missing, (program, path)),
-            ("textconv", try_textconv, (program, folder)),
+            ("keys", try_keys, (program, path)),
         ]
         for name, octets in all_files(folder):
             if octets is None:

@@ -1,5 +1,8 @@
 """What `bplint` prints of a value."""
 import plistlib
+import re
+
+UNSHOWN = re.compile("[\x00-\x1f\x7f-\x9f\u061c\u200e\u200f\u2028-\u202e\u2066-\u2069]")
 
 
 def key_step(key):
@@ -18,6 +21,24 @@ def quoted(units):
         return "".join(map(chr, units))
     named = {0x22: '\\"', 0x5C: "\\\\", 0x0A: "\\n"}
     return '"' + "".join(named.get(u, chr(u) if 0x20 <= u <= 0x7E else f"\\U{u:04x}") for u in units) + '"'
+
+
+def text_of(units):
+    """A text, by its units, as Python has it: halves of surrogate pairs stay."""
+    return b"".join(unit.to_bytes(2, "big") for unit in units).decode("utf-16-be", "surrogatepass")
+
+
+def quoted_utf8(units):
+    """A text, by its units, in the form of `--utf8`."""
+    if units and all(unit < 128 and chr(unit).isalnum() for unit in units):
+        return "".join(map(chr, units))
+    return '"' + "".join(map(utf8_character, text_of(units))) + '"'
+
+
+def utf8_character(char):
+    if char in '"\\':
+        return "\\" + char
+    return f"\\U{ord(char):04x}" if UNSHOWN.match(char) or "\ud800" <= char <= "\udfff" else char
 
 
 def line_of(value):

@@ -38,7 +38,7 @@ LEFT_OUT = {
     "a folder, several FILEs, other options": "is_folder, lint_folder, lint_listed, look_at_found, look_at, print_counts, "
     "print_name, shown_name, add:Printed::Faults, labelled",
     "texts in UTF-8": "add_utf8_text",
-    "lines of JSON": "finding_of, print_finding, list_json_on",
+    "lines of JSON": "finding_of, print_finding, list_rows_on",
     "standard input, hexadecimal text": "read_whole, read_file, undo_hex, try_answer:Operand::Whole, decode:Operand::File",
     "a fault": "mark_reached, check_reached, circle, first_high_ref, search_part, earlier, first_not_below",
     "an empty CERT": "version_of, count_in, fits, read_words",

@@ -3,7 +3,7 @@
 ghost use Rattle.bplint_engine.specs.Commands.{PrintsOnePath};
 
 use bplint_engine::{Command, Verb};
-use bplint_json::Depth;
+use bplint_json::{Form, Listed};
 use bplint_lines::Style;
 use bplist_objects::Rule;
 
@@ -137,13 +137,8 @@ pub enum Task<'a> {
     Show(Shown<'a>),
     /// `show --raw`, of the value under this path text.
     Raw(&'a str),
-    /// `ls --json`, of the value under this path text.
-    Json {
-        /// The path text.
-        path: &'a str,
-        /// What is listed of the value.
-        depth: Depth,
-    },
+    /// `ls --json` or `ls --objects`.
+    Rows(Listed<'a>),
 }
 
 impl<'a> Task<'a> {
@@ -155,7 +150,11 @@ impl<'a> Task<'a> {
                 _ => false,
             },
             Task::Show(_) => false,
-            Task::Raw(_) | Task::Json { .. } => true,
+            Task::Raw(_) => true,
+            Task::Rows(listed) => match listed.form {
+                Form::Json => true,
+                Form::Columns(_) => false,
+            },
         }
     }
 

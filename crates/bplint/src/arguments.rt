@@ -99,6 +99,12 @@ pub(crate) const JSON: Argument = Argument {
     help: "Print a JSON object for each value",
 };
 
+pub(crate) const OBJECTS: Argument = Argument {
+    name: "objects",
+    form: Form::Without(&["json"]),
+    help: "Add columns with the number and the place of each value's object",
+};
+
 pub(crate) const NULL: Argument = Argument {
     name: "null",
     form: Form::Short('0'),

@@ -9,7 +9,7 @@ use crate::args::{
 use crate::rule_words::{no_rule, rule_in};
 use crate::subcommands::bplint;
 use bplint_engine::{Command, Verb};
-use bplint_json::Depth;
+use bplint_json::{Depth, Form, Listed};
 use bplint_lines::Style;
 use clap::error::ErrorKind;
 use clap::{ArgMatches, Error};
@@ -145,7 +145,11 @@ fn run_of<'a>(
 fn task_of<'a>(alloc: Global, name: &str, matches: &ArgMatches<'a>) -> Result<Task<'a>, Error> {
     match name {
         "show" => show_of(alloc, matches),
-        "ls" if matches.get_flag("json") => Ok(json_of(matches)),
+        "ls" if matches.get_flag("json") => Ok(Task::Rows(rows_in(matches, Form::Json))),
+        "ls" if matches.get_flag("objects") => {
+            let form = Form::Columns(style_in(matches));
+            Ok(Task::Rows(rows_in(matches, form)))
+        }
         "ls" => Ok(Task::Show(listed_by(matches))),
         "map" if matches.get_flag("paths") => Ok(Task::Show(Shown::MapPaths)),
         "map" => Ok(Task::Show(Shown::Map)),
@@ -192,15 +196,15 @@ fn style_in(matches: &ArgMatches<'_>) -> Style {
     Style::OldStyle
 }
 
-/// Returns what `ls --json` lists.
-fn json_of<'a>(matches: &ArgMatches<'a>) -> Task<'a> {
+/// Returns what `ls --json` or `ls --objects` lists.
+fn rows_in<'a>(matches: &ArgMatches<'a>, form: Form) -> Listed<'a> {
     let path = path_in(matches);
     let depth = if matches.get_flag("recursive") {
         Depth::All(limit_in(matches))
     } else {
         Depth::Members
     };
-    Task::Json { path, depth }
+    Listed { path, depth, form }
 }
 
 /// Returns the path texts of `show`. Without one, this is the empty path, which is the whole value.

@@ -191,7 +191,8 @@ fn wrong_path<'a>(alloc: Global, task: &'a Task<'a>) -> Option<&'a str> {
             Shown::Text { path, .. } | Shown::Members { path, .. } | Shown::Tree { path, .. },
         ) => Some(path),
         Task::Show(Shown::Map | Shown::MapPaths) => None,
-        Task::Raw(path) | Task::Json { path, .. } => Some(path),
+        Task::Raw(path) => Some(path),
+        Task::Rows(listed) => Some(listed.path),
     }
 }
 

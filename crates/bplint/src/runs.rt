@@ -15,7 +15,7 @@ use crate::waiting::{Waiting, send_waiting};
 use bplint_engine::{
     Branch, Verb, list_all_on, list_on, run_certified, show_on, show_raw_on, show_text_on,
 };
-use bplint_json::{Finding, find_in, list_json_on};
+use bplint_json::{Finding, find_in, list_rows_on};
 use bplint_lines::{RawFault, RunFault, Said, explain};
 use bplint_map::{map_on, map_paths_on};
 use bplist_octets::{Pane, Panes, SliceSource, Source, Window};
@@ -260,8 +260,8 @@ fn do_task<S: Source + Drop, W: Write>(
             Ok((answer.map_err(RawFault::Run), src))
         }
         Task::Raw(path) => Ok(show_raw_on(alloc, src, path, out)),
-        Task::Json { path, depth } => {
-            let (answer, src) = list_json_on(alloc, src, path, *depth, out);
+        Task::Rows(listed) => {
+            let (answer, src) = list_rows_on(alloc, src, listed, out);
             Ok((answer.map_err(RawFault::Run), src))
         }
     }

@@ -2,9 +2,9 @@
 
 use crate::arguments::{
     ALL, ANY_PATHS, Argument, CERT, EXPLAIN, FILE, FILES, FILES_FROM, FINDINGS, FORCE, HEX, JSON,
-    LIMIT, LIST, MAP_PATHS, MAYBE_PATH, NULL, OUT, PATH, PATHS, PATHS_FROM, QUIET, RAW, RECURSIVE,
-    SHOWN_UTF8, SKIP_OTHER, SORTED, SUMMARY, TEXT, TEXT_LIMIT, TREE, TREE_LIMIT, UTF8, WITH_NAME,
-    WORDS,
+    LIMIT, LIST, MAP_PATHS, MAYBE_PATH, NULL, OBJECTS, OUT, PATH, PATHS, PATHS_FROM, QUIET, RAW,
+    RECURSIVE, SHOWN_UTF8, SKIP_OTHER, SORTED, SUMMARY, TEXT, TEXT_LIMIT, TREE, TREE_LIMIT, UTF8,
+    WITH_NAME, WORDS,
 };
 use clap::Command;
 use std::alloc::{AllocError, Global};
@@ -111,7 +111,7 @@ static SUBCOMMANDS: [Subcommand; 10] = [
         about: "Lists the members of the value under PATH, or of the whole",
         help: LS_HELP,
         arguments: &[
-            HEX, TREE, TREE_LIMIT, JSON, UTF8, WITH_NAME, EXPLAIN, FILE, MAYBE_PATH,
+            HEX, TREE, TREE_LIMIT, JSON, OBJECTS, UTF8, WITH_NAME, EXPLAIN, FILE, MAYBE_PATH,
         ],
     },
     Subcommand {

@@ -1,5 +1,6 @@
-//! JSON lines for scripts: what `lint` finds out about a file, and what `ls` lists. Not here: the lines that people read
-//! (crate `bplint_lines`), and which answer or fault a command has (crates `bplint_engine` and `bplist_lint`).
+//! Lines for scripts: what `lint` finds out about a file, as JSON, and what `ls` lists, with the object and place of each
+//! value, as JSON or in columns. Not here: the lines that people read (crate `bplint_lines`), and which answer or fault a
+//! command has (crates `bplint_engine` and `bplist_lint`).
 //!
 //! ```
 //! let finding = find_in(alloc, &mut source);
@@ -11,18 +12,20 @@
 //! |---|---|
 //! | lint a source | [`find_in`], which gives a [`Finding`] |
 //! | get the line and the exit status of a finding | [`Finding`]: `line`, `status` |
-//! | list a value | [`list_json_on`], with a [`Depth`] |
+//! | list a value | [`list_rows_on`], with a [`Listed`]: path, [`Depth`] and [`Form`] |
 //!
-//! The crate `serde_json` writes each line. That the lines say what the files hold is shown by tests, not by proof.
+//! The crate `serde_json` writes each JSON line. That the lines say what the files hold is shown by tests, not by proof.
 //!
 //! The modules, in reading order:
 //!
 //! - `finding`: what `lint` finds out about a file.
 //! - `finding_lines`: its line.
 //! - `listing`: the walk over a value.
-//! - `names`, `rows`: the names of values, and their lines.
+//! - `names`: the names of values.
+//! - `rows`, `columns`: their lines, as JSON or in columns.
 #![tactic(auto)]
 
+mod columns;
 mod finding;
 mod finding_lines;
 mod listing;
@@ -30,7 +33,7 @@ mod names;
 mod rows;
 
 pub use finding::{Finding, find_in};
-pub use listing::{Depth, list_json_on};
+pub use listing::{Depth, Form, Listed, list_rows_on};
 use serde::Serialize;
 use std::alloc::{AllocError, Global};
 

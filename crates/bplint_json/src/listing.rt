@@ -1,9 +1,11 @@
-//! The command `ls --json`: lists the members of a value, or the value and everything inside it.
+//! The commands `ls --json` and `ls --objects`: list the members of a value, or the value and everything inside it, with
+//! the object of each value and its place.
 
+use crate::columns::{columns_of, missing_columns};
 use crate::names::{Name, Names};
 use crate::rows::{Named, Site, missing_row, row_of};
 use bplint_engine::checked_by_lint;
-use bplint_lines::{RunFault, Said};
+use bplint_lines::{Pair, RunFault, Said, Style};
 use bplist_cert::Checked;
 use bplist_cursor::{CursorFault, Face, Found, Node, Path, count_nodes, face, locate, member};
 use bplist_objects::offset_of;
@@ -20,27 +22,47 @@ pub enum Depth {
     All(u64),
 }
 
-/// Lists the value under a path: writes one JSON object, with a line feed, for each value that `ls` has a line for, in
-/// the same order. Returns the source too. A path that leads nowhere gets an object that says so.
+/// The form of a line.
+#[derive(Clone, Copy, Drop)]
+pub enum Form {
+    /// A JSON object.
+    Json,
+    /// The line of `ls` with texts in this style, and two more columns, each after a tab: the number of the object, and
+    /// its place from the beginning of the file.
+    Columns(Style),
+}
+
+/// What to list, and how.
+#[derive(Clone, Copy, Drop)]
+pub struct Listed<'a> {
+    /// The path text of the value.
+    pub path: &'a str,
+    /// What to list of it.
+    pub depth: Depth,
+    /// The form of a line.
+    pub form: Form,
+}
+
+/// Lists the value under a path: writes one line of the form for each value that `ls` has a line for, in the same order.
+/// Returns the source too. A path that leads nowhere gets a JSON object that says so, or in columns the line of `ls`.
 ///
 /// These errors come before anything is written, in this order: `Path` for a wrong path text; `Fault` or `Circle` as
 /// `lint` returns it; `TooLong` if the value has more nodes than [`Depth::All`] allows. Before `Read`, `Memory`,
 /// `Write` or `Changed`, a first part of the lines may have been written.
-pub fn list_json_on<S: Source, W: Write>(
+pub fn list_rows_on<S: Source, W: Write>(
     alloc: Global,
     src: S,
-    path: &str,
-    depth: Depth,
+    listed: &Listed<'_>,
     out: &mut W,
 ) -> (Result<Said, RunFault>, S) {
-    let steps = match Path::parse(alloc, path) {
+    let steps = match Path::parse(alloc, listed.path) {
         Ok(steps) => steps,
         Err(fault) => return (Err(RunFault::from(fault)), src),
     };
     match checked_by_lint(alloc, src) {
         Ok(mut checked) => {
             let made = match locate(&mut checked, &steps) {
-                Ok(found) => list_found(alloc, &mut checked, found, Wanted { path, depth }, out),
+                Ok(found) => list_found(alloc, &mut checked, found, listed, out),
                 Err(fault) => Err(RunFault::from(fault)),
             };
             (made, checked.into_parts().0)
@@ -49,36 +71,32 @@ pub fn list_json_on<S: Source, W: Write>(
     }
 }
 
-/// What to list.
-#[derive(Clone, Copy, Drop)]
-struct Wanted<'a> {
-    /// The path text of the value.
-    path: &'a str,
-    depth: Depth,
-}
-
 /// Lists what a path led to.
 fn list_found<S: Source, W: Write>(
     alloc: Global,
     checked: &mut Checked<S>,
     found: Found,
-    wanted: Wanted<'_>,
+    listed: &Listed<'_>,
     out: &mut W,
 ) -> Result<Said, RunFault> {
     let mut listing = Listing {
         alloc,
+        form: listed.form,
         stack: Vec::new(alloc),
-        names: Names::new(alloc, wanted.path)?,
+        names: Names::new(alloc, listed.form, listed.path)?,
         sink: Sink::new(),
         out,
     };
     let said = match found {
         Found::At(node) => {
-            listing.list(checked, node, wanted.depth)?;
+            listing.list(checked, node, listed.depth)?;
             Said::All
         }
         Found::Missing { step, why } => {
-            let row = missing_row(alloc, wanted.path, step, why)?;
+            let row = match listed.form {
+                Form::Json => missing_row(alloc, listed.path, step, why)?,
+                Form::Columns(_) => missing_columns(alloc, step, why)?,
+            };
             listing.put(row)?;
             Said::SomeMissing
         }
@@ -110,6 +128,7 @@ struct Opened {
 #[derive(Drop)]
 struct Listing<'a, W> {
     alloc: Global,
+    form: Form,
     /// The containers around the current node, the outermost first.
     stack: Vec<Opened>,
     names: Names,
@@ -205,7 +224,7 @@ impl<'a, W: Write> Listing<'a, W> {
             }
             Members::Set => {
                 let node = member_of(checked, opened.node, i)?;
-                Ok((node, self.names.push_place(opened.name, i)))
+                Ok((node, self.names.push_place(opened.name, i)?))
             }
             Members::Dict => {
                 let key = member_of(checked, opened.node, i.saturating_mul(2))?;
@@ -213,8 +232,11 @@ impl<'a, W: Write> Listing<'a, W> {
                 let node = member_of(checked, opened.node, number)?;
                 match face(self.alloc, checked, key)? {
                     Face::Text(units) => {
-                        let name = self.names.push_key(opened.name, i, units.as_slice())?;
-                        Ok((node, name))
+                        let pair = Pair {
+                            number: i,
+                            key: units.as_slice(),
+                        };
+                        Ok((node, self.names.push_key(opened.name, &pair)?))
                     }
                     _ => Err(RunFault::Changed),
                 }
@@ -231,7 +253,12 @@ impl<'a, W: Write> Listing<'a, W> {
         shown: &Face,
     ) -> Result<(), RunFault> {
         let site = site_of(checked, node)?;
-        let row = row_of(self.alloc, self.named(name), shown, site)?;
+        let row = match self.form {
+            Form::Json => row_of(self.alloc, self.named(name), shown, site)?,
+            Form::Columns(style) => {
+                columns_of(self.alloc, style, self.names.get(name), shown, site)?
+            }
+        };
         self.put(row)
     }
 
@@ -249,7 +276,7 @@ impl<'a, W: Write> Listing<'a, W> {
         Ok(())
     }
 
-    /// Returns a name as it stands in a line.
+    /// Returns a name as it stands in a JSON line.
     fn named(&self, name: Name) -> Named<'_> {
         let text = self.names.get(name);
         match name.index {

@@ -1,6 +1,8 @@
 //! The names of nodes in a listing, in one buffer. The name of a member extends that of its container, or begins after
 //! it if the member has no path.
 
+use crate::listing::Form;
+use bplint_lines::{Pair, Style, add_index, add_key_name};
 use std::alloc::{AllocError, Global};
 
 /// The name of a node.
@@ -11,7 +13,7 @@ pub(crate) struct Name {
     /// Where its text ends.
     end: usize,
     /// The index of the innermost member around the node that has no path. If there is one, the text is the path from
-    /// that member to the node; otherwise it is the path of the node.
+    /// that member to the node, in columns behind the member's own name; otherwise it is the path of the node.
     pub index: Option<u64>,
 }
 
@@ -19,14 +21,16 @@ pub(crate) struct Name {
 #[derive(Drop)]
 pub(crate) struct Names {
     alloc: Global,
+    form: Form,
     text: Vec<u8>,
 }
 
 impl Names {
-    /// A buffer with the path text of the value that is listed.
-    pub(crate) fn new(alloc: Global, top: &str) -> Result<Names, AllocError> {
+    /// A buffer with the path text of the value that is listed, for lines of this form.
+    pub(crate) fn new(alloc: Global, form: Form, top: &str) -> Result<Names, AllocError> {
         Ok(Names {
             alloc,
+            form,
             text: Vec::from_slice(alloc, top.as_bytes())?,
         })
     }
@@ -55,25 +59,26 @@ impl Names {
     }
 
     /// Returns the name of member `i` of a container, which has no path. Drops what followed the container's name.
-    pub(crate) fn push_place(&mut self, container: Name, i: u64) -> Name {
+    pub(crate) fn push_place(&mut self, container: Name, i: u64) -> Result<Name, AllocError> {
         self.text.truncate(container.end);
-        Name {
-            start: self.text.len(),
-            end: self.text.len(),
-            index: Some(i),
+        if let Form::Columns(_) = self.form {
+            add_index(self.alloc, i, &mut self.text)?;
+        }
+        Ok(self.beginning(container, i))
+    }
+
+    /// Returns the name of the value of a pair of a dictionary. Drops what followed the dictionary's name.
+    pub(crate) fn push_key(&mut self, dict: Name, pair: &Pair<'_>) -> Result<Name, AllocError> {
+        match self.form {
+            Form::Json => self.push_whole_key(dict, pair),
+            Form::Columns(style) => self.push_shown_key(dict, pair, style),
         }
     }
 
-    /// Returns the name of the value of pair `i` of a dictionary, whose key has these units. It has no path if the key
-    /// has half of a surrogate pair. Drops what followed the dictionary's name.
-    pub(crate) fn push_key(
-        &mut self,
-        dict: Name,
-        i: u64,
-        units: &[u16],
-    ) -> Result<Name, AllocError> {
-        let Ok(key) = String::from_utf16(self.alloc, units)? else {
-            return Ok(self.push_place(dict, i));
+    /// Returns the name of a pair's value in JSON. It has no path if the key has half of a surrogate pair.
+    fn push_whole_key(&mut self, dict: Name, pair: &Pair<'_>) -> Result<Name, AllocError> {
+        let Ok(key) = String::from_utf16(self.alloc, pair.key)? else {
+            return self.push_place(dict, pair.number);
         };
         self.text.truncate(dict.end);
         self.text.push(b'/')?;
@@ -81,6 +86,30 @@ impl Names {
             self.add_escaped(*byte)?;
         }
         Ok(self.extended(dict))
+    }
+
+    /// Returns the name of a pair's value in columns. It has no path if the key cannot be shown in one.
+    fn push_shown_key(
+        &mut self,
+        dict: Name,
+        pair: &Pair<'_>,
+        style: Style,
+    ) -> Result<Name, AllocError> {
+        self.text.truncate(dict.end);
+        add_key_name(self.alloc, style, "", pair, &mut self.text)?;
+        match self.text.get(dict.end) {
+            Some(b'[') => Ok(self.beginning(dict, pair.number)),
+            _ => Ok(self.extended(dict)),
+        }
+    }
+
+    /// Returns the name that begins behind the name of this container, as that of its member `i`.
+    fn beginning(&self, container: Name, i: u64) -> Name {
+        Name {
+            start: container.end,
+            end: self.text.len(),
+            index: Some(i),
+        }
     }
 
     /// Returns the name of this container, extended to the end of the buffer.
