@@ -1,6 +1,6 @@
 //! The lines of a listing in columns: those of `ls`, with the object of each value and its place.
 
-ghost use Rattle.std.specs.Prelude.{◌≡◌, ◌++◌, IfOk, codes};
+ghost use Rattle.std.specs.Prelude.{◌≡◌, ◌++◌, IfOk, OnOk, codes};
 ghost use Rattle.std.specs.Fmt.{decimal};
 ghost use Rattle.bplint_lines.specs.OutputLines.{face_line, missing_line};
 
@@ -24,10 +24,18 @@ pub(crate) fn columns_of(
     line.extend_from_slice(name.as_bytes())?;
     line.push(b'\t')?;
     add_face(alloc, style, shown, &mut line)?;
+    add_site(alloc, site, &mut line)?;
+    Ok(line)
+}
+
+/// Adds the columns of an object and its place.
+fn add_site(alloc: Global, site: Site, line: &mut Vec<u8>) -> Result<(), AllocError>
+    ensures { OnOk result (line.new.items ≡ line.old.items ++ codes "\t" ++ decimal site.object ++ codes "\t"
+        ++ decimal site.place) }
+{
     let Site { object, place } = site;
     let columns = format!(in alloc; "\t{object}\t{place}")?;
-    line.extend_from_slice(columns.as_bytes())?;
-    Ok(line)
+    line.extend_from_slice(columns.as_bytes())
 }
 
 /// Returns the line for a path that leads nowhere, without its line feed.
