@@ -13,8 +13,9 @@ use std::alloc::{AllocError, Global};
 const LINT_HELP: &str = "Example: bplint lint Info.plist
          bplint lint --recursive --quiet backup
 
-With several FILEs or --recursive each line begins with the name of its file, and the status is the greatest of theirs.
-Below a folder links are not followed, and files that do not begin with bplist are passed over.
+With several FILEs, --files-from or --recursive each line begins with the name of its file, and the status is the greatest
+of theirs. Below a folder links are not followed. A file there that does not begin with bplist is passed over, unless its
+name ends in .plist, .strings or .nib or --all is given. XML and old-style text are only counted.
 Exit status: 0 yes, 1 a broken rule, 2 a wrong command line, 3 a failed read or write, 4 no memory.
 The rules: man bplint, or docs/RULES.md.";
 
@@ -49,7 +50,7 @@ path, 3 a failed read or write, 4 no memory. The rules: man bplint, or docs/RULE
 const LS_HELP: &str = "Example: bplint ls Info.plist /LSArchitecturePriority
          bplint ls --recursive Info.plist
 
-A line has a path, a tab and what lies there. A place in brackets stands where no path leads.
+A line has a path, a tab and what lies there. Where no path leads, an index in brackets stands in place of the path.
 Exit status: 0 yes, 1 a broken rule or a path that leads nowhere, 2 a wrong command line or path, 3 a failed read or
 write, 4 no memory. The rules: man bplint, or docs/RULES.md.";
 
