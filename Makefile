@@ -1,14 +1,14 @@
 ## bplint: `rt` of the kit proves and builds; python3 runs the tests on what is built.
 ##
 ##   make build          proves and builds the program, crates/bplint/out/bplint; half an hour the first time
-##   make look FILE=F    lints F, if nothing is built yet by an unproved program, which takes a minute and a half to compile
+##   make look FILE=F    lints F with the proved program if it is built, and otherwise with an unproved one, which it keeps
 ##   make lib            proves and builds the C library, into crates/bplist_c/out
 ##   make wheel          the Python package for pip, with the library in it, into dist/
 ##   make dist           archive, Debian packages, wheel and SHA256SUMS, into dist/
-##   make install        program, manual page, completions, C library, header and bplist.pc, below PREFIX
+##   make install        program, manual page, completions, problem matcher, C library, header and bplist.pc, below PREFIX
 ##   make uninstall      removes all of it; give it the same words as install
 ##   make check          for every day: `make build lib` and the quick tests; three minutes and the proofs of what changed
-##   make gate           runs every test, as .ci/run does, before a push; `make test` is the same
+##   make gate           runs the tests of .ci/run, before a push; `make test` is the same
 ##   make edits          tries every must-fail edit, also those that the gate leaves out
 ##   make fuzz CASES=N   all calls of the Python package on N changed files, with ASAN and UBSAN
 ##   make bench          times program and library, and writes docs/BENCHMARKS.md; ten minutes on a quiet machine
