@@ -112,7 +112,7 @@ pack-wheel:
 	mkdir -p $(DIST) && rm -f $(DIST)/bplist-*.whl
 	@umask 022; copy=$$(mktemp -d) && trap 'rm -rf "$$copy"' EXIT && cp -r python include VERSION "$$copy" && \
 	  cp LICENSE "$$copy/python" && \
-	  BPLIST_LIBRARY=$(abspath $(LIBRARY)) PYTHONDONTWRITEBYTECODE=1 $(PYTHON) -m pip -q --disable-pip-version-check wheel \
+	  BPLIST_LIBRARY='$(abspath $(LIBRARY))' PYTHONDONTWRITEBYTECODE=1 $(PYTHON) -m pip -q --disable-pip-version-check wheel \
 	  --no-index --no-deps --no-build-isolation --no-cache-dir -w $(DIST) "$$copy/python"
 
 # The package's tests, over the wheel in a folder of its own.

@@ -34,7 +34,7 @@ def put(octets: bytes) -> None:
     sent = 0
     try:
         while sent < len(octets):
-            sent += os.write(sys.stdout.fileno(), octets[sent:])
+            sent += os.write(1, octets[sent:])
     except BrokenPipeError:
         raise Ended("", 3) from None
     except OSError:
@@ -42,17 +42,18 @@ def put(octets: bytes) -> None:
 
 
 def complain(line: str) -> None:
-    print(line, file=sys.stderr)
+    if sys.stderr is not None:
+        print(line, file=sys.stderr)
 
 
 def bytes_of(name: str) -> bytes:
     """The bytes of a file, or of standard input for `-`."""
     try:
-        file = sys.stdin.buffer if name == "-" else open(name, "rb")
+        file = open(0, "rb", closefd=False) if name == "-" else open(name, "rb")
     except IsADirectoryError:
         raise Ended("read Device", 3) from None
     except (OSError, ValueError):
-        raise Ended("read Open", 3) from None
+        raise Ended("read Device" if name == "-" else "read Open", 3) from None
     try:
         with file:
             return file.read()
@@ -188,15 +189,15 @@ def reader() -> argparse.ArgumentParser:
     parser = argparse.ArgumentParser(prog="python -m bplist", description=__doc__, allow_abbrev=False)
     parser.add_argument("-V", "--version", action="version", version=f"bplist {bplist.__version__}")
     verbs = parser.add_subparsers(required=True, metavar="lint|ls|show")
-    verb = verbs.add_parser("lint", help=lint.__doc__)
+    verb = verbs.add_parser("lint", help=lint.__doc__, allow_abbrev=False)
     verb.add_argument("-q", "--quiet", action="store_true", help="print nothing for a sound file")
     verb.add_argument("files", metavar="FILE", nargs="+", help="a file, or - for standard input")
     verb.set_defaults(run=lint)
-    verb = verbs.add_parser("ls", help=ls.__doc__)
+    verb = verbs.add_parser("ls", help=ls.__doc__, allow_abbrev=False)
     verb.add_argument("file", metavar="FILE")
     verb.add_argument("path", metavar="PATH", nargs="?", default="", help="a JSON Pointer, for example /items/0")
     verb.set_defaults(run=ls)
-    verb = verbs.add_parser("show", help=show.__doc__)
+    verb = verbs.add_parser("show", help=show.__doc__, allow_abbrev=False)
     verb.add_argument("file", metavar="FILE")
     verb.add_argument("paths", metavar="PATH", nargs="*", help="JSON Pointers; without any, the whole value")
     verb.set_defaults(run=show)

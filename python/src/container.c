@@ -1,4 +1,4 @@
-/* Containers that are read on access, and the iterators over their members. */
+/* Containers that are read on access. */
 #include "extension.h"
 
 #include <structmember.h>

@@ -1,7 +1,7 @@
 /* The declarations that the files of the extension share.
 
-   A call of the library is made with the GIL held, so no other call can interrupt it. Calls that read the whole file
-   release the GIL. On an open handle such a call is made between `handle_begin` and `handle_end`, and all other calls
+   A call of the library is made with the GIL held, so no other call can interrupt it. Calls that open a file, or walk
+   through all of it, release the GIL. On an open handle such a call is made between `handle_begin` and `handle_end`, and all other calls
    wait for it.
 
    A function that returns an object returns a new reference, or NULL with an exception set. A function that returns an
@@ -234,8 +234,9 @@ PyObject *date_of(State *state, double seconds);
 
 /* leaf.c */
 
-/* Decodes ASCII. Raises the exception for a changed file if it is none. */
-PyObject *ascii_of(const char *bytes, size_t length);
+/* Decodes ASCII. Raises the exception for a changed file if it is none. To make that exception may start the collector, and
+   so run any code; `owner`, or NULL, is what keeps the bytes meanwhile. */
+PyObject *ascii_of(PyObject *owner, const char *bytes, size_t length);
 /* Returns the value of a leaf of this file. */
 PyObject *leaf_of(State *state, const Source *source, const bplist_body *body);
 

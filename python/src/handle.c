@@ -112,20 +112,18 @@ static int raise_unopened(Handle *self, bplist_status status, const bplist_verdi
 
 PyObject *handle_open(State *state, PyObject *class, PyObject *owner, PyObject *certificate, int is_sorted)
 {
-    Source given = {NULL, NULL, 0};
+    Source source, given = {NULL, NULL, 0};
     bplist_verdict verdict;
     bplist_status status;
-    Handle *self = handle_new(state, class);
+    Handle *self;
 
+    if (source_of(state, owner, &source) < 0 || (certificate != Py_None && source_of(state, certificate, &given) < 0))
+        return NULL;
+    self = handle_new(state, class);
     if (self == NULL)
         return NULL;
-    if (source_of(state, owner, &self->source) < 0
-        || (certificate != Py_None && source_of(state, certificate, &given) < 0)) {
-        self->source.owner = NULL;
-        Py_DECREF(self);
-        return NULL;
-    }
     Py_INCREF(owner);
+    self->source = source;
     status = handle_fill(self, &given, is_sorted, &verdict);
     if (raise_unopened(self, status, &verdict) < 0) {
         Py_DECREF(self);
@@ -175,13 +173,15 @@ static void handle_sort(Handle *self)
 {
     bplist_handle sorted = {0};
     bplist_verdict verdict;
-    PyThreadState *thread = handle_begin(self);
+    PyThreadState *thread;
 
+    self->is_sorted = 1;
+    thread = handle_begin(self);
     if (thread == NULL) {
+        self->is_sorted = 0;
         PyErr_Clear();
         return;
     }
-    self->is_sorted = 1;
     if (reopened(&self->source, &self->handle, &sorted, &verdict) == BPLIST_OK) {
         if (verdict.objects == self->objects && verdict.top == self->top) {
             bplist_close(&self->handle);

@@ -99,12 +99,15 @@ static PyObject *uid_of(State *state, const uint8_t *bytes, uint64_t length)
     return uid;
 }
 
-PyObject *ascii_of(const char *bytes, size_t length)
+PyObject *ascii_of(PyObject *owner, const char *bytes, size_t length)
 {
-    PyObject *text = PyUnicode_DecodeASCII(bytes, (Py_ssize_t)length, NULL);
+    PyObject *text;
 
+    Py_XINCREF(owner);
+    text = PyUnicode_DecodeASCII(bytes, (Py_ssize_t)length, NULL);
     if (text == NULL)
         raise_changed_for(PyExc_UnicodeDecodeError);
+    Py_XDECREF(owner);
     return text;
 }
 
@@ -181,7 +184,7 @@ PyObject *leaf_of(State *state, const Source *source, const bplist_body *body)
     case BPLIST_DATA:
         return PyBytes_FromStringAndSize((const char *)bytes, length);
     case BPLIST_ASCII:
-        return ascii_of((const char *)bytes, body->length);
+        return ascii_of(source->owner, (const char *)bytes, body->length);
     case BPLIST_WIDE:
         return wide_of(source->owner, bytes, (size_t)length / 2);
     default:

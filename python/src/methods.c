@@ -6,6 +6,9 @@
 /* How many paths are looked for before one of them tells how many keys each of them compares. */
 #define PATHS 8
 
+/* How many steps of a path are looked at then. */
+#define MOST_STEPS 64
+
 /* Converts an argument to an object number. */
 static int number_of(PyObject *given, uint32_t *out)
 {
@@ -43,17 +46,19 @@ static PyObject *raise_missing(PyObject *path, bplist_status status, uint64_t st
     return NULL;
 }
 
-/* Adds up, for the dictionaries that a path leads through, what it takes to look for one key in each. */
+/* Adds up, for the first dictionaries that a path leads through, what it takes to look for one key in each. */
 static void compare_on(Handle *self, const char *text, size_t length)
 {
     uint64_t compared = 0;
+    int left = MOST_STEPS;
 
-    for (size_t i = 0; i < length; i++) {
+    for (size_t i = 0; i < length && left > 0; i++) {
         bplist_found found;
         bplist_body body;
 
         if (text[i] != '/')
             continue;
+        left--;
         if (bplist_find(&self->handle, self->source.file, self->source.length, text, i, &found) != BPLIST_OK)
             break;
         if (bplist_face(&self->handle, self->source.file, self->source.length, found.object, &body) == BPLIST_OK
@@ -157,7 +162,7 @@ static PyObject *text_of(PyObject *object, PyObject *arguments)
         if (status == BPLIST_OK && written.length > (uint64_t)length)
             raise_changed();
         else if (expect(status) == 0)
-            text = ascii_of(buffer, written.length);
+            text = ascii_of(NULL, buffer, written.length);
     }
     PyMem_Free(buffer);
     return text;

@@ -49,7 +49,7 @@ static PyObject *looks_like(PyObject *module, PyObject *owner)
         return NULL;
     if (words.count == 0)
         Py_RETURN_NONE;
-    return ascii_of(words.text, words.count);
+    return ascii_of(NULL, words.text, words.count);
 }
 
 /* Returns true if a class is a subclass of one of the module's own. Otherwise raises TypeError. */

@@ -14,12 +14,17 @@ import plistlib
 import pty
 import re
 import select
+import shlex
 import shutil
 import subprocess
 import sys
 import tempfile
 
 ROOT = pathlib.Path(__file__).resolve().parents[2]
+sys.path.insert(0, str(ROOT / "tests"))
+
+from helpers.harness import closing, lacks  # noqa: E402
+
 COMPLETIONS = ROOT / "completions"
 SECONDS = 30
 PROMPT = "READY> "
@@ -125,10 +130,10 @@ class Terminal:
 
 
 SHELLS = {
-    "bash": (["bash", "--norc", "-i"], f"source {COMPLETIONS / 'bplint.bash'}"),
+    "bash": (["bash", "--norc", "-i"], f"source {shlex.quote(str(COMPLETIONS / 'bplint.bash'))}"),
     "zsh": (
         ["zsh", "-f", "-i"],
-        f"fpath=({COMPLETIONS} $fpath); autoload -U compinit; compinit -u -D; PS1='{PROMPT}'; PROMPT_SP=",
+        f"fpath=({shlex.quote(str(COMPLETIONS))} $fpath); autoload -U compinit; compinit -u -D; PS1='{PROMPT}'; PROMPT_SP=",
     ),
 }
 
@@ -152,10 +157,10 @@ def offer_tests(shell, offers):
 
 def all_tests():
     for shell, offers in ("bash", bash_offers), ("fish", fish_offers):
-        if shutil.which(shell):
+        if not lacks(shell):
             yield from offer_tests(shell, offers)
     for shell in SHELLS:
-        if shutil.which(shell):
+        if not lacks(shell):
             yield from typed_tests(shell)
 
 
@@ -175,7 +180,7 @@ def main():
     missing = [shell for shell in ("bash", "zsh", "fish") if not shutil.which(shell)]
     if missing:
         print(f"not installed: {', '.join(missing)}")
-    print(f"{passed} passed, {failed} failed")
+    print(closing(passed, failed, len(missing)))
     return 1 if failed else 0
 
 

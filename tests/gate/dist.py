@@ -236,7 +236,8 @@ class Tests:
     def see(self, unpacked):
         """No file names a folder of the build."""
         folders = [f"{folder}/".encode() for folder in (ROOT, self.folder, pathlib.Path(run("rt", "doc").strip()).parent)]
-        naming = [path for path in files_below(unpacked) if any(folder in path.read_bytes() for folder in folders)]
+        names = [re.compile(rb"(?<![\w.~-])" + re.escape(folder)) for folder in folders]
+        naming = [path for path in files_below(unpacked) if any(name.search(path.read_bytes()) for name in names)]
         self.count(f"folders of the build below {unpacked.name}", ", ".join(map(str, naming)))
 
     def glibc(self):

@@ -12,6 +12,7 @@ import os
 import pathlib
 import plistlib
 import pty
+import shlex
 import shutil
 import subprocess
 import sys
@@ -176,7 +177,7 @@ def git_tests(program, top):
             (folder / name).write_bytes(octets)
 
     git("init", "-q")
-    git("config", "diff.bplist.textconv", f"{program} textconv")
+    git("config", "diff.bplist.textconv", f"{shlex.quote(str(program))} textconv")
     (folder / ".gitattributes").write_text("*.plist diff=bplist\n")
     write("first")
     git("add", ".")

@@ -9,6 +9,7 @@ The last line is `N passed, M failed`.
 import argparse
 import os
 import pathlib
+import shutil
 import pty
 import subprocess
 import sys
@@ -70,7 +71,10 @@ def unreadable_tests(program, top):
     options = {"cwd": top}
     if os.geteuid() == 0:
         options["user"] = NOBODY
-    ran = lint(program, "-r", "--explain", "--summary", "closed", **options)
+    # The program may be in a folder that nobody may not read.
+    shutil.copy(program, top / "bplint")
+    (top / "bplint").chmod(0o755)
+    ran = lint("./bplint", "-r", "--explain", "--summary", "closed", **options)
     yield "closed: status", ran.returncode, 3
     yield "closed: answers", ran.stdout, b"".join(
         b"closed/%s: ok reached 1 height 1 top true\n" % name for name in (b"before", b"then")

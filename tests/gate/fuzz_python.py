@@ -298,7 +298,7 @@ def run_watched(line, folder):
     last = folder / "last"
     words = [sys.executable, "-B", __file__, "--last", last, "--cases", str(line.cases), "--seed", str(line.seed)]
     words += ["--file", line.file] if line.file else []
-    status = subprocess.run(words, env=environment, timeout=SECONDS, check=False).returncode
+    status = subprocess.run(words, env=environment, timeout=max(SECONDS, line.cases // 10), check=False).returncode
     if status not in (0, 1) and last.exists():
         print(f"FAILED: status {status} on this file\n{last.read_bytes()[:SHOWN].hex()}")
         print(closing(0, 1, 0))

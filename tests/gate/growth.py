@@ -180,7 +180,7 @@ def main():
         sys.exit(__doc__)
     calls, program = map(os.path.abspath, sys.argv[1:])
     families = [*FAMILIES, *REFUSED_PAIRS]
-    with concurrent.futures.ThreadPoolExecutor(os.cpu_count()) as pool:
+    with concurrent.futures.ThreadPoolExecutor(len(os.sched_getaffinity(0))) as pool:
         wrongs = [*pool.map(lambda family: wrong_of_family(calls, program, family), families), wrong_of_tables(calls, pool)]
     names = [family.__name__ for family in families] + ["the tables of runs"]
     reports = [report(name, wrong) for name, wrong in zip(names, wrongs)]

@@ -189,7 +189,7 @@ def main():
         return 2
     cases = list(damages())
     passed = failed = 0
-    speakers = [("bplint", said_by(sys.argv[1], cases))]
+    speakers = [("bplint", said_by(str(pathlib.Path(sys.argv[1]).resolve()), cases))]
     speakers += [("C", told_by(word, cases)) for word in sys.argv[2:]]
     for speaker, answers in speakers:
         for (name, _, words), answer in zip(cases, answers):

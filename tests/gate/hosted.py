@@ -24,6 +24,7 @@ SUITE = ROOT / "conformance"
 SOUND = plistlib.dumps({"a": 1}, fmt=plistlib.FMT_BINARY)
 PASSED_OVER = {
     "sound.plist": SOUND,
+    "-x.plist": SOUND,
     "xml.plist": plistlib.dumps({"a": 1}),
     "Localizable.strings": b'/* A comment. */\n"a" = "b";\n',
     "old.plist": b'{ a = b; c = "d e"; }\n',

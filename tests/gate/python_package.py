@@ -41,8 +41,10 @@ def run_tests(names):
     wanted = [f"test_bplist.{name}" for name in names]
     suite = loader.loadTestsFromNames(wanted) if names else loader.discover(str(TESTS))
     result = unittest.TextTestRunner(stream=sys.stdout, verbosity=0).run(suite)
-    failed = len({str(test).partition(" (")[0] for test, _ in result.failures + result.errors})
-    print(f"{result.testsRun - failed} passed, {failed} failed")
+    failed = len({test.id().partition(" ")[0] for test, _ in result.failures + result.errors})
+    # In the gate nothing is skipped.
+    failed += len(result.skipped) + (result.testsRun == 0)
+    print(f"{max(result.testsRun - failed, 0)} passed, {failed} failed")
     return 1 if failed else 0
 
 

@@ -274,7 +274,7 @@ def main():
     with tempfile.TemporaryDirectory(prefix="bplint") as folder:
         library = os.path.join(folder, "refuse_growth.so")
         subprocess.run(["gcc", "-shared", "-fPIC", "-O1", "-o", library, SOURCE], check=True)
-        with concurrent.futures.ThreadPoolExecutor(os.cpu_count()) as pool:
+        with concurrent.futures.ThreadPoolExecutor(len(os.sched_getaffinity(0))) as pool:
             told = command_outcomes(folder, library, bplint, pool)
             told += call_outcomes(Stage(folder, library), calls, pool)
     return 1 if report(told) else 0

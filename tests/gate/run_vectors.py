@@ -227,7 +227,7 @@ def report(outcomes):
 
 def main():
     parser = argparse.ArgumentParser(description=__doc__, formatter_class=argparse.RawDescriptionHelpFormatter)
-    parser.add_argument("--jobs", type=int, default=os.cpu_count() or 1)
+    parser.add_argument("--jobs", type=int, default=len(os.sched_getaffinity(0)))
     parser.add_argument("--only", default="", metavar="PREFIX", help="the lines whose name begins so")
     parser.add_argument("table")
     parser.add_argument("program")

@@ -116,8 +116,8 @@ class Tests:
             self.skipped += 1
             return
         prefix = self.folder / "installed"
-        install(prefix, LIBRARY, "0.2.0")
-        for version, status in [("0.2.0", 101), ("0.3.0", 0)]:
+        install(prefix, LIBRARY, "0.3.0")
+        for version, status in [("0.3.0", 101), ("0.4.0", 0)]:
             write_pc(prefix, version)
             ran = self.cargo("bplist", "test", "--test", "faults", PKG_CONFIG_PATH=str(prefix / "lib/pkgconfig"))
             self.count(f"pkg-config, {version}", "" if ran.returncode == status else ran.stderr)

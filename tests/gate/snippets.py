@@ -218,6 +218,7 @@ class Runner:
     def environment(self, place):
         path = [place / "bin", self.venv / "bin", os.environ["PATH"]]
         return {
+            "HOME": str(place),
             **os.environ,
             "PATH": ":".join(map(str, path)),
             "PKG_CONFIG_PATH": str(self.prefix / "lib/pkgconfig"),

@@ -5,9 +5,11 @@ import sys
 
 # The Debian package of each program that some tests need. `.ci/run` installs those of tests/packages, where it may.
 PACKAGES = {
+    "bash": "bash",
     "cargo": "cargo",
     "dh": "debhelper",
     "fakeroot": "fakeroot",
+    "fish": "fish",
     "g++": "g++",
     "gcc": "gcc",
     "git": "git",
@@ -19,6 +21,7 @@ PACKAGES = {
     "pkg-config": "pkg-config",
     "plistutil": "libplist-utils",
     "valgrind": "valgrind",
+    "zsh": "zsh",
 }
 
 

@@ -167,14 +167,17 @@ def forked(words, memory, output):
     with tempfile.TemporaryFile() as errors:
         child = os.fork()
         if child == 0:
-            limited(memory)
-            os.dup2(output.fileno(), 1)
-            os.dup2(errors.fileno(), 2)
-            sys.argv = list(words)
-            status = read_python.main()
-            sys.stdout.flush()
-            sys.stderr.flush()
-            os._exit(status)
+            status = 2
+            try:
+                limited(memory)
+                os.dup2(output.fileno(), 1)
+                os.dup2(errors.fileno(), 2)
+                sys.argv = list(words)
+                status = read_python.main()
+                sys.stdout.flush()
+                sys.stderr.flush()
+            finally:
+                os._exit(status)
         _, status = os.waitpid(child, 0)
         errors.seek(0)
         return subprocess.CompletedProcess(words, os.waitstatus_to_exitcode(status), b"", errors.read())
@@ -352,7 +355,7 @@ def arguments():
     parser.add_argument("--only", default="", metavar="NAME")
     parser.add_argument("--write", action="store_true")
     parser.add_argument("--details", type=argparse.FileType("w", encoding="utf-8"))
-    parser.add_argument("--jobs", type=int, default=os.cpu_count() or 1)
+    parser.add_argument("--jobs", type=int, default=len(os.sched_getaffinity(0)))
     return parser.parse_args()
 
 

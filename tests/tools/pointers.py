@@ -67,7 +67,7 @@ class Sources:
     def __init__(self):
         paths = sources("crates/*/src/**/*.rt", "crates/*/specs/*.antt", "crates/*/proofs/**/*.antt", "tests/**/*.py")
         self.by_file = {path: declared_in(path) for path in paths}
-        self.files = {path.name for path in ROOT.rglob("*") if "out" not in path.parts and path.is_file()}
+        self.files = {path.name for path in ROOT.rglob("*") if "out" not in path.relative_to(ROOT).parts and path.is_file()}
         self.crates = {path.name for path in ROOT.glob("crates/*")}
         self.names = set().union(*self.by_file.values(), self.crates, {path.stem for path in self.by_file})
         makefile = (ROOT / "Makefile").read_text()
@@ -157,7 +157,7 @@ def dead_links(pages):
     found, looked = [], 0
     for page in sorted(ROOT.glob("**/*.md")):
         name = str(page.relative_to(ROOT))
-        if {"out", "target", "dist"} & set(page.parts):
+        if {"out", "target", "dist"} & set(page.relative_to(ROOT).parts):
             continue
         for file, anchor in re.findall(r"\]\(([^)#:\s]*)(?:#([\w-]+))?\)", pages.get(name) or page.read_text()):
             to, looked = (page.parent / file if file else page).resolve(), looked + 1
