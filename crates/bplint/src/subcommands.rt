@@ -88,17 +88,19 @@ struct Subcommand {
     arguments: &'static [Argument],
 }
 
-/// The subcommands, in the order of the help.
-static SUBCOMMANDS: [Subcommand; 10] = [
-    Subcommand {
-        name: "lint",
-        about: "Says whether each FILE holds a value",
-        help: LINT_HELP,
-        arguments: &[
-            HEX, QUIET, RECURSIVE, ALL, SKIP_OTHER, LIST, NULL, FILES_FROM, FINDINGS, SUMMARY,
-            WITH_NAME, EXPLAIN, FILES,
-        ],
-    },
+/// The subcommand that lints.
+static LINTING: [Subcommand; 1] = [Subcommand {
+    name: "lint",
+    about: "Says whether each FILE holds a value",
+    help: LINT_HELP,
+    arguments: &[
+        HEX, QUIET, RECURSIVE, ALL, SKIP_OTHER, LIST, NULL, FILES_FROM, FINDINGS, SUMMARY,
+        WITH_NAME, EXPLAIN, FILES,
+    ],
+}];
+
+/// The subcommands that show a file or a rule.
+static SHOWING: [Subcommand; 5] = [
     Subcommand {
         name: "show",
         about: "Prints what lies under each PATH, or the whole",
@@ -133,6 +135,10 @@ static SUBCOMMANDS: [Subcommand; 10] = [
         help: EXPLAIN_HELP,
         arguments: &[WORDS],
     },
+];
+
+/// The subcommands with a certificate.
+static CERTIFYING: [Subcommand; 4] = [
     Subcommand {
         name: "certify",
         about: "Writes a certificate of FILE to OUT",
@@ -174,12 +180,38 @@ impl Subcommand {
 
 /// Makes the command line of the program.
 pub fn bplint<'a>(alloc: Global) -> Result<Command<'a>, AllocError> {
-    let mut command = Command::new(alloc, "bplint")
+    let command = Command::new(alloc, "bplint")
         .about("Lints, checks and reads binary property lists")
         .version("0.4.0")
         .after_help(HELP)
         .subcommand_required(true);
-    for subcommand in &SUBCOMMANDS {
+    let command = with_subcommands(alloc, command, linting())?;
+    let command = with_subcommands(alloc, command, showing())?;
+    with_subcommands(alloc, command, certifying())
+}
+
+// A proof that sees all texts of the tables at once takes too many steps. So each table has a call of its own.
+
+fn linting() -> &'static [Subcommand] {
+    &LINTING
+}
+
+fn showing() -> &'static [Subcommand] {
+    &SHOWING
+}
+
+fn certifying() -> &'static [Subcommand] {
+    &CERTIFYING
+}
+
+/// Adds the subcommands of a table.
+fn with_subcommands<'a>(
+    alloc: Global,
+    command: Command<'a>,
+    table: &[Subcommand],
+) -> Result<Command<'a>, AllocError> {
+    let mut command = command;
+    for subcommand in table {
         command = command.subcommand(subcommand.to_command(alloc)?)?;
     }
     Ok(command)
