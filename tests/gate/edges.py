@@ -11,13 +11,15 @@ import argparse
 import os
 import pathlib
 import plistlib
-import pty
 import shlex
-import shutil
 import subprocess
 import sys
 import tempfile
 import threading
+
+sys.path.insert(0, str(pathlib.Path(__file__).resolve().parents[1]))
+
+from helpers.harness import closing, lacks, on_terminal  # noqa: E402
 
 SOUND = bytes.fromhex("62706c697374303009080000000000000101000000000000000100000000000000000000000000000009")
 TWICE = bytes.fromhex(
@@ -32,21 +34,6 @@ def run(program, *words, **options):
     return subprocess.run([program, *words], capture_output=True, check=False, timeout=300, **options)
 
 
-def on_terminal(program, *words, cwd):
-    """What is written to a terminal as standard error, and the status."""
-    leader, follower = pty.openpty()
-    ran = subprocess.run([program, *words], stdout=subprocess.DEVNULL, stderr=follower, check=False, cwd=cwd)
-    os.close(follower)
-    said = b""
-    try:
-        while part := os.read(leader, 4096):
-            said += part
-    except OSError:
-        pass
-    os.close(leader)
-    return said.decode().replace("\r\n", "\n"), ran.returncode
-
-
 def terminal_tests(program, top):
     (top / "sound").write_bytes(SOUND)
     (top / "certificate").write_bytes(b"certificate")
@@ -56,13 +43,13 @@ def terminal_tests(program, top):
     ):
         words = (verb, "none", *rest)
         below = "  file: none: no such file\n"
-        yield f"terminal: {verb}", on_terminal(program, *words, cwd=top), ("read Open\n" + below, 3)
+        yield f"terminal: {verb}", on_terminal([program, *words], cwd=top), (3, "read Open\n" + below)
         words = (verb, "--explain=never", *words[1:])
-        yield f"terminal: {verb} --explain=never", on_terminal(program, *words, cwd=top), ("read Open\n", 3)
+        yield f"terminal: {verb} --explain=never", on_terminal([program, *words], cwd=top), (3, "read Open\n")
         words = (verb, "--explain", *words[2:])
         said = run(program, *words, cwd=top)
         yield f"no terminal: {verb} --explain", (said.stderr.decode(), said.returncode), ("read Open\n" + below, 3)
-    said, status = on_terminal(program, "show", "sound", "WindowSize", cwd=top)
+    status, said = on_terminal([program, "show", "sound", "WindowSize"], cwd=top)
     yield "terminal: path", (said.split("\n")[1::2], status), (
         ["  name: sound", "  path: WindowSize", ""], 2
     )
@@ -161,7 +148,7 @@ def contents(value):
 
 
 def git_tests(program, top):
-    if shutil.which("git") is None and os.environ.get("BPLINT_GATE") == "0":
+    if lacks("git"):
         yield "git is missing", None, None
         return
     folder = top / "repository"
@@ -215,7 +202,7 @@ def main():
                 else:
                     failed += 1
                     print(f"{what}\n    wanted {wanted!r}\n    got    {got!r}")
-    print(f"{passed} passed, {failed} failed" + (f", {skipped} skipped" if skipped else ""))
+    print(closing(passed, failed, skipped))
     return 1 if failed else 0
 
 

@@ -10,10 +10,13 @@ import argparse
 import os
 import pathlib
 import shutil
-import pty
 import subprocess
 import sys
 import tempfile
+
+sys.path.insert(0, str(pathlib.Path(__file__).resolve().parents[1]))
+
+from helpers.harness import on_terminal  # noqa: E402
 
 SOUND = bytes.fromhex("62706c697374303009080000000000000101000000000000000100000000000000000000000000000009")
 NOBODY = 65534
@@ -87,27 +90,12 @@ def unreadable_tests(program, top):
     (folder / "inner").chmod(0o755)
 
 
-def terminal_output(program, *words):
-    """What is written to a terminal as standard error."""
-    leader, follower = pty.openpty()
-    ran = subprocess.run([program, "lint", *words], stdout=subprocess.DEVNULL, stderr=follower, check=False)
-    os.close(follower)
-    said = b""
-    try:
-        while part := os.read(leader, 4096):
-            said += part
-    except OSError:
-        pass
-    os.close(leader)
-    return ran.returncode, said
-
-
 def terminal_tests(program, top):
     folder = top / "few"
-    counts = b"files looked at 10, sound 10, not sound 0, unreadable 0, passed over 0, other forms 0\r\n"
-    yield "terminal", terminal_output(program, "-rq", folder), (0, counts)
+    counts = "files looked at 10, sound 10, not sound 0, unreadable 0, passed over 0, other forms 0\n"
+    yield "terminal", on_terminal([program, "lint", "-rq", folder]), (0, counts)
     one = folder / "folder 0/property list 0.plist"
-    yield "terminal, one file", terminal_output(program, one), (0, b"")
+    yield "terminal, one file", on_terminal([program, "lint", one]), (0, "")
     yield "no terminal", lint(program, "-rq", folder).stderr, b""
 
 

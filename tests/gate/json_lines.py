@@ -25,12 +25,10 @@ import tempfile
 
 sys.path.insert(0, str(pathlib.Path(__file__).resolve().parents[1]))
 
-from gate.listing import CONTAINER_KINDS, LIMIT, LISTED, Tree, loaded, run  # noqa: E402
+from gate.listing import CONTAINER_KINDS, LIMIT, LISTED, Tree, all_files, loaded, run  # noqa: E402
 from helpers.contents import file_of, number  # noqa: E402
 from helpers.harness import closing  # noqa: E402
 from helpers.printed import UNSHOWN, key_step, text_of  # noqa: E402
-from helpers.sample_files import table_files  # noqa: E402
-from helpers.writers import written  # noqa: E402
 
 
 def is_utf16(units):
@@ -299,12 +297,6 @@ def try_names(program, folder):
             assert not row["ok"] and row["error"] == "read Open" and row["file"].endswith("\ufffd\ufffd"), row
         else:
             assert row["ok"] and "file_hex" not in row, row
-
-
-def all_files(folder):
-    """Names and bytes, None for a file that cannot be made here."""
-    yield from ((sample.name, sample.octets) for sample in table_files())
-    yield from ((name, octets) for name, octets, _ in written(folder))
 
 
 def main():

@@ -1,6 +1,8 @@
 """What the scripts of tests do if a program that they need is not installed."""
 import os
+import pty
 import shutil
+import subprocess
 import sys
 
 # The Debian package of each program that some tests need. `.ci/run` installs those of tests/packages, where it may.
@@ -37,6 +39,21 @@ def lacks(program):
     if is_gate():
         sys.exit(f"FAILED: {program} is not installed (Debian package {PACKAGES[program]}), and the gate skips no test")
     return True
+
+
+def on_terminal(words, **options):
+    """Runs a program whose standard error is a terminal. Answers the exit status and what was written there."""
+    leader, follower = pty.openpty()
+    ran = subprocess.run(words, stdout=subprocess.DEVNULL, stderr=follower, check=False, **options)
+    os.close(follower)
+    said = b""
+    try:
+        while part := os.read(leader, 4096):
+            said += part
+    except OSError:
+        pass
+    os.close(leader)
+    return ran.returncode, said.decode().replace("\r\n", "\n")
 
 
 def closing(passed, failed, skipped):
