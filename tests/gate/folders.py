@@ -9,6 +9,7 @@ The last line is `N passed, M failed`.
 import argparse
 import os
 import pathlib
+import resource
 import shutil
 import subprocess
 import sys
@@ -28,13 +29,14 @@ def lint(program, *words, **options):
     return subprocess.run([program, "lint", *words], capture_output=True, check=False, **options)
 
 
-def peak(program, folder):
-    """The most memory that a quiet run held, in bytes, and what it wrote to standard error."""
-    ran = subprocess.Popen([program, "lint", "-rq", "--summary", folder], stderr=subprocess.PIPE)
-    said = ran.stderr.read().decode().strip()
-    _, status, usage = os.wait4(ran.pid, 0)
-    ran.returncode = os.waitstatus_to_exitcode(status)
-    return usage.ru_maxrss * 1024, said
+def counted(program, folder, room):
+    """What a quiet run says that may hold so many bytes of data: its status, and the counts."""
+
+    def limit():
+        resource.setrlimit(resource.RLIMIT_DATA, (room, room))
+
+    ran = lint(program, "-rq", "--summary", folder, preexec_fn=limit)
+    return ran.returncode, ran.stderr.decode().strip()
 
 
 def fill(folder, count, each):
@@ -46,18 +48,17 @@ def fill(folder, count, each):
 
 
 def memory_tests(program, top, count):
-    few = top / "few"
-    fill(few, 10, 10)
-    least, _ = peak(program, few)
+    """Memory is for the names of the files of one folder, and for one name of each folder around it."""
+    fill(top / "few", 10, 10)
     name = len(str(top)) + 60
+    counts = f"files looked at {count}, sound {count}, not sound 0, unreadable 0, passed over 0, other forms 0"
     for each in (100, count):
         folder = top / f"each {each}"
         fill(folder, count, each)
-        held, said = peak(program, folder)
-        allowed = least + BESIDE + (each + count // each) * (name + EACH)
-        yield f"{count} files, {each} in a folder: {held} bytes held, {allowed} allowed", held <= allowed, True
-        counts = f"files looked at {count}, sound {count}, not sound 0, unreadable 0, passed over 0, other forms 0"
-        yield f"{count} files, {each} in a folder: counts", said, counts
+        room = BESIDE + (each + count // each) * (name + EACH)
+        yield f"{count} files, {each} in a folder, {room} bytes", counted(program, folder, room), (0, counts)
+    fill(top / "many", 20_000, 20_000)
+    yield f"20000 files in a folder, {BESIDE} bytes", counted(program, top / "many", BESIDE)[0], 4
 
 
 def unreadable_tests(program, top):

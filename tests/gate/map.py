@@ -86,11 +86,11 @@ def miscounted(plist, text):
     return None
 
 
-def step_of(plist, head, index):
+def step_of(plist, kind, references, index):
     """The step of a path to a member: its index in brackets if the key is no text, is long, or cannot be shown."""
-    if head[0] == "array":
+    if kind == "array":
         return f"/{index}"
-    key = plist.references(head)[index]
+    key = references[index]
     text = plist.head(plist.places[key]) if key < plist.objects else "no object"
     if isinstance(text, str) or text[0] != "text" or text[1] > LONGEST_KEY:
         return f"[{index}]"
@@ -108,13 +108,14 @@ def paths_in(plist):
         head = plist.head(plist.places[n])
         if isinstance(head, str) or head[0] not in ("array", "dict"):
             continue
-        members = plist.references(head)[-head[1] :] if head[1] > 0 else []
+        references = plist.references(head)
+        members = references[-head[1] :] if head[1] > 0 else []
         for index, m in enumerate(members[:budget]):
             if m < plist.objects and m not in depths:
                 depths[m] = depths[n] + 1
                 met.append(m)
                 if depths[m] <= LONGEST_PATH:
-                    paths[m] = paths[n] + step_of(plist, head, index)
+                    paths[m] = paths[n] + step_of(plist, head[0], references, index)
         budget -= min(budget, len(members))
     return paths
 

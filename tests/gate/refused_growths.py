@@ -3,8 +3,8 @@
 
 Runs programs with one request for memory refused: the first, then the second, and so on.
 
-BPLINT: each run in which a request was refused ends with status 4, and with `memory` on standard error. Nothing is written
-(`print` may write a first part of its text), and OUT is unchanged. The last run is the first one without a refusal. A list
+BPLINT: each run in which a request was refused ends with status 4, and with `memory` on standard error. Nothing is written,
+or by the commands of `PARTLY` a first part of the answer, and OUT is unchanged. The last run is the first one without a refusal. A list
 that std collects is an exception: std first asks for room for all items, and if that is refused, it grows the list item by
 item. The words of each command and the objects of a circle are such lists.
 
@@ -64,7 +64,20 @@ COMMANDS = [
     "print FILE CERT \\e 100",
     "print FILE CERT /0 100",
     "print FILE CERT /a 100",
+    "show FILE /0 /a /a~1b/0",
+    "show --raw FILE /0",
+    "show --text FILE /0",
+    "ls FILE",
+    "ls -R FILE /0",
+    "ls -R --utf8 FILE /a",
+    "ls -R --json FILE /0",
+    "ls -R --objects FILE /a",
+    "map FILE",
+    "map --paths FILE",
 ]
+
+# Commands that may write a first part of their answer.
+PARTLY = ("print", "ls", "map")
 
 # In how many growths a run of a row may give its usual answer, since std collects so many lists; 1 in all others.
 COLLECTED = {"circle-below-top": 2}
@@ -187,7 +200,7 @@ def blocks(output):
 
 
 def is_refusal(words, ran, usual):
-    wrote_nothing = usual.stdout.startswith(ran.stdout) if words[0] == "print" else ran.stdout == b""
+    wrote_nothing = usual.stdout.startswith(ran.stdout) if words[0] in PARTLY else ran.stdout == b""
     return ran.status == 4 and ran.stderr == b"memory\n" and wrote_nothing and ran.out == UNTOUCHED
 
 
