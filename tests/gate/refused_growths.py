@@ -65,6 +65,7 @@ COMMANDS = [
     "print FILE CERT /0 100",
     "print FILE CERT /a 100",
     "show FILE /0 /a /a~1b/0",
+    "show -H FILE /0",
     "show --raw FILE /0",
     "show --text FILE /0",
     "ls FILE",
@@ -78,6 +79,8 @@ COMMANDS = [
 
 # Commands that may write a first part of their answer.
 PARTLY = ("print", "ls", "map")
+# Its paths are one more list that std collects.
+PATHS = ["map", "--paths"]
 
 # In how many growths a run of a row may give its usual answer, since std collects so many lists; 1 in all others.
 COLLECTED = {"circle-below-top": 2}
@@ -207,7 +210,7 @@ def is_refusal(words, ran, usual):
 def command_outcome(stage, program, row, words):
     usual, _ = stage.run(program, words, 0)
     name = " ".join(words)
-    spared = COLLECTED.get(row, 1)
+    spared = COLLECTED.get(row, 1) + (words[:2] == PATHS)
     for refused in range(1, MOST_GROWTHS):
         ran, was_refused = stage.run(program, words, refused)
         if not was_refused:

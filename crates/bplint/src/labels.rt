@@ -22,6 +22,8 @@ pub struct Labelled<'a, W> {
     lines: usize,
     /// True if the next byte begins a line.
     at_start: bool,
+    /// True if memory was refused for lines with labels.
+    refused: bool,
 }
 
 impl<'a, W> Labelled<'a, W> {
@@ -33,7 +35,13 @@ impl<'a, W> Labelled<'a, W> {
             labels,
             lines: 0,
             at_start: true,
+            refused: false,
         }
+    }
+
+    /// Returns true if a write failed because memory was refused here.
+    pub fn is_refused(&self) -> bool {
+        self.refused
     }
 
     /// Adds the label of the next line.
@@ -67,8 +75,9 @@ impl<'a, W: Write> Write for Labelled<'a, W> {
         if self.labels.prefix.is_empty() && self.labels.paths.is_empty() {
             return self.out.write(buf);
         }
-        let lines = self.labelled(buf)?;
-        self.out.write_all(&lines)?;
+        let labelled = self.labelled(buf);
+        self.refused = labelled.is_err();
+        self.out.write_all(&labelled?)?;
         Ok(buf.len())
     }
 

@@ -148,10 +148,14 @@ fn write_answer<W: Write>(
         paths: labels_of(line),
     };
     let mut out = Labelled::new(alloc, out, labels);
-    match &request.task {
+    let ending = match &request.task {
         Task::Show(Shown::Text { .. }) => answer_later(alloc, request, inputs, &mut out),
         _ => answer(alloc, request, inputs, &mut out),
+    };
+    if out.is_refused() {
+        return Ending::with(alloc, RunFault::Memory);
     }
+    ending
 }
 
 /// Answers a request whose answer is no line: what is written for a path that leads nowhere goes to standard error.
@@ -163,6 +167,9 @@ fn answer_later<W: Write>(
 ) -> Ending {
     let mut waiting = Waiting::new(alloc, out);
     let ending = answer(alloc, request, inputs, &mut waiting);
+    if waiting.is_refused() {
+        return Ending::with(alloc, RunFault::Memory);
+    }
     let (bytes, out) = waiting.into_parts();
     match &ending.answer {
         Ok(Said::All) => match send_waiting(&bytes, out) {

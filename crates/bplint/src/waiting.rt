@@ -16,6 +16,8 @@ pub struct Waiting<'a, W> {
     bytes: Vec<u8>,
     /// True if bytes are written as they come.
     passes: bool,
+    /// True if memory was refused for bytes that wait.
+    refused: bool,
 }
 
 impl<'a, W> Waiting<'a, W> {
@@ -25,7 +27,13 @@ impl<'a, W> Waiting<'a, W> {
             out,
             bytes: Vec::new(alloc),
             passes: false,
+            refused: false,
         }
+    }
+
+    /// Returns true if a write failed because memory was refused here.
+    pub fn is_refused(&self) -> bool {
+        self.refused
     }
 
     /// Returns the bytes that wait, and the writer that they are for.
@@ -47,7 +55,9 @@ impl<'a, W: Write> Waiting<'a, W> {
 impl<'a, W: Write> Write for Waiting<'a, W> {
     fn write(&mut self, buf: &[u8]) -> io::Result<usize> {
         if !self.passes && buf.len() <= WAITING.saturating_sub(self.bytes.len()) {
-            self.bytes.extend_from_slice(buf)?;
+            let kept = self.bytes.extend_from_slice(buf);
+            self.refused = kept.is_err();
+            kept?;
             return Ok(buf.len());
         }
         if !self.passes {
