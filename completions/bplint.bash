@@ -40,7 +40,7 @@ _bplint_paths() {
 _bplint() {
   local current=${COMP_WORDS[COMP_CWORD]} verb=${COMP_WORDS[1]}
   if [[ $COMP_CWORD -eq 1 ]]; then
-    mapfile -t COMPREPLY < <(compgen -W "lint show ls map textconv explain certify check get print help --help --version" -- "$current")
+    mapfile -t COMPREPLY < <(compgen -W "lint show ls map textconv explain certify check get print help --help --version -h -V" -- "$current")
     return
   fi
   if [[ $verb == help ]]; then

@@ -28,8 +28,8 @@ function __bplint_paths
 end
 
 complete -c bplint -n __fish_use_subcommand -f
-complete -c bplint -n __fish_use_subcommand -l help -d 'Print help'
-complete -c bplint -n __fish_use_subcommand -l version -d 'Print the version'
+complete -c bplint -n __fish_use_subcommand -s h -l help -d 'Print help'
+complete -c bplint -n __fish_use_subcommand -s V -l version -d 'Print the version'
 complete -c bplint -n __fish_use_subcommand -a lint -d 'Says whether each FILE holds a value'
 complete -c bplint -n __fish_use_subcommand -a show -d 'Prints what lies under each PATH, or the whole'
 complete -c bplint -n __fish_use_subcommand -a ls -d 'Lists the members of the value under PATH, or of the whole'
@@ -55,7 +55,7 @@ complete -c bplint -n '__fish_seen_subcommand_from show get' -l paths-from -r -d
 complete -c bplint -n '__fish_seen_subcommand_from show ls' -l utf8 -d 'Write texts in UTF-8'
 complete -c bplint -n '__fish_seen_subcommand_from certify' -l force -d 'Replace a property list'
 complete -c bplint -n '__fish_seen_subcommand_from lint show ls map certify check get print' -s H -l with-filename -d 'Begin each line with its file'
-complete -c bplint -n '__fish_seen_subcommand_from lint show ls map textconv certify check get print' -l explain -d 'Say more below a fault'
+complete -c bplint -n '__fish_seen_subcommand_from lint show ls map textconv certify check get print' -l explain -a 'always never auto' -d 'Say more below a fault'
 complete -c bplint -n '__fish_seen_subcommand_from show' -l text -d 'Print old-style text'
 complete -c bplint -n '__fish_seen_subcommand_from show' -l limit -x -d 'Bytes of text at most'
 complete -c bplint -n '__fish_seen_subcommand_from show' -l raw -d 'Write the bytes of data or a text'

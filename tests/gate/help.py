@@ -141,7 +141,7 @@ def compare_flags(tally, program):
         tally.compare(f"subcommands in {where}", set(), set(found) - set(wanted) - {"help"})
     lettered = {pair for held in letters.values() for pair in held if pair[1]} | {("--version", "V")}
     tally.compare("letters in man/bplint.1", lettered, manual_letters(manual()))
-    words = re.search(r'-W "([a-z ]+) help --help --version"', bash)[1]
+    words = re.search(r'-W "([a-z ]+) help --help --version -h -V"', bash)[1]
     tally.compare("subcommands in bplint.bash", set(verbs), set(words.split()))
     tally.compare("subcommands in _bplint", set(verbs), set(re.findall(r"^    '([a-z]+):", zsh, re.MULTILINE)) - {"help"})
     named = set(re.findall(r"__fish_use_subcommand -a ([a-z]+)", fish)) - {"help"}
