@@ -3,10 +3,10 @@
 
 Runs programs with one request for memory refused: the first, then the second, and so on.
 
-BPLINT: each run in which a request was refused ends with status 4, and with `memory` on standard error. Nothing is written,
-or by the commands of `PARTLY` a first part of the answer, and OUT is unchanged. The last run is the first one without a refusal. A list
-that std collects is an exception: std first asks for room for all items, and if that is refused, it grows the list item by
-item. The words of each command and the objects of a circle are such lists.
+BPLINT: each run in which a request was refused ends with status 4, and with `memory` on standard error, after the name of
+FILE with `-H`. Nothing is written, or by the commands of `PARTLY` a first part of the answer, and OUT is unchanged. The last
+run is the first one without a refusal. A list that std collects is an exception: std first asks for room for all items, and
+if that is refused, it grows the list item by item. The words of each command and the objects of a circle are such lists.
 
 CALLS is bplist_calls, which makes each call of the library twice on the same value. If a request of the first call is
 refused, that call returns `Memory`, and the second returns the same as without a refusal. If the request for the text of the
@@ -204,7 +204,8 @@ def blocks(output):
 
 def is_refusal(words, ran, usual):
     wrote_nothing = usual.stdout.startswith(ran.stdout) if words[0] in PARTLY else ran.stdout == b""
-    return ran.status == 4 and ran.stderr == b"memory\n" and wrote_nothing and ran.out == UNTOUCHED
+    says_memory = ran.stderr == b"memory\n" or "-H" in words and ran.stderr.endswith(b"/file: memory\n")
+    return ran.status == 4 and says_memory and wrote_nothing and ran.out == UNTOUCHED
 
 
 def command_outcome(stage, program, row, words):
