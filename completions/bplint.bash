@@ -55,7 +55,7 @@ _bplint() {
       get) flags="--hex --paths-from --with-filename --explain --help -x -H -h" ;;
       map) flags="--hex --paths --with-filename --explain --help -x -H -h" ;;
       check | print) flags="--hex --with-filename --explain --help -x -H -h" ;;
-      textconv) flags="--explain --help -h" ;;
+      textconv) flags="--with-filename --explain --help -H -h" ;;
       explain) flags="--help -h" ;;
       *) flags="" ;;
     esac

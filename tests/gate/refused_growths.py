@@ -75,10 +75,12 @@ COMMANDS = [
     "ls -R --objects FILE /a",
     "map FILE",
     "map --paths FILE",
+    "textconv FILE",
+    "textconv -H FILE",
 ]
 
 # Commands that may write a first part of their answer.
-PARTLY = ("print", "ls", "map")
+PARTLY = ("print", "ls", "map", "textconv")
 # Its paths are one more list that std collects.
 PATHS = ["map", "--paths"]
 

@@ -25,6 +25,8 @@ pub enum Line<'a> {
 pub struct Textconv<'a> {
     /// The FILE; `-` is standard input.
     pub file: &'a str,
+    /// True if each line begins with the name of FILE.
+    pub named: bool,
     /// True if there are lines below a fault.
     pub explain: bool,
 }

@@ -54,6 +54,7 @@ fn line_of<'a>(
 fn textconv_of<'a>(matches: &ArgMatches<'a>, explain: bool) -> Textconv<'a> {
     Textconv {
         file: matches.get_str("FILE").unwrap_or(""),
+        named: matches.get_flag("with-filename"),
         explain,
     }
 }

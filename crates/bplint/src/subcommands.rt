@@ -127,7 +127,7 @@ static SHOWING: [Subcommand; 5] = [
         name: "textconv",
         about: "Shows FILE as text, whatever it is, for git diff",
         help: TEXTCONV_HELP,
-        arguments: &[EXPLAIN, FILE],
+        arguments: &[WITH_NAME, EXPLAIN, FILE],
     },
     Subcommand {
         name: "explain",

@@ -6,8 +6,9 @@ ghost use Rattle.std.specs.Prelude.{◌≤◌, length};
 use crate::args::{Operands, Textconv};
 use crate::ending::{Ending, end};
 use crate::input::{Operand, open_inputs};
+use crate::labels::{Labelled, Labels};
 use crate::output::{HEADER, OutFile};
-use crate::reasons::{Names, completed};
+use crate::reasons::{Names, completed, prefix_of};
 use crate::runs::PANES;
 use bplint_engine::{Branch, list_all_on, list_on};
 use bplint_lines::{RunFault, Said, Style};
@@ -42,11 +43,14 @@ pub fn show_any<R: Files<File = File> + Input + Print + Eprint>(
         cert: None,
         hex: false,
     };
+    let Ok(prefix) = prefix_of(alloc, line.file, line.named) else {
+        return end(rt, alloc, "", Ending::with(alloc, RunFault::Memory));
+    };
     let ending = match open_inputs(rt, alloc, &operands) {
-        Ok(inputs) => show_file(rt, alloc, line, inputs.file),
+        Ok(inputs) => show_file(rt, alloc, line, inputs.file, &prefix),
         Err(unread) => unread.ending(rt, alloc, line.explain),
     };
-    end(rt, alloc, "", ending)
+    end(rt, alloc, &prefix, ending)
 }
 
 /// Shows a file that is open. Returns how the run ends.
@@ -55,14 +59,17 @@ fn show_file<R: Files<File = File> + Print>(
     alloc: Global,
     line: &Textconv<'_>,
     file: Operand,
+    prefix: &str,
 ) -> Ending {
     let mut out = OutFile::new(rt, "-");
     let answer = match file {
-        Operand::Whole(file) => show_source(alloc, SliceSource::new(&file), &mut out),
+        Operand::Whole(file) => show_source(alloc, SliceSource::new(&file), prefix, &mut out),
         Operand::File(file) => {
             let mut file = Window::new(file);
             match vec![in alloc; Pane::EMPTY; PANES] {
-                Ok(mut panes) => show_source(alloc, Panes::new(&mut file, &mut panes), &mut out),
+                Ok(mut panes) => {
+                    show_source(alloc, Panes::new(&mut file, &mut panes), prefix, &mut out)
+                }
                 Err(_) => Err(RunFault::Memory),
             }
         }
@@ -71,7 +78,7 @@ fn show_file<R: Files<File = File> + Print>(
         file: line.file,
         cert: "",
         out: "-",
-        named: false,
+        named: line.named,
         explain: line.explain,
     };
     completed(alloc, Ending::of(alloc, answer), &names, out.fault())
@@ -159,10 +166,11 @@ fn send<W: Write>(out: &mut W, bytes: &[u8]) -> Result<Said, RunFault> {
     Ok(Said::All)
 }
 
-/// Shows a source.
+/// Shows a source. The prefix begins each line, but not those of a file that is written as it is.
 fn show_source<S: Source + Drop, W: Write>(
     alloc: Global,
     src: S,
+    prefix: &str,
     out: &mut W,
 ) -> Result<Said, RunFault> {
     let mut src = src;
@@ -170,10 +178,26 @@ fn show_source<S: Source + Drop, W: Write>(
     if !front.starts_with(HEADER) {
         return copy_from(&mut src, out);
     }
+    let labels = Labels { prefix, paths: &[] };
+    let mut lines = Labelled::new(alloc, out, labels);
+    let answer = show_lines(alloc, src, &front, &mut lines);
+    if lines.is_refused() {
+        return Err(RunFault::Memory);
+    }
+    answer
+}
+
+/// Shows a source that begins as a binary property list does: its lines, or its fault and its first bytes.
+fn show_lines<S: Source + Drop, W: Write>(
+    alloc: Global,
+    src: S,
+    front: &[u8],
+    out: &mut W,
+) -> Result<Said, RunFault> {
     let length = src.len();
     match list(alloc, src, out) {
         Err(fault) if fault.status() == 1 => {
-            let text = dump(alloc, &fault, &front, length)?;
+            let text = dump(alloc, &fault, front, length)?;
             send(out, text.as_bytes())
         }
         answer => answer,
