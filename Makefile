@@ -4,6 +4,7 @@
 ##   make look FILE=F    lints F with the proved program if it is built, and otherwise with an unproved one, which it keeps
 ##   make lib            proves and builds the C library, into crates/bplist_c/out
 ##   make wheel          the Python package for pip, with the library in it, into dist/
+##   make test-wheel     the tests of the Python package, over the library as it is built
 ##   make dist           archive, Debian packages, wheel and SHA256SUMS, into dist/
 ##   make install        program, manual page, completions, problem matcher, C library, header and bplist.pc, below PREFIX
 ##   make uninstall      removes all of it; give it the same words as install
@@ -115,9 +116,9 @@ pack-wheel:
 	  BPLIST_LIBRARY='$(abspath $(LIBRARY))' PYTHONDONTWRITEBYTECODE=1 $(PYTHON) -m pip -q --disable-pip-version-check wheel \
 	  --no-index --no-deps --no-build-isolation --no-cache-dir -w $(DIST) "$$copy/python"
 
-# The package's tests, over the wheel in a folder of its own.
-test-wheel: pack-wheel
-	$(PYTHON) -B tests/gate/python_package.py $(DIST)/bplist-*.whl
+# The package's tests, over a new wheel in a folder of its own.
+test-wheel:
+	$(PYTHON) -B tests/gate/python_package.py
 
 # What is made depends on the commit and its date alone; outside a clone it is the date of today.
 dist pack-wheel: export SOURCE_DATE_EPOCH ?= $(or $(shell git log -1 --format=%ct 2>/dev/null),$(shell date +%s))

@@ -1,11 +1,12 @@
 # Completion of bplint for bash.
 
-# Sets `operands` to the words before the current one that are no options, without their quotes.
+# Sets `operands` to the words before the current one that are no options, without their quotes. `--explain=always` is
+# three words.
 _bplint_operands() {
   local word previous=''
   operands=()
   for word in "${COMP_WORDS[@]:2:COMP_CWORD-2}"; do
-    if [[ $word == - || $word != -* ]] && [[ $previous != @(--limit|--paths-from|--files-from) ]]; then
+    if [[ $word == - || $word != [-=]* ]] && [[ $previous != @(--limit|--paths-from|--files-from|=) ]]; then
       word=${word//\\/}
       word=${word#[\"\']}
       operands+=("${word%[\"\']}")
@@ -45,6 +46,8 @@ _bplint() {
   fi
   if [[ $verb == help ]]; then
     [[ $COMP_CWORD -gt 2 ]] || mapfile -t COMPREPLY < <(compgen -W "lint show ls map textconv explain certify check get print" -- "$current")
+  elif [[ " ${COMP_WORDS[*]:COMP_CWORD-2:3}" == *' --explain ='* ]]; then
+    mapfile -t COMPREPLY < <(compgen -W "always never auto" -- "${current#=}")
   elif [[ $current == -* ]]; then
     local flags
     case $verb in

@@ -42,8 +42,7 @@ def put(octets: bytes) -> None:
 
 
 def complain(line: str) -> None:
-    if sys.stderr is not None:
-        print(line, file=sys.stderr)
+    print(line, file=sys.stderr)
 
 
 def bytes_of(name: str) -> bytes:
@@ -207,6 +206,9 @@ def reader() -> argparse.ArgumentParser:
 def main(words: collections.abc.Sequence[str] | None = None) -> int:
     """Runs a command, and returns its exit status: 0 for yes, 1 for no, 2 for wrong words, 3 for a failed read or write,
     4 for refused memory."""
+    if sys.stderr is None:
+        # It is closed, and argparse would write to standard output.
+        sys.stderr = open(os.devnull, "w")
     parser = reader()
     line = parser.parse_args(words)
     try:

@@ -200,6 +200,27 @@ static inline uint64_t reference_count(const References *references)
     return references->is_dict ? 2 * references->count : references->count;
 }
 
+/* Decodes a big-endian number of at most 8 bytes. */
+static inline uint64_t number_at(const uint8_t *bytes, uint64_t length)
+{
+    uint64_t number = 0;
+    uint32_t four;
+
+    if (length == sizeof number) {
+        memcpy(&number, bytes, sizeof number);
+        return be64toh(number);
+    }
+    if (length == sizeof four) {
+        memcpy(&four, bytes, sizeof four);
+        return be32toh(four);
+    }
+    if (length == 1)
+        return bytes[0];
+    for (uint64_t i = 0; i < length; i++)
+        number = number << 8 | bytes[i];
+    return number;
+}
+
 /* Gives reference `i` of a container in this file, in the order of the file. Reads the eight bytes that end with it:
    the file begins with eight others. */
 static inline uint64_t reference_at(const References *references, const uint8_t *file, uint64_t i)

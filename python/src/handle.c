@@ -260,16 +260,6 @@ PyObject *handle_value(Handle *self, uint32_t object)
     return handle_body(self, object, &body) < 0 ? NULL : handle_value_of(self, object, &body);
 }
 
-/* Decodes a big-endian number of at most 8 bytes. */
-static uint64_t number_at(const uint8_t *bytes, uint64_t length)
-{
-    uint64_t number = 0;
-
-    for (uint64_t i = 0; i < length; i++)
-        number = number << 8 | bytes[i];
-    return number;
-}
-
 /* The offset table has the place of each object. The trailer has its place, and the size of its entries. */
 int handle_place(Handle *self, uint32_t object, uint64_t *out)
 {

@@ -8,31 +8,10 @@
 
 _Static_assert(sizeof(wchar_t) == 4, "a character of wchar_t is one of Python's");
 
-/* Decodes a big-endian number. */
-static uint64_t number_of(const uint8_t *bytes, uint64_t length)
-{
-    uint64_t number = 0;
-    uint32_t four;
-
-    if (length == sizeof number) {
-        memcpy(&number, bytes, sizeof number);
-        return be64toh(number);
-    }
-    if (length == sizeof four) {
-        memcpy(&four, bytes, sizeof four);
-        return be32toh(four);
-    }
-    if (length == 1)
-        return bytes[0];
-    for (uint64_t i = 0; i < length; i++)
-        number = number << 8 | bytes[i];
-    return number;
-}
-
 /* Decodes an IEEE 754 number of 4 or 8 bytes. */
 static double real_of(const uint8_t *bytes, uint64_t length)
 {
-    uint64_t bits = number_of(bytes, length);
+    uint64_t bits = number_at(bytes, length);
     uint32_t few = (uint32_t)bits;
     double real;
     float single;
@@ -48,8 +27,8 @@ static double real_of(const uint8_t *bytes, uint64_t length)
 /* Makes an integer of 16 bytes in two's complement. */
 static PyObject *long_of(const uint8_t *bytes)
 {
-    PyObject *high = PyLong_FromLongLong((long long)number_of(bytes, 8));
-    PyObject *low = PyLong_FromUnsignedLongLong(number_of(bytes + 8, 8));
+    PyObject *high = PyLong_FromLongLong((long long)number_at(bytes, 8));
+    PyObject *low = PyLong_FromUnsignedLongLong(number_at(bytes + 8, 8));
     PyObject *bits = PyLong_FromLong(64);
     PyObject *shifted = high && low && bits ? PyNumber_Lshift(high, bits) : NULL;
     PyObject *number = shifted ? PyNumber_Or(shifted, low) : NULL;
@@ -64,7 +43,7 @@ static PyObject *long_of(const uint8_t *bytes)
 /* Makes an integer. One of 1, 2 or 4 bytes is unsigned, one of 8 or 16 bytes is signed. */
 static PyObject *integer_of(const uint8_t *bytes, uint64_t length)
 {
-    return length == 16 ? long_of(bytes) : PyLong_FromLongLong((long long)number_of(bytes, length));
+    return length == 16 ? long_of(bytes) : PyLong_FromLongLong((long long)number_at(bytes, length));
 }
 
 /* Makes a UID without calling its __init__, which takes longer than everything else. Its __new__ makes room for the
@@ -88,7 +67,7 @@ static PyObject *uid_of(State *state, const uint8_t *bytes, uint64_t length)
 
     if (state->held[UID] == NULL)
         return raise_cleared();
-    number = PyLong_FromUnsignedLongLong(number_of(bytes, length));
+    number = PyLong_FromUnsignedLongLong(number_at(bytes, length));
     if (number == NULL)
         return NULL;
     if (state->held[UID_DATA] == Py_None)

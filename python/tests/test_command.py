@@ -4,6 +4,7 @@ import io
 import os
 import pathlib
 import plistlib
+import shlex
 import subprocess
 import sys
 import tempfile
@@ -16,7 +17,7 @@ from bplist import __main__ as command
 ROOT = pathlib.Path(__file__).resolve().parents[2]
 sys.path.insert(0, str(ROOT / "tests"))
 
-from helpers.contents import Hole, content, doubling  # noqa: E402
+from helpers.contents import Hole, chain, content, doubling  # noqa: E402
 from helpers.tables import all_runs, escaped  # noqa: E402
 
 PROGRAM = ROOT / "crates/bplint/out/bplint"
@@ -121,15 +122,35 @@ class Command(unittest.TestCase):
             ran = subprocess.run([*module, "ls", self.path], stdout=pipe, stderr=subprocess.PIPE, check=False)
         self.assertEqual((ran.returncode, ran.stderr), (3, b""))
 
+    def test_closed(self):
+        """Standard input, output and error may be closed: to read or write there fails. Standard input can be given twice,
+        and ends the first time."""
+        there = f"{shlex.quote(self.path)}"
+        sound, ended = "ok reached 7 height 3 top dict\n", "-: fault TooShort object none place 0\n"
+        for line, status, said, complained in (
+            ("lint - <&-", 3, "", "read Device\n"),
+            (f"lint - {there} - <&-", 3, f"{self.path}: {sound}", "-: read Device\n" * 2),
+            (f"lint - - <{there}", 1, f"-: {sound}", ended),
+            (f"show {there} /a/1 <&-", 0, "text two\n", ""),
+            (f"show {there} /a/1 >&-", 3, "", "write 0\n"),
+            (f"lint {there} >&-", 3, "", "write 0\n"),
+            (f"lint -q {there} >&-", 0, "", ""),
+            (f"show {there} /a/1 2>&-", 0, "text two\n", ""),
+            (f"lint {there}x 2>&-", 3, "", ""),
+            (f"show {there} a 2>&-", 2, "", ""),
+            ("show 2>&-", 2, "", ""),
+            ("lint - <&- >&- 2>&-", 3, "", ""),
+        ):
+            with self.subTest(line):
+                words = ["sh", "-c", f'exec "$0" -m bplist {line}', sys.executable]
+                ran = subprocess.run(words, stdin=subprocess.DEVNULL, capture_output=True, text=True, check=False)
+                self.assertEqual((ran.returncode, ran.stdout, ran.stderr), (status, said, complained))
+
     def test_large(self):
         """A deep file, and one of 298 bytes whose tree has 2^65 - 1 nodes, each take one line."""
         pathlib.Path(self.path).write_bytes(doubling(64, b"\x09"))
         self.assertEqual(run("show", self.path), (0, b"array 2\n", b""))
-        links = 100_000
-        body = b"".join(b"\xa1" + n.to_bytes(4, "big") for n in range(1, links + 1)) + b"\x09"
-        offsets = b"".join((8 + 5 * n).to_bytes(4, "big") for n in range(links + 1))
-        trailer = bytes(6) + b"\x04\x04" + (links + 1).to_bytes(8, "big") + bytes(8) + (8 + len(body)).to_bytes(8, "big")
-        pathlib.Path(self.path).write_bytes(b"bplist00" + body + offsets + trailer)
+        pathlib.Path(self.path).write_bytes(chain(100_000, b"\x09"))
         self.assertEqual(run("show", self.path), (0, b"array 1\n", b""))
         self.assertEqual(run("ls", self.path), (0, b"/0\tarray 1\n", b""))
 

@@ -1,12 +1,18 @@
 """Containers behave as the dict and the list of their members, and no call takes quadratic time or recurses."""
 import collections
 import collections.abc
+import pathlib
 import plistlib
+import sys
 import time
 import unittest
 from unittest import mock
 
 import bplist
+
+sys.path.insert(0, str(pathlib.Path(__file__).resolve().parents[2] / "tests"))
+
+from helpers.contents import chain  # noqa: E402
 
 PAIRS = {"a": 1, "b": [1, {"c": "two"}], "": b"", "\u00e9\U0001f600": 1.5, "last": [1, {"c": "two"}]}
 MEMBERS = [3, "text", [1, [2]], {"a": [1]}, 3, True, b"x", [1, [2]]]
@@ -137,14 +143,6 @@ class Tables(unittest.TestCase):
         self.assertEqual(len(bplist.lint_bytes(b"")), len(bplist.Verdict._fields))
 
 
-def chain_of(links):
-    """A chain of so many arrays."""
-    body = b"".join(b"\xa1" + n.to_bytes(4, "big") for n in range(1, links + 1)) + b"\x09"
-    offsets = b"".join((8 + 5 * n).to_bytes(4, "big") for n in range(links + 1))
-    trailer = bytes(6) + b"\x04\x04" + (links + 1).to_bytes(8, "big") + bytes(8) + (8 + len(body)).to_bytes(8, "big")
-    return b"bplist00" + body + offsets + trailer
-
-
 def plain_chain(links, end):
     value = end
     for _ in range(links):
@@ -156,8 +154,8 @@ class Equality(unittest.TestCase):
     def test_deep(self):
         """A chain of 100,000 arrays is compared with another and with lists, without recursion."""
         links = 100_000
-        value = bplist.loads(chain_of(links)).value
-        self.assertTrue(value == bplist.loads(chain_of(links)).value)
+        value = bplist.loads(chain(links, b"\x09")).value
+        self.assertTrue(value == bplist.loads(chain(links, b"\x09")).value)
         self.assertTrue(value == plain_chain(links, True))
         self.assertTrue(plain_chain(links, True) == value)
         self.assertFalse(value == plain_chain(links, False))
@@ -257,7 +255,7 @@ class Finding(unittest.TestCase):
 
     def test_places(self):
         """Each object of a file with wide offsets stands where the offset table says."""
-        value = bplist.loads(chain_of(300)).value
+        value = bplist.loads(chain(300, b"\x09")).value
         for depth in range(300):
             self.assertEqual(value._plist.find("/0" * depth), (depth, 8 + 5 * depth))
 

@@ -34,7 +34,8 @@ from helpers.picture import Picture  # noqa: E402
 HERE = pathlib.Path(__file__).resolve().parent
 ROUNDS, QUICK_ROUNDS = 10, 1
 MOST, MOST_OF_OTHERS = 20, 10  # seconds of processor time after which a run is stopped
-LONG = 2  # seconds of a run that is not repeated
+FEW_ROUNDS = 2  # on a hostile file
+LONG = 2  # seconds of processor time of a run there, or for many values, that is not repeated
 KEYS = 1000
 HOSTILE = 16 << 20
 FAMILIES = [family.__name__ for family in (*families.FAMILIES, *families.REFUSED_PAIRS)]
@@ -47,7 +48,8 @@ NO = "-"
 PAGE = """# Benchmarks
 
 `make bench` writes this page. Nothing on it is promised or proved. Times are in milliseconds by the clock, the least of
-{rounds} runs; in brackets is the peak of memory in MiB.
+{rounds} runs, or of {short} where the file has less than {bytes} MB; in brackets is the peak of memory in MiB. On hostile
+files they are the least of {few} runs. There, and for many values, a run of more than {long} seconds is not repeated.
 
 {machine}; {kit}; commit {commit}, {date}
 
@@ -168,13 +170,16 @@ class Bench:
         }
         return {**rows, "plist (Rust)": Run([*self.crate, path, "parse"])} if self.crate else rows
 
+    def rounds_of(self, length):
+        """How often a file of so many bytes is timed: a short one is read in a moment, which other work may spoil."""
+        return self.rounds * (4 if length < bench_library.SHORT and self.rounds > 1 else 1)
+
     def time_file(self, name):
         """The rows of a file: those of the program, and those of the libraries."""
         path, wanted = self.file(name), bench_library.FILES[name][1]
         rows = self.program_rows(path, wanted[0])
         libraries = {row.name: row for row in bench_library.rows(self.folder, self.library, path, wanted)}
-        rounds = self.rounds * (4 if os.path.getsize(path) < bench_library.SHORT and self.rounds > 1 else 1)
-        for _ in range(rounds):
+        for _ in range(self.rounds_of(os.path.getsize(path))):
             for row in random.sample(list(rows.values()), len(rows)):
                 row.run(self.measure)
             for row in random.sample(list(libraries.values()), len(libraries)):
@@ -230,7 +235,7 @@ class Bench:
         return self.timed(rows)
 
     def timed(self, rows):
-        for row in list(rows.values()) * min(2, self.rounds):
+        for row in list(rows.values()) * min(FEW_ROUNDS, self.rounds):
             if not LONG < row.processor < math.inf:
                 row.run(self.measure)
         return rows
@@ -359,7 +364,8 @@ def main():
     held, builder = builds()
     page = PAGE.format(
         machine=machine(), kit=told("rt", "version"), commit=told("git", "describe", "--always", "--dirty", "--exclude=*"),
-        date=datetime.date.today(), rounds=own.rounds, picture="speed.svg", files=files_table(timed), many=f"{KEYS:,}",
+        date=datetime.date.today(), rounds=own.rounds, short=own.rounds_of(0),
+        bytes=bench_library.SHORT // 1_000_000, few=FEW_ROUNDS, long=LONG, picture="speed.svg", files=files_table(timed), many=f"{KEYS:,}",
         keys=table(["call", "ms (MiB)"], [[name, row.cell()] for name, row in keys.items()]), hostile=size >> 20,
         families=len(hostile), most=MOST, others=MOST_OF_OTHERS, slow=hostile_table(worst), libraries=libraries_table(timed), builds=held,
         builder=builder)

@@ -2,7 +2,7 @@
 """completions.py PROGRAM
 
 Drives the completions of bash, zsh and fish, as far as these are installed, with PROGRAM as `bplint`. `bplint help`
-offers the commands, and after a FILE (and a CERT) a word that begins with `/` is completed by the paths of that file,
+offers the commands, `--explain=` its words, and after a FILE (and a CERT) a word that begins with `/` is completed by the paths of that file,
 also where a key has blanks or quotes. bash gives the candidates of its function, and fish those of `complete -C`. In
 zsh, and in bash too, lines are typed into a terminal with a tab, and the completed command answers.
 
@@ -51,7 +51,17 @@ OFFERED = [
     # Here a file is wanted.
     (["show", "my"], ["my file"]),
     (["get", "my file", "c"], ["cert"]),
+    (["show", "--explain=never", "my file", "/n"], ["/name", "/nested"]),
 ]
+WHENS = ["always", "never", "auto"]
+# In bash `=` is a word of its own, and fish offers whole words.
+BASH_OFFERED = [
+    (["lint", "--explain", "="], WHENS),
+    (["lint", "--explain", "=", "a"], ["always", "auto"]),
+    (["lint", "--explain", "=", "never", "my"], ["my file"]),
+    (["show", "--explain", "=", "never", "my file", "/n"], ["/name", "/nested"]),
+]
+FISH_OFFERED = [(["lint", "--explain="], [f"--explain={word}" for word in WHENS])]
 # What is typed into a terminal, with tabs, and a part of the answer.
 TYPED = [
     ("bplint show my\\ file /na\t", "text Notes"),
@@ -59,6 +69,7 @@ TYPED = [
     ("bplint show my\\ file /two\t", "text found"),
     ("bplint show my\\ file /a\t/in", "int 7"),
     ("bplint help expl\t", "Usage: bplint explain"),
+    ("bplint lint --explain=nev\t broken", "fault "),
 ]
 # bash closes a quote, zsh does not.
 QUOTED = {
@@ -149,16 +160,16 @@ def typed_tests(shell):
     terminal.close()
 
 
-def offer_tests(shell, offers):
-    for words, wanted in OFFERED:
+def offer_tests(shell, offers, more):
+    for words, wanted in [*OFFERED, *more]:
         got = offers(words)
         yield f"{shell} on {words}", "" if sorted(got) == sorted(wanted) else f"{got} and not {wanted}"
 
 
 def all_tests():
-    for shell, offers in ("bash", bash_offers), ("fish", fish_offers):
+    for shell, offers, more in ("bash", bash_offers, BASH_OFFERED), ("fish", fish_offers, FISH_OFFERED):
         if not lacks(shell):
-            yield from offer_tests(shell, offers)
+            yield from offer_tests(shell, offers, more)
     for shell in SHELLS:
         if not lacks(shell):
             yield from typed_tests(shell)

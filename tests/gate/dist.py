@@ -32,14 +32,14 @@ ROOT = pathlib.Path(__file__).resolve().parents[2]
 sys.path.insert(0, str(ROOT / "tests"))
 
 from helpers import session  # noqa: E402
-from helpers.harness import closing, lacks  # noqa: E402
+from helpers.harness import MODULES, closing, lacks  # noqa: E402
 
 VERSION = (ROOT / "VERSION").read_text(encoding="utf-8").strip()
 ARCHIVE = f"bplint-{VERSION}-x86_64-linux"
 SUITE = f"bplint-conformance-{VERSION}"
 PACKAGES = ["bplint", "libbplist0", "libbplist-dev"]
 MULTIARCH = "lib/x86_64-linux-gnu"
-TOOLS = ["dh", "fakeroot", "gcc", "lintian", "man", "objdump", "pkg-config"]
+TOOLS = ["dh", "fakeroot", "gcc", "lintian", "man", "objdump", "pkg-config", *MODULES]
 STRICT = ["-std=c11", "-Wall", "-Wextra", "-Werror", "-pedantic", "-O2"]
 # The date of the release, in the past as that of a commit is, and what another maker of it may have set.
 DATE = {"SOURCE_DATE_EPOCH": 1700000000}

@@ -19,7 +19,6 @@ named and not counted. The last line is `N passed, M failed`.
 import concurrent.futures
 import os
 import pathlib
-import resource
 import subprocess
 import sys
 import tempfile
@@ -62,7 +61,6 @@ TIMES = 4.6
 SIZES = 1 << 16, 1 << 18
 READ_SIZE = 1 << 20  # the windows hold a file of 128 kB whole
 FREE = 4
-SECONDS = 120
 
 # By family. What stands here and grows no faster is said, so that it can be taken out.
 KNOWN = {
@@ -72,28 +70,22 @@ KNOWN = {
 
 
 def asked(program, file):
-    """Bytes by call, and None where the program was stopped before it answered."""
-    try:
-        ran = subprocess.run([program, "counts"], input=file, capture_output=True, timeout=SECONDS, check=False)
-        lines, ended = ran.stdout, ran.returncode == 0
-        if not ended:
-            sys.exit(f"{program} counts: {ran.stderr.decode()}")
-    except subprocess.TimeoutExpired as late:
-        lines, ended = late.stdout or b"", False
-    counts = {name: int(asked) for name, _, asked in (line.split() for line in lines.decode().splitlines())}
-    if not ended:
-        counts[CALLS[len(counts)]] = None
-    return counts
+    """Bytes by call."""
+    ran = subprocess.run([program, "counts"], input=file, capture_output=True, check=False)
+    if ran.returncode != 0:
+        sys.exit(f"{program} counts: {ran.stderr.decode()}")
+    return {name: int(asked) for name, _, asked in (line.split() for line in ran.stdout.decode().splitlines())}
 
 
 def read_by(*words):
-    """The bytes that a command reads from files, and its status; None and its status where it was stopped."""
+    """The bytes that a command reads from files, and its status."""
     child = subprocess.Popen(words, stdout=subprocess.DEVNULL, stderr=subprocess.DEVNULL)
-    resource.prlimit(child.pid, resource.RLIMIT_CPU, (SECONDS, SECONDS))
     os.waitid(os.P_PID, child.pid, os.WEXITED | os.WNOWAIT)
     counters = dict(line.split(": ") for line in pathlib.Path(f"/proc/{child.pid}/io").read_text(encoding="ascii").splitlines())
     status = child.wait()
-    return int(counters["rchar"]) if status in (0, 1) else None, status
+    if status not in (0, 1):
+        sys.exit(f"{words}: status {status}")
+    return int(counters["rchar"]), status
 
 
 def read(program, made):
@@ -117,8 +109,6 @@ def read(program, made):
 
 def excess(name, call, file, count):
     """What is wrong with a count of a call on a file, or None."""
-    if count is None:
-        return f"no answer in {SECONDS} seconds"
     each = EACH_OF.get(name, EACH).get(call, EACH[call])
     return None if count <= each * len(file) + BESIDE else f"{count:,} bytes of {len(file):,}, above {each} a byte"
 
@@ -126,7 +116,7 @@ def excess(name, call, file, count):
 def growth(files, was, now):
     """What is wrong with how the counts of a call grow, or None."""
     times = TIMES * max(1, len(files[1]) / len(files[0]) / 4)
-    if was is None or now is None or now <= times * max(was, FREE * len(files[0])):
+    if now <= times * max(was, FREE * len(files[0])):
         return None
     return f"{was:,} bytes of {len(files[0]):,}, and {now:,} of {len(files[1]):,}"
 
@@ -138,7 +128,7 @@ def wrong_of_family(calls, program, family):
         files = [family(size) for size in SIZES]
         small, large = (asked(calls, file) for file in files)
         for call, was in small.items():
-            now = large.get(call)
+            now = large[call]
             wrong[call] = excess(name, call, files[0], was) or excess(name, call, files[1], now) or growth(files, was, now)
     made = family(READ_SIZE)
     for call, count in read(program, made).items():

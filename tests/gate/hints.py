@@ -6,7 +6,8 @@ damage. The files are the sound ones of conformance, which come from tests/vecto
 are files of other forms. `lint --explain` of PROGRAM says what a file looks like, and so does bplist_looks_like of the
 libbplist.so in the folder LIBRARY. A sound file, and a file whose only fault is a key, look like nothing.
 
-One file counts as one test. The last line is `N passed, M failed`.
+One file counts as one test. Without binutils there is no library, and the program alone is tested. The last line is
+`N passed, M failed`, with `, K skipped` if some were.
 """
 import base64
 import csv
@@ -19,6 +20,11 @@ import sys
 import tempfile
 
 ROOT = pathlib.Path(__file__).resolve().parents[2]
+sys.path.insert(0, str(ROOT / "tests"))
+
+from helpers.contents import number_at  # noqa: E402
+from helpers.harness import closing, lacks  # noqa: E402
+
 TRAILER = 32
 # The bytes of a trailer that are zero in nearly every file.
 ZEROS = [*range(5), *range(8, 11), *range(16, 19), *range(24, 27)]
@@ -38,13 +44,9 @@ def sound_files():
     yield "Info.plist", (ROOT / "examples/Info.plist").read_bytes()
 
 
-def number(octets, place):
-    return int.from_bytes(octets[place : place + 8], "big")
-
-
 def table_bytes(octets):
     """How many bytes the offset table has by the last 32 bytes."""
-    return number(octets, len(octets) - 24) * octets[-26]
+    return number_at(octets, len(octets) - 24, 8) * octets[-26]
 
 
 def plural(count, noun):
@@ -64,7 +66,7 @@ def cuts(octets):
 
 def holes(octets):
     """The file without some bytes before its trailer."""
-    table = number(octets, len(octets) - 8)
+    table = number_at(octets, len(octets) - 8, 8)
     for missing in {1, (len(octets) - TRAILER - 8) // 2}:
         cut = octets[: len(octets) - TRAILER - missing] + octets[-TRAILER:]
         room = max(len(cut) - TRAILER - table, 0)
@@ -161,14 +163,14 @@ def said_by(program, cases):
     with tempfile.TemporaryDirectory() as folder:
         for start in range(0, len(cases), BATCH):
             block = cases[start : start + BATCH]
-            for number_of, (_, octets, _) in enumerate(block):
-                pathlib.Path(folder, f"{number_of}").write_bytes(octets)
+            for number, (_, octets, _) in enumerate(block):
+                pathlib.Path(folder, f"{number}").write_bytes(octets)
             words = [program, "lint", "--explain", *map(str, range(len(block)))]
             ran = subprocess.run(words, capture_output=True, cwd=folder, text=True, check=False)
             parts = re.split(r"^(\d+): ", ran.stdout + ran.stderr, flags=re.MULTILINE)
             looks = {name: LOOK.search(said) for name, said in zip(parts[1::2], parts[2::2])}
-            for number_of in range(len(block)):
-                look = looks.get(str(number_of))
+            for number in range(len(block)):
+                look = looks.get(str(number))
                 yield look[1] if look else None
 
 
@@ -188,9 +190,14 @@ def main():
         print(__doc__, file=sys.stderr)
         return 2
     cases = list(damages())
-    passed = failed = 0
+    passed = failed = skipped = 0
     speakers = [("bplint", said_by(str(pathlib.Path(sys.argv[1]).resolve()), cases))]
-    speakers += [("C", told_by(word, cases)) for word in sys.argv[2:]]
+    for library in sys.argv[2:]:
+        if lacks("objcopy"):
+            print("skipped, objcopy is not installed: the C library")
+            skipped += 1
+        else:
+            speakers.append(("C", told_by(library, cases)))
     for speaker, answers in speakers:
         for (name, _, words), answer in zip(cases, answers):
             if answer == words:
@@ -198,7 +205,7 @@ def main():
             else:
                 failed += 1
                 print(f"FAILED {speaker}, {name}: {answer} and not {words}")
-    print(f"{passed} passed, {failed} failed")
+    print(closing(passed, failed, skipped))
     return 1 if failed else 0
 
 

@@ -18,6 +18,7 @@ import tempfile
 
 sys.path.insert(0, str(pathlib.Path(__file__).resolve().parents[1]))
 
+from helpers.contents import number_at  # noqa: E402
 from helpers.families import FAMILIES, ring  # noqa: E402
 
 MOST, LESS = 12, 6
@@ -58,7 +59,7 @@ def runs():
 def main(program):
     passed = failed = 0
     for name, content, each, wanted in runs():
-        objects = int.from_bytes(content[-24:-16], "big")
+        objects = number_at(content, len(content) - 24, 8)
         with tempfile.NamedTemporaryFile() as file:
             file.write(content)
             file.flush()

@@ -1,8 +1,8 @@
 #!/usr/bin/env python3
-"""python_package.py WHEEL
+"""python_package.py [WHEEL]
 
-Tests the Python package from its wheel, not from the source tree. Installs the wheel without an index into a new environment
-of the Python that runs this script, and runs there
+Tests the Python package from its wheel, not from the source tree. Without WHEEL it makes one by `make pack-wheel`. Installs
+the wheel without an index into a new environment of the Python that runs this script, and runs there
 
 - the tests of python/tests, in Python's development mode;
 - python_memory.py, with each request for memory refused in turn;
@@ -10,8 +10,9 @@ of the Python that runs this script, and runs there
 
 The wheel's tag has to name the newest glibc that a symbol of its module needs. The module may link only the C library, and
 export only the function that makes it: another libbplist in the process is not called in its place. At last fuzz_python.py
-makes all calls on 20,000 changed files, with an extension built from the sources. Without gcc or valgrind, the tests that
-need it are skipped. The last line is `N passed, M failed`, with `, K skipped` if some were.
+makes all calls on 20,000 changed files, with an extension built from the sources. Without mypy or valgrind, the tests that
+need it are skipped, and without gcc, objdump or pip all of them. The last line is `N passed, M failed`, with `, K skipped` if
+some were.
 """
 import os
 import pathlib
@@ -25,7 +26,7 @@ import zipfile
 ROOT = pathlib.Path(__file__).resolve().parents[2]
 sys.path.insert(0, str(ROOT / "tests"))
 
-from helpers.harness import closing, lacks  # noqa: E402
+from helpers.harness import MODULES, closing, lacks  # noqa: E402
 
 HERE = pathlib.Path(__file__).resolve().parent
 TESTS = ROOT / "python/tests"
@@ -94,8 +95,6 @@ class Wheel:
 
     def see_other_library(self):
         """A library of the same names that is loaded first is not called."""
-        if lacks("gcc"):
-            return self.skip("another library", "gcc is not here")
         other = self.folder / "libother.so"
         source = "#include <stdlib.h>\nint bplist_lint(void) { exit(7); }\nint bplist_open(void) { exit(7); }\n"
         subprocess.run(["gcc", "-shared", "-fPIC", "-o", other, "-xc", "-"], input=source, text=True, check=True)
@@ -126,8 +125,6 @@ class Wheel:
         self.run("tests of the package", self.python, "-X", "dev", "-B", __file__, "--run")
 
     def refuse_growths(self):
-        if lacks("gcc"):
-            return self.skip("refused growths of the package", "gcc is not here")
         preload = self.folder / "refuse_growth.so"
         subprocess.run(["gcc", "-shared", "-fPIC", "-O2", "-o", preload, HERE / "refuse_growth.c"], check=True)
         program = [self.python, "-B", HERE / "python_memory.py"]
@@ -144,13 +141,23 @@ class Wheel:
         self.run("valgrind", *tool, self.python, "-B", __file__, "--run", "Values", "Edges", PYTHONMALLOC="malloc")
 
 
+def packed():
+    """The wheel, made anew."""
+    subprocess.run(["make", "-s", "pack-wheel"], cwd=ROOT, check=True)
+    return next((ROOT / "dist").glob("bplist-*.whl"))
+
+
 def main():
-    if len(sys.argv) < 2:
-        sys.exit(__doc__)
-    if sys.argv[1] == "--run":
+    if sys.argv[1:2] == ["--run"]:
         return run_tests(sys.argv[2:])
+    if len(sys.argv) > 2:
+        sys.exit(__doc__)
+    for name in ("gcc", "objdump", *MODULES):
+        if lacks(name):
+            print(f"skipped, {name} is not installed: the Python package\n{closing(0, 0, 1)}")
+            return 0
     with tempfile.TemporaryDirectory(prefix="bplist") as folder:
-        wheel = Wheel(sys.argv[1], pathlib.Path(folder))
+        wheel = Wheel(sys.argv[1] if sys.argv[1:] else packed(), pathlib.Path(folder))
         wheel.see_module()
         wheel.see_types()
         wheel.install()

@@ -146,10 +146,10 @@ class Tests:
 
 
 def main():
-    if lacks("cargo"):
-        print("skipped the Rust crate: cargo is not here")
-        print(closing(0, 0, 1))
-        return 0
+    for program in ("cargo", "objcopy"):
+        if lacks(program):
+            print(f"skipped, {program} is not installed: the Rust crate\n{closing(0, 0, 1)}")
+            return 0
     with tempfile.TemporaryDirectory() as folder:
         tests = Tests(pathlib.Path(folder))
         tests.run_tests("bplist")

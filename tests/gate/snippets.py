@@ -373,7 +373,7 @@ def main():
         words += (ROOT / "dist").glob("bplist-*.whl")
     if not 2 <= len(words) <= 3:
         sys.exit(__doc__)
-    for program in ("gcc", "g++", "git", "pkg-config"):
+    for program in ("gcc", "g++", "git", "objcopy", "pkg-config"):
         if lacks(program):
             print(f"skipped, {program} is not installed: the code of the documents\n{closing(0, 0, 1)}")
             return 0

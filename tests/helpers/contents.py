@@ -9,6 +9,10 @@ def number(value, width):
     return value.to_bytes(width, "big")
 
 
+def number_at(octets, place, width):
+    return int.from_bytes(octets[place : place + width], "big")
+
+
 def trailer(offset_size, ref_size, objects, top, table):
     return bytes(6) + bytes([offset_size, ref_size]) + number(objects, 8) + number(top, 8) + number(table, 8)
 

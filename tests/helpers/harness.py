@@ -1,4 +1,5 @@
 """What the scripts of tests do if a program that they need is not installed."""
+import functools
 import os
 import pty
 import shutil
@@ -19,12 +20,17 @@ PACKAGES = {
     "man": "man-db",
     "mypy": "mypy",
     "nm": "binutils",
+    "objcopy": "binutils",
     "objdump": "binutils",
     "pkg-config": "pkg-config",
     "plistutil": "libplist-utils",
     "valgrind": "valgrind",
     "zsh": "zsh",
 }
+# The same of the modules of Python that make a wheel and install it.
+MODULES = {"ensurepip": "python3-venv", "pip": "python3-pip", "setuptools": "python3-setuptools", "wheel": "python3-wheel"}
+# The Python that makes the wheel, as in the Makefile.
+PYTHON = os.environ.get("PYTHON", "/usr/bin/python3")
 
 
 def is_gate():
@@ -32,12 +38,19 @@ def is_gate():
     return os.environ.get("BPLINT_GATE") == "1"
 
 
-def lacks(program):
-    """Whether the program is not installed, so that the tests that need it are skipped. In the gate this ends the script."""
-    if shutil.which(program):
+@functools.cache
+def has_module(name):
+    return subprocess.run([PYTHON, "-c", f"import {name}"], capture_output=True, check=False).returncode == 0
+
+
+def lacks(name):
+    """Whether the program or the module of Python is not installed, so that the tests that need it are skipped. In the gate
+    this ends the script."""
+    if has_module(name) if name in MODULES else shutil.which(name):
         return False
     if is_gate():
-        sys.exit(f"FAILED: {program} is not installed (Debian package {PACKAGES[program]}), and the gate skips no test")
+        package = {**PACKAGES, **MODULES}[name]
+        sys.exit(f"FAILED: {name} is not installed (Debian package {package}), and the gate skips no test")
     return True
 
 

@@ -3,6 +3,8 @@
 plist_value.py reads the values of sound files.
 """
 
+from .contents import number_at
+
 FIXED = {0x00: ("null", 0), 0x08: ("false", 0), 0x09: ("true", 0), 0x33: ("date", 8)}
 COUNTED = {4: ("data", 1), 5: ("text", 1), 6: ("text", 2), 10: ("array", "r"), 12: ("set", "r"), 13: ("dict", "rr")}
 
@@ -15,11 +17,8 @@ class Layout:
     def __init__(self, octets):
         self.octets = octets
         self.offset_size, self.ref_size = octets[-26], octets[-25]
-        self.objects, self.top, self.table = (self.number(len(octets) - 24 + 8 * i, 8) for i in range(3))
-        self.places = [self.number(self.table + n * self.offset_size, self.offset_size) for n in range(self.objects)]
-
-    def number(self, place, width):
-        return int.from_bytes(self.octets[place : place + width], "big")
+        self.objects, self.top, self.table = (number_at(octets, len(octets) - 24 + 8 * i, 8) for i in range(3))
+        self.places = [number_at(octets, self.table + n * self.offset_size, self.offset_size) for n in range(self.objects)]
 
     def head(self, place):
         """Kind, count, place of the body and end of the object at a place, or the rule of marker and count that it breaks."""
@@ -43,7 +42,7 @@ class Layout:
                 form = self.octets[place + 1]
                 if not 0x10 <= form <= 0x14:
                     return "Count"
-                count, body = self.number(place + 2, 1 << (form & 15)), place + 2 + (1 << (form & 15))
+                count, body = number_at(self.octets, place + 2, 1 << (form & 15)), place + 2 + (1 << (form & 15))
         else:
             return "Marker"
         end = body + count * unit
@@ -52,13 +51,13 @@ class Layout:
     def references(self, head):
         kind, count, body, _ = head
         count = {"array": count, "set": count, "dict": 2 * count}.get(kind, 0)
-        return [self.number(body + i * self.ref_size, self.ref_size) for i in range(count)]
+        return [number_at(self.octets, body + i * self.ref_size, self.ref_size) for i in range(count)]
 
     def body_rule(self, place, head):
         kind, count, body, end = head
         if kind == "text" and self.octets[place] >> 4 == 5 and max(self.octets[body:end], default=0) > 127:
             return "NotAscii"
-        if kind == "uid" and self.number(body, count) > 0xFFFFFFFF:
+        if kind == "uid" and number_at(self.octets, body, count) > 0xFFFFFFFF:
             return "UidLarge"
         if any(reference >= self.objects for reference in self.references(head)):
             return "RefHigh"
