@@ -55,7 +55,7 @@ complete -c bplint -n '__fish_seen_subcommand_from show get' -l paths-from -r -d
 complete -c bplint -n '__fish_seen_subcommand_from show ls' -l utf8 -d 'Write texts in UTF-8'
 complete -c bplint -n '__fish_seen_subcommand_from certify' -l force -d 'Replace a property list'
 complete -c bplint -n '__fish_seen_subcommand_from lint show ls map textconv certify check get print' -s H -l with-filename -d 'Begin each line with its file'
-complete -c bplint -n '__fish_seen_subcommand_from lint show ls map textconv certify check get print' -l explain -a 'always never auto' -d 'Say more below a fault'
+complete -c bplint -n '__fish_seen_subcommand_from lint show ls map textconv certify check get print' -l explain -f -a 'always never auto' -d 'Say more below a fault'
 complete -c bplint -n '__fish_seen_subcommand_from show' -l text -d 'Print old-style text'
 complete -c bplint -n '__fish_seen_subcommand_from show' -l limit -x -d 'Bytes of text at most'
 complete -c bplint -n '__fish_seen_subcommand_from show' -l raw -d 'Write the bytes of data or a text'
