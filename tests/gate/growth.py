@@ -74,7 +74,7 @@ def asked(program, file):
     ran = subprocess.run([program, "counts"], input=file, capture_output=True, check=False)
     if ran.returncode != 0:
         sys.exit(f"{program} counts: {ran.stderr.decode()}")
-    return {name: int(asked) for name, _, asked in (line.split() for line in ran.stdout.decode().splitlines())}
+    return {name: int(asked) for name, asked in (line.split() for line in ran.stdout.decode().splitlines())}
 
 
 def read_by(*words):

@@ -6,6 +6,7 @@ use Rattle.std.proofs.lemmas.Grind.{flat_map-append}
 use Rattle.bplist_objects.specs.declared.frame.Frame.{Frame}
 use Rattle.bplist_objects.specs.Value.{Value, leaf, array, set, dict}
 use Rattle.bplist_cert.specs.CheckedFile.{CheckedFile}
+use Rattle.bplist_cursor.specs.Kept.{IsSameFile}
 use Rattle.bplist_octets.specs.Sending.{Takes}
 use Rattle.bplist_octets.proofs.SinkSteps.{takes_more, takes_nothing}
 use Rattle.bplint_lines.specs.declared.fault.RunFault.{RunFault}
@@ -230,8 +231,8 @@ module _ (style : Style) (checked : CheckedFile) where
       fails_behind old old new (joined_lines lines) (joined_lines rest) (joined_lines left) fault (takes_nothing old a.sink)
       (subst (λ s. Fails old new s (joined_lines lines) fault) sink part) (ap joined_lines is ∙ joined_more lines rest)
 
-  -- ---- one step, for a checked file that is the same
-  pub step_more : (file : CheckedFile) → file ≡ checked → (old mid new : Option (List ℕ)) (a b d c : Listing) (os : List Opened) (lines : List (List ℕ))
+  -- ---- one step, for a file in which the same was checked
+  pub step_more : (file : CheckedFile) → IsSameFile checked file → (old mid new : Option (List ℕ)) (a b d c : Listing) (os : List Opened) (lines : List (List ℕ))
       → reverse b.stack.items ≡ os → d.sink ≡ b.sink → d.room ≡ b.room → GoesOn style checked old mid a b lines → IsTrue checked.source.honest
       → (IsTrue file.source.honest → (left : List (List ℕ)) → StackLeft style file b.names os left → GoesOn style file mid new d c left) → GoesOn style checked old new a c lines
   step_more file same old mid new a b d c os lines turned sink room p honest step =
@@ -239,7 +240,7 @@ module _ (style : Style) (checked : CheckedFile) where
       goes_more old mid new a b d c lines sink room p
       (subst (λ x. GoesOn style x mid new d c p.rest) same (step (subst (λ x. IsTrue x.source.honest) (sym same) honest) p.rest stands))
 
-  pub step_fail : (file : CheckedFile) → file ≡ checked → (old mid new : Option (List ℕ)) (a b d : Listing) (os : List Opened) (lines : List (List ℕ)) (fault : RunFault)
+  pub step_fail : (file : CheckedFile) → IsSameFile checked file → (old mid new : Option (List ℕ)) (a b d : Listing) (os : List Opened) (lines : List (List ℕ)) (fault : RunFault)
       → reverse b.stack.items ≡ os → d.sink ≡ b.sink → d.room ≡ b.room → GoesOn style checked old mid a b lines → IsTrue checked.source.honest
       → (IsTrue file.source.honest → (left : List (List ℕ)) → StackLeft style file b.names os left → length left ≤ d.room → Fails mid new d.sink (joined_lines left) fault)
       → length lines ≤ a.room → Fails old new a.sink (joined_lines lines) fault

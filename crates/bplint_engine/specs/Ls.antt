@@ -1,6 +1,7 @@
 -- What `ls` says: the members of a value, one line each. Source: the path texts RFC 6901; the lines profile.
 use Rattle.std.specs.Prelude.{◌≡◌, ◌++◌, ℕ, zero, suc, ◌+◌, ◌*◌, length, List, [], codes, Option, None, Some, Result, Ok, Err, ⊤}
 use Rattle.std.specs.List.{enumerate_from, flat_map}
+use Rattle.bplist_objects.specs.declared.frame.Frame.{Frame}
 use Rattle.bplist_objects.specs.declared.head.Head.{Head}
 use Rattle.bplist_objects.specs.Heads.{Content, Spells, content_at}
 use Rattle.bplist_objects.specs.Holds.{Holds}
@@ -27,11 +28,13 @@ IsContainer Set n (set vs) = length (members vs) ≡ n
 IsContainer Dict n (dict ps) = length (keys ps) ≡ n
 IsContainer _ n w = ⊥
 
--- some vouched object holds the value and has this head
+-- some object vouched for by these heights holds the value and has this head
+abbrev pub IsHeadIn : List ℕ → Frame → List ℕ → Head → Value → Type 0
+IsHeadIn f F heights head w = (n : ℕ) × IsVouchedBy heights n × Holds f F n w × ((c : Content) → Spells f F n c → c ≡ content_at f F head)
+
+-- the same in a checked file
 abbrev pub IsHeadFor : CheckedFile → Head → Value → Type 0
-IsHeadFor checked head w =
-    (n : ℕ) × IsVouchedBy checked.certificate.heights n × Holds checked.source.octets checked.frame n w
-    × ((c : Content) → Spells checked.source.octets checked.frame n c → c ≡ content_at checked.source.octets checked.frame head)
+IsHeadFor checked = IsHeadIn checked.source.octets checked.frame checked.certificate.heights
 
 -- a value's line: name, tab, line of `get`
 abbrev pub named_line : Style → List ℕ → Value → List ℕ

@@ -1,5 +1,5 @@
-//! The cursor: path texts and their steps, nodes that no certificate vouches for, what is lent, and how many comparisons and
-//! reads a look-up among a thousand keys takes, and sizes take.
+//! The cursor: path texts and their steps, nodes that no certificate vouches for, what is lent, how many comparisons a look-up
+//! among a thousand keys takes and how many bytes it asks for, and how many bytes sizes ask for.
 
 use bplist_ascii::{PrintFault, print};
 use bplist_cert::Checked;
@@ -8,10 +8,9 @@ use bplist_cursor::{
     measure, member,
 };
 use bplist_objects::ObjectNo;
-use bplist_octets::SliceSource;
-use bplist_samples::{CountingSource, Counts, Parts, Row, ShortWriter, THREE_KEYS, thousand_keys};
+use bplist_octets::{CountingSource, SliceSource};
+use bplist_samples::{Parts, Row, ShortWriter, THREE_KEYS, thousand_keys};
 use std::alloc::{AllocError, Global};
-use std::cell::Cell;
 use std::process::Abort;
 use std::test::Fail;
 
@@ -113,23 +112,22 @@ fn lists(rt: HostRuntime) -> Result<(), Fail> {
     Ok(())
 }
 
-/// The largest allowed number of comparisons and of reads.
-const MOST: (u64, u64) = (10, 400);
+/// The largest number of comparisons, and of bytes asked for: what `path_bytes` is for a step of 4 units into 1,000 keys.
+const MOST: (u64, u64) = (10, 476);
 
 /// The look-up of this key finds what it should, within `MOST`.
 fn is_by_halving(
     rt: &impl Abort,
     alloc: Global,
-    checked: &mut Checked<CountingSource<'_>>,
-    counts: &Cell<Counts>,
+    checked: &mut Checked<CountingSource<SliceSource<'_>>>,
     key: u32,
 ) -> Result<(), Fail> {
-    counts.set(Counts::default());
+    let before = checked.source().asked;
     let (found, compared) = locate_counted(
         checked,
         &Path::parse(alloc, &format!(in alloc; "/{key:04}")?)?,
     )?;
-    let Counts { reads, .. } = counts.get();
+    let asked = checked.source().asked.saturating_sub(before);
     let want = if key < 1000 {
         Found::At(Node {
             object: ObjectNo(1001),
@@ -145,7 +143,7 @@ fn is_by_halving(
         compared >= 1 && compared <= MOST.0,
         "key {key} takes {compared}"
     );
-    assert!(rt; reads <= MOST.1, "key {key} reads {reads}");
+    assert!(rt; asked >= 1 && asked <= MOST.1, "key {key} asks for {asked}");
     Ok(())
 }
 
@@ -154,39 +152,35 @@ fn thousand_keys_by_halving(rt: HostRuntime) -> Result<(), Fail> {
     let alloc = rt.alloc();
     let row = thousand_keys(alloc)?.sorted(alloc)?;
     assert_eq!(rt; row.octets.len(), 11049);
-    let counts = Cell::new(Counts::default());
-    let source = CountingSource::new(&row.octets, &counts);
-    let mut checked = row.checked(alloc, source)?;
+    let mut checked = row.checked(alloc, CountingSource::new(SliceSource::new(&row.octets)))?;
     for key in 0..1001 {
-        is_by_halving(&rt, alloc, &mut checked, &counts, key)?;
+        is_by_halving(&rt, alloc, &mut checked, key)?;
     }
     Ok(())
 }
 
-/// Returns the number of reads for asking for the size of the file's value this often in one call.
-fn reads_for_sizes(alloc: Global, row: &Row, sizes: usize) -> Result<u64, Fail> {
-    let counts = Cell::new(Counts::default());
-    let source = CountingSource::new(&row.octets, &counts);
-    let mut checked = row.checked(alloc, source)?;
+/// Returns the number of bytes asked for by a call with this many queries for the size of the file's value.
+fn asked_for_sizes(alloc: Global, row: &Row, sizes: usize) -> Result<u64, Fail> {
+    let mut checked = row.checked(alloc, CountingSource::new(SliceSource::new(&row.octets)))?;
     let mut queries = Vec::new(alloc);
     for _ in 0..sizes {
         queries.push(Query::Size(Path::parse(alloc, "")?))?;
     }
-    counts.set(Counts::default());
+    let before = checked.source().asked;
     answer_all(alloc, &mut checked, &queries)?;
-    Ok(counts.get().reads)
+    Ok(checked.source().asked.saturating_sub(before))
 }
 
 #[test]
 fn sizes_are_measured_once(rt: HostRuntime) -> Result<(), Fail> {
     let alloc = rt.alloc();
     let row = thousand_keys(alloc)?;
-    let once = reads_for_sizes(alloc, &row, 1)?;
-    assert!(rt; once >= 1000, "{once} reads");
-    let thrice = reads_for_sizes(alloc, &row, 3)?;
+    let once = asked_for_sizes(alloc, &row, 1)?;
+    assert!(rt; once >= 1000, "{once} bytes");
+    let thrice = asked_for_sizes(alloc, &row, 3)?;
     assert!(rt;
         thrice < once.saturating_mul(2),
-        "{once} and {thrice} reads"
+        "{once} and {thrice} bytes"
     );
     Ok(())
 }

@@ -1,25 +1,22 @@
-//! Counts what the calls that look at a whole file read of it. The certificates here must be accepted, so a refusal is
-//! an error of the program.
+//! Counts what the calls that look at a whole file ask of it. The certificates here must be accepted, so a refusal is an
+//! error of the program.
 
 use anyhow::{Result, anyhow, bail};
 use bplist_cert::{Certificate, Checked, check};
 use bplist_lint::{lint, upgrade};
-use bplist_octets::Source;
-use bplist_samples::{CountingSource, Counts};
+use bplist_octets::{CountingSource, SliceSource, Source};
 use std::alloc::Global;
-use std::cell::Cell;
 use std::io::Write;
 
 /// Writes a line for `lint`. If the file holds a value, also writes a line each for `check` with its certificate, for
-/// `upgrade`, and for `check` with the new certificate. A line has the name, the number of reads of the source, and the
-/// number of bytes read.
+/// `upgrade`, and for `check` with the new certificate. A line has the name and the number of bytes that the call asked
+/// its source for.
 pub(crate) fn write_counts<W: Write>(alloc: Global, file: &[u8], out: &mut W) -> Result<()> {
-    let counts = Cell::new(Counts::default());
-    let mut source = CountingSource::new(file, &counts);
+    let mut source = CountingSource::new(SliceSource::new(file));
     let linted = lint(alloc, &mut source);
-    write_line("lint", &counts, out)?;
+    writeln!(out, "lint {}", source.asked)?;
     match linted {
-        Ok(lint) => write_checks(alloc, source, lint.certificate, &counts, out),
+        Ok(lint) => write_checks(alloc, file, lint.certificate, out),
         Err(_) => Ok(()),
     }
 }
@@ -27,34 +24,20 @@ pub(crate) fn write_counts<W: Write>(alloc: Global, file: &[u8], out: &mut W) ->
 /// Writes the lines after the first, for the certificate that `lint` gave.
 fn write_checks<W: Write>(
     alloc: Global,
-    source: CountingSource<'_>,
+    file: &[u8],
     certificate: Certificate,
-    counts: &Cell<Counts>,
     out: &mut W,
 ) -> Result<()> {
-    let checked = accepted(alloc, source, certificate)?;
-    write_line("check-1", counts, out)?;
-    let (source, sorted) = upgraded_parts(alloc, checked)?;
-    write_line("upgrade", counts, out)?;
-    accepted(alloc, source, sorted)?;
-    write_line("check-2", counts, out)
-}
-
-/// Returns the source, and its certificate of version 2.
-fn upgraded_parts<'a>(
-    alloc: Global,
-    mut checked: Checked<CountingSource<'a>>,
-) -> Result<(CountingSource<'a>, Certificate)> {
+    let source = CountingSource::new(SliceSource::new(file));
+    let mut checked = accepted(alloc, source, certificate)?;
+    let by_check = checked.source().asked;
+    writeln!(out, "check-1 {by_check}")?;
     let sorted = upgraded(alloc, &mut checked)?;
-    let (source, _) = checked.into_parts();
-    Ok((source, sorted))
-}
-
-/// Writes a line, and sets the counts to 0.
-fn write_line<W: Write>(name: &str, counts: &Cell<Counts>, out: &mut W) -> Result<()> {
-    let Counts { reads, bytes } = counts.get();
-    counts.set(Counts::default());
-    writeln!(out, "{name} {reads} {bytes}")?;
+    let by_both = checked.source().asked;
+    writeln!(out, "upgrade {}", by_both.saturating_sub(by_check))?;
+    let source = CountingSource::new(SliceSource::new(file));
+    let checked = accepted(alloc, source, sorted)?;
+    writeln!(out, "check-2 {}", checked.source().asked)?;
     Ok(())
 }
 

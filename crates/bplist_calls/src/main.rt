@@ -16,13 +16,13 @@
 //! | `references` | how many references the linter counts |
 //!
 //! With the argument `twice`, standard input is a file, and every call is made on it twice. With `counts`, standard
-//! input is a file too, and the program counts what `lint`, `check` and `upgrade` read of it.
+//! input is a file too, and the program counts the bytes that `lint`, `check` and `upgrade` ask for.
 //!
 //! The modules, in reading order:
 //!
 //! - `requests`, `answers`: lines of input, the calls they ask for, and the answers.
 //! - `repeated_calls`: every call twice.
-//! - `counts`: the reads of the calls that look at a whole file, and certificates that must be accepted.
+//! - `counts`: what the calls that look at a whole file ask of it, and certificates that must be accepted.
 #![tactic(auto)]
 
 mod answers;

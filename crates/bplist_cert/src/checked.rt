@@ -21,13 +21,15 @@ impl<S: Source> Model for Checked<S> {
 
     ghost Value = { CheckedFile };
 
-    ghost view = { λ c. record { source = S.means c.source; frame = c.frame; certificate = c.certificate } };
+    ghost view = { λ c. record { source = S.means c.source; frame = c.frame; certificate = c.certificate; asked = S.asked c.source } };
 
-    ghost invariant = { λ c. IsChecked (record { source = S.means c.source; frame = c.frame; certificate = c.certificate }) };
+    ghost invariant = { λ c. IsChecked (record { source = S.means c.source; frame = c.frame; certificate = c.certificate; asked = S.asked c.source }) };
 }
 
 impl<S: Source> Source for Checked<S> {
     ghost means = { λ c. meaning_of c };
+
+    ghost asked = { λ c. c.asked };
 
     fn len(&self) -> u64 {
         self.source.len()
@@ -51,10 +53,11 @@ impl<S: Source> Checked<S> {
     /// already known, from a check or from the linter. It is public for callers that keep frame and certificate and
     /// borrow the source again later.
     pub fn new(source: S, frame: Frame, certificate: Certificate) -> Checked<S>
-        requires { IsChecked (record { source = S.means source; frame = frame; certificate = certificate }) }
+        requires { IsChecked (record { source = S.means source; frame = frame; certificate = certificate; asked = S.asked source }) }
         ensures source { result.source ≡ S.means source }
         ensures frame { result.frame ≡ frame }
         ensures certificate { result.certificate ≡ certificate }
+        ensures asked { result.asked ≡ S.asked source }
     {
         Checked {
             source,
@@ -88,9 +91,18 @@ impl<S: Source> Checked<S> {
         &self.certificate
     }
 
+    /// Returns the source. A `CountingSource` has there the number of bytes that it was asked for.
+    pub fn source(&self) -> &S
+        ensures source { S.means result.now ≡ self.now.source }
+        ensures asked { S.asked result.now ≡ self.now.asked }
+    {
+        &self.source
+    }
+
     /// Gives the source and the certificate back.
     pub fn into_parts(self) -> (S, Certificate)
         ensures source { S.means result.0 ≡ self.source }
+        ensures asked { S.asked result.0 ≡ self.asked }
         ensures certificate { result.1 ≡ self.certificate }
     {
         let Checked {
@@ -110,6 +122,7 @@ impl<'a> Checked<SliceSource<'a>> {
         ensures place { StandsAt self.now.source 0 result }
         ensures honest { IsTrue self.now.source.honest }
         ensures failures { self.now.source.failures ≡ 0 }
+        ensures asked { self.now.asked ≡ 0 }
     {
         self.source.borrow(0, self.source.len())
     }

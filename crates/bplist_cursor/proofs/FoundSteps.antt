@@ -1,5 +1,5 @@
 -- What the certificate of a checked file says about the object that a path leads to.
-use Rattle.std.proofs.Common.{arith, ◌≡◌, ◌<◌, ◌+◌, ℕ, zero, suc, List, [], ◌∷◌, length, map, drop, slice_index_or, Result, Ok, Err, refl, sym, ap, ◌∙◌, subst, IsTrue, Contains, true, false}
+use Rattle.std.proofs.Common.{arith, ◌≡◌, ◌<◌, ◌≤◌, ◌+◌, ℕ, zero, suc, List, [], ◌∷◌, length, map, drop, slice_index_or, Result, Ok, Err, refl, sym, ap, ◌∙◌, subst, IsTrue, Contains, true, false}
 use Rattle.std.proofs.Props.{props}
 use Rattle.std.proofs.lemmas.Grind.{not_there}
 use Rattle.std.proofs.Math.Logic.{∥∥₁_map, ∥∥₁_elim}
@@ -15,6 +15,10 @@ use Rattle.bplist_cursor.specs.Look.{stepped, look}
 use Rattle.bplist_cursor.specs.Leads.{LeadTo}
 use Rattle.bplist_cursor.specs.Found.{IsHeld}
 use Rattle.bplist_cursor.specs.KeySearch.{halvings, RisesAtMost}
+use Rattle.bplist_cursor.specs.Asked.{path_bytes}
+use Rattle.bplist_cert.specs.Lists.{Keyed}
+use Rattle.std.specs.Prelude.{Option}
+use Rattle.bplist_cursor.proofs.AskedSteps.{on_either, value_bytes}
 use Rattle.bplist_cursor.specs.declared.node.Why.{Why}
 use Rattle.std.specs.Bool.{⊤}
 use Rattle.bplist_cursor.specs.Causes.{GivesCursor, read_failed}
@@ -29,10 +33,6 @@ use Rattle.bplist_cursor.proofs.IndexSteps.{halvings_here}
 use Rattle.bplist_cursor.proofs.StepObjects.{leads_held}
 use Rattle.bplist_cursor.proofs.StepReferences.{taken_there}
 
--- what follows from a value, or from none
-abbrev pub on_either : {T E R : Type 0} → Result T E → (T → R) → (E → R) → R
-on_either r go stop = elim r [ Ok v ↦ go v | Err e ↦ stop e ]
-
 pub split_at : {X : Type 0} (units : X → List ℕ) (xs : List X) (k : ℕ) (d : X) → k < length xs → drop k (map units xs) ≡ units (slice_index_or xs k d) ∷ drop (suc k) (map units xs)
 split_at units [] k d l = absurd (omega arith)
 split_at units (x ∷ xs) zero d l = refl
@@ -43,13 +43,14 @@ drop_all units [] = refl
 drop_all units (x ∷ xs) = drop_all units xs
 
 module _ (checked : CheckedFile) where
-  -- after k steps and this many comparisons the walk is at object n
-  pub record Along (v : Value) (steps : List (List ℕ)) (k n before comparisons : ℕ) : Type 0 where
+  -- after k steps and this many comparisons the walk is at object n, and `now` bytes have been asked for
+  pub record Along (v : Value) (steps : List (List ℕ)) (k n before comparisons start now : ℕ) : Type 0 where
     pub value : Value
     pub led : look k value (drop k steps) ≡ look 0 v steps
     pub holds : IsHeld checked n value
     pub leads : (m : ℕ) → LeadTo checked.source.octets checked.frame n (drop k steps) m → LeadTo checked.source.octets checked.frame checked.frame.top.0 steps m
     pub spent : RisesAtMost checked (before + halvings v steps) (comparisons + halvings value (drop k steps)) 0
+    pub asked : now + path_bytes checked.certificate.keys value (drop k steps) ≤ start + path_bytes checked.certificate.keys v steps
 
 module _ (checked : CheckedFile) (is : IsChecked checked) (honest : IsTrue checked.source.honest) where
   abbrev f : List ℕ
@@ -76,12 +77,24 @@ module _ (checked : CheckedFile) (is : IsChecked checked) (honest : IsTrue check
   pub value_there : (n : ℕ) → IsVouchedBy heights n → ∥ ((v : Value) × Holds f F n v) ∥₁
   value_there n vouched = ∥∥₁_map valid (λ p. let h = object_holds f F heights p n vouched in (h.0, h.1))
 
-  pub begin : (v : Value) (steps : List (List ℕ)) (before : ℕ) → Holds f F F.top.0 v → Along checked v steps 0 F.top.0 before before
-  begin v steps before h = record { value = v; led = refl; holds = (top_vouched, h); leads = λ m l. l; spent = λ keyed e. omega arith }
+  pub begin : (v : Value) (steps : List (List ℕ)) (before start : ℕ) → Holds f F F.top.0 v → Along checked v steps 0 F.top.0 before before start start
+  begin v steps before start h = record { value = v; led = refl; holds = (top_vouched, h); leads = λ m l. l; spent = λ keyed e. omega arith; asked = omega arith }
 
-  module _ (v : Value) (steps : List (List ℕ)) (k n before comparisons more : ℕ) (s : List ℕ) (e : drop k steps ≡ s ∷ drop (suc k) steps) (a : Along checked v steps k n before comparisons) where
-    pub on : (m : ℕ) → RisesAtMost checked comparisons more (halvings a.value (s ∷ [])) → LeadTo f F n (s ∷ []) m → Along checked v steps (k + 1) m before more
-    on m rises b =
+  abbrev lists : Option Keyed
+  lists = checked.certificate.keys
+
+  -- the first step asks for no more than all of them
+  first_bytes : (v : Value) (s : List ℕ) (rest : List (List ℕ)) → path_bytes lists v (s ∷ []) ≤ path_bytes lists v (s ∷ rest)
+  first_bytes v s rest = either (stepped v s)
+    where
+      either : (r : Result Value Why) → 36 + value_bytes lists v s + on_either r (λ w. 0) (λ why. 0) ≤ 36 + value_bytes lists v s + on_either r (λ w. path_bytes lists w rest) (λ why. 0)
+      either (Ok w) = omega arith
+      either (Err y) = omega arith
+
+  module _ (v : Value) (steps : List (List ℕ)) (k n before comparisons more start now after : ℕ) (s : List ℕ) (e : drop k steps ≡ s ∷ drop (suc k) steps) (a : Along checked v steps k n before comparisons start now) where
+    pub on : (m : ℕ) → RisesAtMost checked comparisons more (halvings a.value (s ∷ [])) → after ≤ now + path_bytes lists a.value (s ∷ []) → LeadTo f F n (s ∷ []) m
+        → Along checked v steps (k + 1) m before more start after
+    on m rises asks b =
         let q = leads_held f F (one_head f F) a.value n s m a.holds.1 (λ h sp. few_refs f F (is.framed honest) n h sp) b in
         let z : suc k ≡ k + 1 = omega arith in
         let there = taken_there f F a.value n s b.1 a.holds.1 b.0 b.2 b.3 in
@@ -96,7 +109,20 @@ module _ (checked : CheckedFile) (is : IsChecked checked) (honest : IsTrue check
               let here = ap (λ x. halvings_here a.value + on_either x (λ w. 0) (λ why. 0)) q.1 in
               let sum = ap (λ d. halvings a.value d) e ∙ ap (λ x. halvings_here a.value + on_either x (λ w. halvings w (drop (suc k) steps)) (λ why. 0)) q.1 ∙ ap (λ j. halvings_here a.value + halvings q.0 (drop j steps)) z in
               omega (arith, old, rise, here, sum);
+          asked =
+              (let old = a.asked in
+              let here = ap (λ x. 36 + value_bytes lists a.value s + on_either x (λ w. 0) (λ why. 0)) q.1 in
+              let sum = ap (λ d. path_bytes lists a.value d) e ∙ ap (λ x. 36 + value_bytes lists a.value s + on_either x (λ w. path_bytes lists w (drop (suc k) steps)) (λ why. 0)) q.1 ∙ ap (λ j. 36 + value_bytes lists a.value s + path_bytes lists q.0 (drop j steps)) z in
+              omega (arith, old, asks, here, sum));
         }
+
+    -- wherever the walk stops, no more has been asked for than all the steps ask for
+    pub asked_off : after ≤ now + path_bytes lists a.value (s ∷ []) → after ≤ start + path_bytes lists v steps
+    asked_off asks =
+        let old = a.asked in
+        let first = first_bytes a.value s (drop (suc k) steps) in
+        let sum = ap (λ d. path_bytes lists a.value d) e in
+        omega (arith, old, asks, first, sum)
 
     pub off : (y : Why) → stepped a.value s ≡ Err y → look 0 v steps ≡ Err (k, y)
     off y x = sym a.led ∙ ap (λ d. look k a.value d) e ∙ ap (λ x. on_either x (λ w. look (k + 1) w (drop (suc k) steps)) (λ why. Err (k, why))) x
@@ -109,12 +135,15 @@ module _ (checked : CheckedFile) (is : IsChecked checked) (honest : IsTrue check
         let sum = ap (λ d. halvings a.value d) e ∙ ap (λ x. halvings_here a.value + on_either x (λ w. halvings w (drop (suc k) steps)) (λ why. 0)) x in
         omega (arith, old, rise, here, sum)
 
-  module _ (v : Value) (steps : List (List ℕ)) (k n before comparisons : ℕ) (e : drop k steps ≡ []) (a : Along checked v steps k n before comparisons) where
+  module _ (v : Value) (steps : List (List ℕ)) (k n before comparisons start now : ℕ) (e : drop k steps ≡ []) (a : Along checked v steps k n before comparisons start now) where
     pub done : LeadTo f F F.top.0 steps n × IsVouchedBy heights n × ((w : Value) × (look 0 v steps ≡ Ok w) × Holds f F n w)
     done = (a.leads n (subst (λ d. LeadTo f F n d n) (sym e) refl), a.holds.0, (a.value, sym a.led ∙ ap (λ d. look k a.value d) e, a.holds.1))
 
     pub spent_done : RisesAtMost checked before comparisons (halvings v steps)
     spent_done keyed has = let old = a.spent keyed has in omega (arith, old)
+
+    pub asked_done : now ≤ start + path_bytes lists v steps
+    asked_done = let old = a.asked in omega (arith, old)
 
   -- one step from an object that is vouched for
   pub one_step : (v : Value) (n : ℕ) (s : List ℕ) (m : ℕ) → IsHeld checked n v → LeadTo f F n (s ∷ []) m

@@ -4,12 +4,12 @@
 //! search returns `Changed` if a list leads out of the dictionary.
 
 ghost use Rattle.std.specs.Prelude.{◌≡◌, ◌<◌, ℕ, List as list, ◌+◌, ◌^◌, ◌≤◌, List, length, slice_index, IfOk, IfSome};
-ghost use Rattle.std.specs.Prelude.{MatchResult, Option, Some, None};
+ghost use Rattle.std.specs.Prelude.{MatchResult, Option, Some, None, ◌*◌};
 ghost use Rattle.bplist_cursor.specs.Prelude.{HonestlyChecked, text, Spells, leaf, dict, content_at, IsSafeHead, Dict};
 ghost use Rattle.bplist_cursor.specs.Prelude.{SpellsText, GivesCursor, cursor_read, OnlyReadsFile, part, compare_units};
 ghost use Rattle.bplist_cursor.specs.Prelude.{Keyed, IsVouchedBy, GivesRead, read_failed, SpellTexts, HonestlyKeyed};
 ghost use Rattle.bplist_cursor.specs.Prelude.{IsKeyIndex, IsCompared, IsKeyList, RisesAtMost, ListStarts, IsUnlisted};
-ghost use Rattle.bplist_cursor.specs.Prelude.{IsSafeBody, IsTextKind};
+ghost use Rattle.bplist_cursor.specs.Prelude.{IsSafeBody, IsTextKind, tries};
 ghost use Rattle.bplist_objects.specs.Units.{units_of};
 ghost use Rattle.std.specs.List.{AllZip};
 ghost use Rattle.std.specs.Int.Digits.{digits_of};
@@ -28,6 +28,7 @@ use std::cmp::Ordering;
 fn key_head<S: Source>(checked: &mut Checked<S>, k: ObjectNo) -> Result<Head, Unread>
     requires within { k.0 < checked.old.frame.objects }
     ensures reads { OnlyReadsFile (read_failed result) checked.old checked.new }
+    ensures asks { checked.new.asked ≤ checked.old.asked + 28 }
     ensures exact { HonestlyChecked checked.old (λ f F. (us : list ℕ) → Spells f F k.0 (leaf (text us))
         → GivesRead (λ head. us ≡ units_of f head) result) }
     ensures kind { IfOk result (λ head. IsTextKind head.kind) }
@@ -86,6 +87,7 @@ fn compare_key<S: Source>(
 ) -> Result<Ordering, Unread>
     requires within { k.0 < checked.old.frame.objects }
     ensures reads { OnlyReadsFile (read_failed result) checked.old checked.new }
+    ensures asks { checked.new.asked ≤ checked.old.asked + (28 + 2 * length units.now) }
     ensures exact { HonestlyChecked checked.old (λ f F. (us : List ℕ) → Spells f F k.0 (leaf (text us))
         → GivesRead (λ o. o ≡ compare_units us units.now) result) }
     ensures comparisons { comparisons.new ≤ comparisons.old + 1 }
@@ -104,6 +106,7 @@ fn walk_keys<S: Source>(
     requires head { IsSafeHead checked.old.frame head.now }
     requires is_dict { head.now.kind ≡ Dict }
     ensures reads { OnlyReadsFile (read_failed result) checked.old checked.new }
+    ensures asks { checked.new.asked ≤ checked.old.asked + head.now.count * (36 + 2 * length units.now) }
     ensures exact { HonestlyKeyed checked.old head.now (λ f F ks. GivesRead (IsKeyIndex f F ks units.now) result) }
     ensures inside { IfOk result (λ o. IfSome o (λ i. i < head.now.count)) }
 {
@@ -136,6 +139,7 @@ fn compare_listed<S: Source>(
     requires head { IsSafeHead checked.old.frame head.now }
     requires is_dict { head.now.kind ≡ Dict }
     ensures reads { OnlyReadsFile (read_failed result) checked.old checked.new }
+    ensures asks { checked.new.asked ≤ checked.old.asked + (36 + 2 * length units.now) }
     ensures exact { HonestlyKeyed checked.old head.now (λ f F ks. (keyed : Keyed) → checked.old.certificate.keys ≡ Some keyed
         → at < length keyed.positions → slice_index keyed.positions at < length ks
         → GivesRead (IsCompared f F ks (slice_index keyed.positions at) units.now) result) }
@@ -166,6 +170,7 @@ fn search_keys<S: Source>(
     requires is_dict { head.now.kind ≡ Dict }
     requires room { start + head.now.count < 2 ^ 64 }
     ensures reads { OnlyReadsFile (read_failed result) checked.old checked.new }
+    ensures asks { checked.new.asked ≤ checked.old.asked + length (digits_of 2 head.now.count) * (36 + 2 * length units.now) }
     ensures exact { HonestlyKeyed checked.old head.now (λ f F ks. (keyed : Keyed) → checked.old.certificate.keys ≡ Some keyed
         → start + length ks ≤ length keyed.positions → IsKeyList f F ks (part keyed.positions start (length ks))
         → GivesRead (IsKeyIndex f F ks units.now) result) }
@@ -223,6 +228,7 @@ pub(crate) fn key_index<S: Source>(
     requires head { IsSafeHead checked.old.frame head.now }
     requires is_dict { head.now.kind ≡ Dict }
     ensures reads { OnlyReadsFile (read_failed result) checked.old checked.new }
+    ensures asks { checked.new.asked ≤ checked.old.asked + tries checked.old.certificate.keys head.now.count * (36 + 2 * length units.now) }
     ensures exact { HonestlyChecked checked.old (λ f F. IsVouchedBy checked.old.certificate.heights n.0
         → (ks ms : List ℕ) → Spells f F n.0 (dict ks ms) → dict ks ms ≡ content_at f F head.now → SpellTexts f F ks
         → GivesRead (IsKeyIndex f F ks units.now) result) }

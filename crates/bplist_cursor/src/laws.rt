@@ -6,6 +6,8 @@ ghost use Rattle.bplist_cursor.specs.Prelude.{Frame as frame, IsFrame, Value, Co
 ghost use Rattle.bplist_cursor.specs.Prelude.{IsNoPath, IsPathOf, stepped, IsTaken, LeadTo, HasTextKeys, why_of, cap};
 ghost use Rattle.bplist_cursor.specs.Prelude.{nodes, Measured, value_text, IsFormed, plain, IsFormless, Formed};
 ghost use Rattle.bplist_cursor.specs.Prelude.{form_at, form_of, Form, array, set, dict, named, member_reference, node_of};
+ghost use Rattle.bplist_cursor.specs.Prelude.{Keyed, path_bytes};
+ghost use Rattle.bplist_objects.specs.Value.{Pairs, keys, dict as dict_value};
 
 /// A path text spells exactly one list of steps.
 pub fn one_path()
@@ -40,6 +42,12 @@ pub fn members_by_number()
         → named (member_reference (dict ks ms) (2 * j + 1)) ≡ Some (node_of (slice_index ms j)) }
     ensures none { (f : List ℕ) (F : frame) (n i : ℕ) (content : Content) → Spells f F n content → length (refs content) ≤ i
         → named (member_reference content i) ≡ None }
+{}
+
+/// With key lists, to look up a key of 4 units in a dictionary of 1,000 pairs asks for at most 476 bytes.
+pub fn one_key_of_a_thousand()
+    ensures { (keyed : Keyed) (ps : Pairs) (step : List ℕ) → length (keys ps) ≡ 1000 → length step ≡ 4
+        → path_bytes (Some keyed) (dict_value ps) (step ∷ []) ≡ 476 }
 {}
 
 /// An object that holds a value spells a content. If a step takes none of its references, the step can't be taken; if

@@ -30,7 +30,7 @@
 //! | sizes | node counts and text lengths | [`Form`], [`Measures`], [`measure`], [`is_plain`], [`are_plain`] |
 //! | node_counts | the number of nodes of one value, by its containers alone | [`count_nodes`] |
 //! | faults | the errors of the calls above | [`CursorFault`], [`Unread`] |
-//! | laws | laws about specs/ | [`members_by_number`], [`one_path`], [`one_place`], [`one_formless`], [`steps_follow_references`] |
+//! | laws | laws about specs/ | [`members_by_number`], [`one_key_of_a_thousand`], [`one_path`], [`one_place`], [`one_formless`], [`steps_follow_references`] |
 #![tactic(auto)]
 
 mod answers;
@@ -53,7 +53,10 @@ pub use answers::{answer, answer_all};
 pub use bodies::{body_bytes, body_units, bytes_of, node_head};
 pub use certified_answers::{AnswerFault, answer_certified};
 pub use faults::{CursorFault, Unread};
-pub use laws::{members_by_number, one_formless, one_path, one_place, steps_follow_references};
+pub use laws::{
+    members_by_number, one_formless, one_key_of_a_thousand, one_path, one_place,
+    steps_follow_references,
+};
 pub use lookup::{locate, locate_counted, locate_in_slice};
 pub use members::{member, member_by_head};
 pub use node::{Found, Node, Why};

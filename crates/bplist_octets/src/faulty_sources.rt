@@ -25,6 +25,8 @@ impl<'a> Source for FaultySource<'a> {
     // The count of failed reads is 0 until the failing read, and 1 after it.
     ghost means = { λ s. record { octets = s.octets.now; honest = true; failures = option_map_or (λ _. 0) s.before 1; extra = [] } };
 
+    ghost asked = { λ _. 0 };
+
     fn len(&self) -> u64 {
         self.octets.len() as u64
     }
@@ -35,6 +37,7 @@ impl<'a> Source for FaultySource<'a> {
             (⟦<FaultySource<'a> as Source>⟧.means self.new) }
         ensures filled { OnOk result (IsTrue (⟦<FaultySource<'a> as Source>⟧.means self.old).honest
             → into.new ≡ part (⟦<FaultySource<'a> as Source>⟧.means self.old).octets at (length into.old)) }
+        ensures asks { ⟦<FaultySource<'a> as Source>⟧.asked self.new ≤ ⟦<FaultySource<'a> as Source>⟧.asked self.old + length into.old }
         ensures answer { result ≡ (elim self.old.before [ Some zero ↦ Err Device | _ ↦ Ok tt ]) }
         ensures turn { self.new ≡ record self.old { before = elim self.old.before [ Some (suc n) ↦ Some n | _ ↦ None ] } }
     {
@@ -82,6 +85,8 @@ impl<'a> Source for ShiftingSource<'a> {
 
     ghost means = { λ s. record { octets = s.first.now; honest = false; failures = 0; extra = [] } };
 
+    ghost asked = { λ _. 0 };
+
     fn len(&self) -> u64 {
         self.first.len() as u64
     }
@@ -92,6 +97,7 @@ impl<'a> Source for ShiftingSource<'a> {
             (⟦<ShiftingSource<'a> as Source>⟧.means self.new) }
         ensures filled { OnOk result (IsTrue (⟦<ShiftingSource<'a> as Source>⟧.means self.old).honest
             → into.new ≡ part (⟦<ShiftingSource<'a> as Source>⟧.means self.old).octets at (length into.old)) }
+        ensures asks { ⟦<ShiftingSource<'a> as Source>⟧.asked self.new ≤ ⟦<ShiftingSource<'a> as Source>⟧.asked self.old + length into.old }
         ensures never_fails { result ≡ Ok tt }
         ensures turn { self.new.left ≡ self.old.left - 1 }
         ensures same { (self.new.first.now ≡ self.old.first.now) × (self.new.second.now ≡ self.old.second.now) }

@@ -88,6 +88,8 @@ impl Source for FileSource {
     // No read promises these bytes, so any list of this length would do.
     ghost means = { λ s. record { octets = replicate s.length 0; honest = false; failures = s.failures; extra = [] } };
 
+    ghost asked = { λ _. 0 };
+
     fn len(&self) -> u64 {
         self.length
     }

@@ -3,7 +3,7 @@
 //! A reader that alternates between a few places, such as the offset table, an object and its keys, would refill a
 //! single window each time.
 
-ghost use Rattle.std.specs.Prelude.{◌≡◌, ℕ, ◌+◌, ◌%◌, ◌<◌, ◌≤◌, All, IsTrue, length, OnOk, is_err};
+ghost use Rattle.std.specs.Prelude.{◌≡◌, ℕ, ◌+◌, ◌/◌, ◌%◌, ◌<◌, ◌≤◌, All, IsTrue, length, max, OnOk, is_err};
 ghost use Rattle.bplist_octets.specs.Octets.{part};
 ghost use Rattle.bplist_octets.specs.Meaning.{OnlyReads};
 ghost use Rattle.bplist_octets.specs.Panes.{IsEmptyPane, IsPane, borrowed};
@@ -98,6 +98,7 @@ fn hold<S: Source>(
     requires fits { span.room ≤ 16384 }
     requires pane { IsPane (S.means source.old).octets (S.means source.old).honest pane.old }
     ensures reads { OnlyReads (is_err result) (S.means source.old) (S.means source.new) }
+    ensures asks { S.asked source.new ≤ S.asked source.old + 16384 }
     ensures pane { IsPane (S.means source.old).octets (S.means source.old).honest pane.new }
     ensures start { OnOk result (pane.new.start ≤ at) }
     ensures room { OnOk result (at + count ≤ pane.new.start + pane.new.filled) }
@@ -173,7 +174,7 @@ fn empty_all(panes: &mut [Pane])
 /// After a jump it reads the block of 1,024 bytes with that place, and more if the request ends after the block. If the
 /// request goes on from the bytes of a pane, forward or backward, it reads four times as many bytes as that pane has,
 /// at most 16,384. A request of more than 8,192 bytes goes straight to the source. After a failed read the pane is
-/// empty.
+/// empty. `asked` is the number of whole panes that the source was asked for.
 #[derive(Drop)]
 pub struct Panes<'a, S: Source> {
     /// The source that the panes read.
@@ -219,6 +220,7 @@ impl<'a, S: Source> Panes<'a, S> {
         requires fits { length into.old ≤ 8192 }
         ensures same_source { self.new.source.ghost_name ≡ self.old.source.ghost_name }
         ensures reads { OnlyReads (is_err result) (S.means self.old.source.now) (S.means self.new.source.now) }
+        ensures asks { S.asked self.new.source.now ≤ S.asked self.old.source.now + 16384 }
         ensures filled { OnOk result (IsTrue (S.means self.old.source.now).honest
             → into.new ≡ part (S.means self.old.source.now).octets at (length into.old)) }
     {
@@ -239,13 +241,24 @@ impl<'a, S: Source> Panes<'a, S> {
 impl<S: Source> Source for Panes<'_, S> {
     ghost means = { λ w. borrowed w.source.ghost_name (S.means w.source.now) };
 
+    // In panes, since a request of a byte may read a whole one.
+    ghost asked = { λ w. S.asked w.source.now / 16384 };
+
     fn len(&self) -> u64 {
         self.len
     }
 
     // Inlined, so that reading one byte costs no call if the last pane has it.
     #[inline(always)]
-    fn read_at(&mut self, at: u64, into: &mut [u8]) -> Result<(), ReadFault> {
+    fn read_at(&mut self, at: u64, into: &mut [u8]) -> Result<(), ReadFault>
+        requires { at + length into.old ≤ length (S.means self.old.source.now).octets }
+        ensures reads { OnlyReads (is_err result) (borrowed self.old.source.ghost_name (S.means self.old.source.now))
+            (borrowed self.new.source.ghost_name (S.means self.new.source.now)) }
+        ensures filled { OnOk result (IsTrue (S.means self.old.source.now).honest
+            → into.new ≡ part (S.means self.old.source.now).octets at (length into.old)) }
+        ensures asks { S.asked self.new.source.now / 16384 ≤ S.asked self.old.source.now / 16384 + length into.old }
+        ensures below { S.asked self.new.source.now ≤ S.asked self.old.source.now + max (length into.old) 16384 }
+    {
         if into.len() > LONGEST {
             return self.source.read_at(at, into);
         }
@@ -253,6 +266,9 @@ impl<S: Source> Source for Panes<'_, S> {
         let pane = &mut panes[self.last];
         if let Some(from) = index_in(pane.start, pane.filled, at, into.len()) {
             copy_part(pane, from, into);
+            return Ok(());
+        }
+        if into.is_empty() {
             return Ok(());
         }
         self.read_pane(at, into)

@@ -3,7 +3,7 @@
 //! All readers of the crate and of its callers take any [`Source`]. A [`SliceSource`] is the simplest one: its bytes
 //! are in memory, so its reads never fail, and it can also lend bytes without a copy.
 
-ghost use Rattle.std.specs.Prelude.{◌≡◌, ◌+◌, ◌≤◌, length, IsTrue, OnOk, is_err};
+ghost use Rattle.std.specs.Prelude.{◌≡◌, ℕ, ◌+◌, ◌≤◌, length, IsTrue, OnOk, is_err};
 ghost use Rattle.bplist_octets.specs.Octets.{part};
 ghost use Rattle.bplist_octets.specs.Meaning.{Meaning, OnlyReads};
 ghost use Rattle.bplist_octets.specs.Slices.{StandsAt, source_over};
@@ -31,6 +31,11 @@ pub trait Source {
     /// The bytes, the honesty and the count of failed reads.
     ghost means: { Self → Meaning };
 
+    /// A count of what it was asked for: no read raises it by more than the length of its buffer. A source that does not
+    /// count says 0. A source over another source hands on the count of that one, and one with a buffer the count in
+    /// blocks of its buffer.
+    ghost asked: { Self → ℕ };
+
     /// The number of bytes.
     fn len(&self) -> u64
         ensures { result ≡ length (means self.now).octets };
@@ -43,7 +48,8 @@ pub trait Source {
         requires { at + length into.old ≤ length (means self.old).octets }
         ensures reads { OnlyReads (is_err result) (means self.old) (means self.new) }
         ensures filled { OnOk result (IsTrue (means self.old).honest
-            → into.new ≡ part (means self.old).octets at (length into.old)) };
+            → into.new ≡ part (means self.old).octets at (length into.old)) }
+        ensures asks { asked self.new ≤ asked self.old + length into.old };
 }
 
 /// A source over a slice. It is honest, its reads never fail, and its count of failed reads is 0.
@@ -55,6 +61,8 @@ pub struct SliceSource<'a> {
 impl<'a> Source for SliceSource<'a> {
     ghost means = { λ s. source_over s.octets };
 
+    ghost asked = { λ _. 0 };
+
     fn len(&self) -> u64 {
         self.octets.len() as u64
     }
@@ -65,6 +73,7 @@ impl<'a> Source for SliceSource<'a> {
             (⟦<SliceSource<'a> as Source>⟧.means self.new) }
         ensures filled { OnOk result (IsTrue (⟦<SliceSource<'a> as Source>⟧.means self.old).honest
             → into.new ≡ part (⟦<SliceSource<'a> as Source>⟧.means self.old).octets at (length into.old)) }
+        ensures asks { ⟦<SliceSource<'a> as Source>⟧.asked self.new ≤ ⟦<SliceSource<'a> as Source>⟧.asked self.old + length into.old }
         ensures never_fails { result ≡ Ok tt }
         ensures same { self.new ≡ self.old }
     {

@@ -1,6 +1,6 @@
 //! A source over another source, with one buffer of bytes that it has read.
 
-ghost use Rattle.std.specs.Prelude.{◌≡◌, ◌↔◌, ◌+◌, ◌-◌, ◌≤◌, length, take, min, IsTrue, MatchOption, OnOk, OnErr};
+ghost use Rattle.std.specs.Prelude.{◌≡◌, ◌↔◌, ◌+◌, ◌-◌, ◌/◌, ◌≤◌, length, take, min, max, IsTrue, MatchOption, OnOk, OnErr};
 ghost use Rattle.std.specs.Prelude.{is_err};
 ghost use Rattle.bplist_octets.specs.Octets.{part};
 ghost use Rattle.bplist_octets.specs.Meaning.{OnlyReads};
@@ -19,7 +19,8 @@ pub(crate) const JUMP: usize = 1024;
 /// If the window has all bytes of a request, nothing is read. Otherwise the window moves to the place of the request.
 /// It reads 4,096 bytes if that place is in the old window or up to 1,024 bytes after it, and otherwise 1,024 bytes or
 /// the length of the request, whichever is greater. At the end of the source it may read fewer. A request of more than
-/// 4,096 bytes goes straight to the source. After a failed read the window is empty.
+/// 4,096 bytes goes straight to the source. After a failed read the window is empty. `asked` is the number of whole
+/// windows that the source was asked for.
 ///
 /// A reader that alternates between a few places is better served by `Panes`.
 #[derive(Drop)]
@@ -66,6 +67,7 @@ fn read_front<S: Source>(
     requires room { count ≤ length into.old }
     requires inside { at + count ≤ length (S.means source.old).octets }
     ensures reads { OnlyReads (is_err result) (S.means source.old) (S.means source.new) }
+    ensures asks { S.asked source.new ≤ S.asked source.old + count }
     ensures filled { OnOk result (IsTrue (S.means source.old).honest →
         take count into.new ≡ part (S.means source.old).octets at count) }
 {
@@ -100,6 +102,7 @@ impl<S: Source> Window<S> {
         requires inside { at ≤ length (S.means self.old.source).octets }
         requires fits { room ≤ 4096 }
         ensures reads { OnlyReads (is_err result) (S.means self.old.source) (S.means self.new.source) }
+        ensures asks { S.asked self.new.source ≤ S.asked self.old.source + room }
         ensures start { self.new.start ≡ at }
         ensures filled { OnOk result
             (self.new.filled ≡ min (length (S.means self.old.source).octets - at) room) }
@@ -117,6 +120,7 @@ impl<S: Source> Window<S> {
     fn read_past(&mut self, at: u64, into: &mut [u8]) -> Result<(), ReadFault>
         requires { at + length into.old ≤ length (S.means self.old.source).octets }
         ensures reads { OnlyReads (is_err result) (S.means self.old.source) (S.means self.new.source) }
+        ensures asks { S.asked self.new.source ≤ S.asked self.old.source + length into.old }
         ensures filled { OnOk result (IsTrue (S.means self.old.source).honest →
             into.new ≡ part (S.means self.old.source).octets at (length into.old)) }
         ensures emptied { OnErr result (self.new.filled ≡ 0) }
@@ -132,16 +136,29 @@ impl<S: Source> Window<S> {
 impl<S: Source> Source for Window<S> {
     ghost means = { λ w. S.means w.source };
 
+    // In windows, since a request of a byte may read a whole one.
+    ghost asked = { λ w. S.asked w.source / 4096 };
+
     fn len(&self) -> u64 {
         self.source.len()
     }
 
-    fn read_at(&mut self, at: u64, into: &mut [u8]) -> Result<(), ReadFault> {
+    fn read_at(&mut self, at: u64, into: &mut [u8]) -> Result<(), ReadFault>
+        requires { at + length into.old ≤ length (S.means self.old.source).octets }
+        ensures reads { OnlyReads (is_err result) (S.means self.old.source) (S.means self.new.source) }
+        ensures filled { OnOk result (IsTrue (S.means self.old.source).honest →
+            into.new ≡ part (S.means self.old.source).octets at (length into.old)) }
+        ensures asks { S.asked self.new.source / 4096 ≤ S.asked self.old.source / 4096 + length into.old }
+        ensures below { S.asked self.new.source ≤ S.asked self.old.source + max (length into.old) 4096 }
+    {
         if into.len() > WINDOW {
             return self.read_past(at, into);
         }
         if let Some(from) = index_in(self.start, self.filled, at, into.len()) {
             self.copy_part(from, into);
+            return Ok(());
+        }
+        if into.is_empty() {
             return Ok(());
         }
         let forward = is_near(self.start, self.filled, at);

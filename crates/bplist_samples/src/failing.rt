@@ -48,6 +48,8 @@ pub struct FailingSource<'a> {
 impl<'a> Source for FailingSource<'a> {
     ghost means = { λ s. ⟦<FaultySource<'a> as Source>⟧.means s.source };
 
+    ghost asked = { λ _. 0 };
+
     fn len(&self) -> u64 {
         self.source.len()
     }

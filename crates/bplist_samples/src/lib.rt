@@ -18,23 +18,20 @@
 //! | a file whose tree is too large to walk | [`doubling`] |
 //! | files with their certificates | [`Row`], [`tested_rows`], [`thousand_keys`] |
 //! | a call of each kind, with its answer as text | [`Call`], [`all_calls`], [`checked_text`] |
-//! | a source that counts its reads | [`CountingSource`], [`Counts`] |
 //! | a source with one read that fails, with any fault | [`FailingSource`], [`FailingRead`], [`READ_FAULTS`] |
 //! | a writer with little room, or with writes that fail at first | [`ShortWriter`], [`Trouble`] |
 //!
 //! The modules, in reading order: `files` (bytes of files), `rows` (files with certificates), `calls` (calls and their
-//! answers), `counting` and `failing` (sources), `writers`.
+//! answers), `failing` (a source), `writers`.
 #![tactic(auto)]
 
 mod calls;
-mod counting;
 mod failing;
 mod files;
 mod rows;
 mod writers;
 
 pub use calls::{Call, all_calls, checked_text};
-pub use counting::{CountingSource, Counts};
 pub use failing::{FailingRead, FailingSource, READ_FAULTS};
 pub use files::{
     A_TO_ONE, PRINTABLE_DICT, Parts, SMALLEST_FILE, THREE_KEYS, TWO_TRUES, UNPRINTABLE_DICT,

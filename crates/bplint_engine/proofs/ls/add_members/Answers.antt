@@ -1,6 +1,7 @@
 use Rattle.std.proofs.Common.{◌∙◌, ◌++◌, ap, add-one, append_assoc}
 use Rattle.std.proofs.lemmas.Result.{err_from_is_err_and}
 use Rattle.bplint_engine.specs.Ls.{first_lines, member_line}
+use Rattle.bplist_cursor.proofs.SameFiles.{same_file}
 use Rattle.bplint_engine.proofs.ls.add_members.Goals as goal
 
 pub returns-in_err-add_member-clause-exact : goal.returns-in_err-add_member-clause-exact
@@ -11,7 +12,7 @@ returns-in_err-add_member-clause-exact g c =
 
 pub loop-i-preserved : goal.loop-i-preserved
 loop-i-preserved g c = record {
-  same = c.in_ok-add_member.ensures.reads ∙ c.loop-i.invariant.same;
+  same = same_file c.args.checked.now c.in_ok-add_member.ensures.reads c.loop-i.invariant.same;
   lines = λ honest w of is.
       let adds = rw c.loop-i.invariant.same at c.in_ok-add_member.ensures.exact in
       let path = c.args.container.now.path.now in

@@ -7,6 +7,7 @@ use Rattle.bplint_engine.specs.Names.{name_in}
 use Rattle.bplint_engine.specs.Tree.{tree_lines}
 use Rattle.bplint_engine.specs.TreeWalks.{GoesOn}
 use Rattle.bplint_engine.proofs.TreeSteps.{step_fail, step_more}
+use Rattle.bplist_cursor.proofs.SameFiles.{same_file}
 use Rattle.bplint_engine.proofs.tree_walk.list.Goals as goal
 
 pub loop-opened-init : goal.loop-opened-init
@@ -25,7 +26,7 @@ loop-opened-preserved g c =
     let turned = ap reverse items ∙ reverse-append c.pop.new.self.items (c.in-Some.opened ∷ []) in
     let popped : Listing = record { alloc = was.alloc; stack = c.pop.new.self; names = was.names; line = was.line; room = was.room; sink = was.sink } in
     record {
-      same = c.in_ok-step.ensures.reads ∙ i.same;
+      same = same_file c.args.checked.now c.in_ok-step.ensures.reads i.same;
       stack = rw i.same at c.in_ok-step.ensures.stack;
       lines = λ t w held.
           step_more c.args.style c.args.checked.now c.loop-opened.checked i.same (g.W.Write.contents c.args.out.now) (g.W.Write.contents c.loop-opened.out) (g.W.Write.contents c.step.new.out)

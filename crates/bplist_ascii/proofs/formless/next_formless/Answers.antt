@@ -1,7 +1,9 @@
-use Rattle.std.proofs.Common.{rules, arith, ◌≡◌, ◌∙◌, Err}
+use Rattle.std.proofs.Common.{rules, arith, ◌≡◌, Err}
 use Rattle.std.proofs.lemmas.Result.{err_from_is_err_and}
 use Rattle.bplist_cursor.proofs.StepReferences.{content_of_value}
 use Rattle.bplist_ascii.proofs.SearchSteps.{own_kind}
+use Rattle.bplist_cursor.proofs.SameFiles.{same_file}
+use Rattle.bplist_cursor.specs.Kept.{IsSameFile}
 use Rattle.bplist_ascii.proofs.formless.next_formless.Goals as goal
 
 pub returns-in_err-head-clause-exact : goal.returns-in_err-head-clause-exact
@@ -18,7 +20,7 @@ returns-in_err-part-in-Array-clause-exact g c = λ honest v held none.
 pub returns-then-height-clause-exact : goal.returns-then-height-clause-exact
 returns-then-height-clause-exact g c = λ honest v held none.
     let part = (rw c.in_ok-head.ensures.reads at c.in_ok-part-in-Array.ensures.exact) honest c.args.node.object.0 v held none (c.in_ok-head.ensures.exact honest held.0) in
-    let now : c.first_without_text.new.checked ≡ c.args.checked.now = c.in_ok-part-in-Array.ensures.reads ∙ c.in_ok-head.ensures.reads in
+    let now : IsSameFile c.args.checked.now c.first_without_text.new.checked = same_file c.args.checked.now c.in_ok-part-in-Array.ensures.reads c.in_ok-head.ensures.reads in
     let low = part.1 in
     let height = rw now at c.height.ensures in
     let own = rw now at c.height-in-Array.ensures in
