@@ -2,8 +2,8 @@
 """definitions.py [--write | --count [CALL..]]
 
 Makes docs/DEFINITIONS.md from crates/*/specs: what a reader has to believe, in reading order. The page has the text of the
-definitions that the theorem leads to, then of those that its other clauses add, and then the names of the definitions of all
-other public calls.
+definitions that the theorem leads to, then of those that other clauses of `answer_certified` add, and then the names of the
+definitions of all other public calls.
 
 With --write it writes the page. Without, it compares the page with the one that is there, one test for each section. Three
 more tests show that no public contract leads to a definition that computes what the grammar says, that each file of the
@@ -26,6 +26,11 @@ that only proofs and private contracts cite. A name without a definition here is
 and `Head`, or a word of the kit's library. The words above a definition say it in plain English. The words above a block
 name its source: Apple's published CFBinaryPList.c, a standard, or `profile`, a choice of this project.
 
+The page leaves out what else is to be believed: the views by which contracts see a `Path` as its steps, a `List` as its
+items (bplist_cursor/path.rt, replies.rt) and a `Certificate` as its lists (bplist_cert/certificate.rt); the clauses of
+`Source` itself (bplist_octets/source.rt); the names of the 32 rules; and some 25 words of the kit's library, such as `map`
+and `length`.
+
 `tests/tools/definitions.py --write` makes this page, and the gate compares. A line of the table has what it adds to those
 above it. Comments are not counted.
 
@@ -35,22 +40,25 @@ above it. Comments are not counted.
 # The files that the theorem leads to, in reading order.
 READING = {
     "Bytes and numbers": [("bplist_octets", "Octets"), ("bplist_objects", "Numbers")],
-    "The trailer and the offsets": [("bplist_objects", "Rules"), ("bplist_objects", "Frame")],
+    "The trailer and the offsets": [("bplist_objects", "Frame")],
     "Values": [("bplist_objects", "Value")],
     "Fronts and heads": [("bplist_objects", "Announced")],
     "What an object spells": [("bplist_objects", "Heads")],
     "What an object holds": [("bplist_objects", "Holds")],
     "What the top reaches": [("bplist_objects", "Reach")],
     "What a file holds": [("bplist_objects", "Extents"), ("bplist_objects", "File")],
+    "What a sound file is": [("bplist_cert", "Sound")],
     "Where a path leads": [("bplist_cursor", "Members"), ("bplist_cursor", "Look")],
     "How many nodes a value has": [("bplist_cursor", "Nodes")],
     "What a value replies": [("bplist_cursor", "Replies")],
     "What a source of bytes means": [("bplist_octets", "Meaning")],
     "The theorem": [("bplist_cursor", "Answered")],
 }
-# The parts of the page with text: a title, and the clauses of `answer_certified` that each adds.
+# The crates of the two calls whose contracts are the theorem.
+CALLS = {"check": "bplist_cert", "answer_certified": "bplist_cursor"}
+# The parts of the page with text: a title, and the clauses that each adds.
 PARTS = {
-    "the theorem: clause `theorem` of `answer_certified`, and `Source`": ["theorem"],
+    "the theorem: clause `sound` of `check`, clause `theorem` of `answer_certified`, and `Source`": ["check sound", "theorem"],
     "that the call only reads: clause `handed`": ["handed"],
     "when replies come: clauses `yes` and `accepted`": ["yes", "accepted"],
     "which fault comes: clause `refused`": ["refused"],
@@ -271,15 +279,20 @@ def cited_by(specs, crate, calls):
     return cited
 
 
-def theorem_clauses(specs):
-    """The clauses of `answer_certified` by name, and what each cites."""
-    for text in sources_of(specs, "bplist_cursor").values():
+def clauses_of(specs, call):
+    """The clauses of a call by name, and what each cites."""
+    for text in sources_of(specs, CALLS[call]).values():
         for item in items(text):
-            if re.search(r"^pub fn answer_certified\b", item, re.M):
+            if re.search(rf"^pub fn {call}\b", item, re.M):
                 imports, found = imports_of(text), named_clauses(item)
-                cited = {name: {specs.resolved(word, imports) for word in words_of(one)} for name, one in found.items()}
-                return found, cited
-    raise SystemExit("answer_certified is gone")
+                return {name: (one, {specs.resolved(word, imports) for word in words_of(one)}) for name, one in found.items()}
+    raise SystemExit(f"{call} is gone")
+
+
+def theorem_clauses(specs):
+    """The clauses of `answer_certified` by name, and clause `sound` of `check`; and what each cites."""
+    found = {"check sound": clauses_of(specs, "check")["sound"], **clauses_of(specs, "answer_certified")}
+    return {name: one[0] for name, one in found.items()}, {name: one[1] for name, one in found.items()}
 
 
 class Reading:
@@ -405,14 +418,14 @@ def misplaced(reading):
 
 
 def unquoted(reading):
-    """What docs/THEOREM.md does not say of the theorem as the sources do: the clauses, the record, how much is to be believed;
-    and whether README.md has the same sentence."""
-    record = next(one for one in reading.seen if one.name == "IsAnswered")
+    """What docs/THEOREM.md does not say of the theorem as the sources do: the clauses, the two definitions, how much is to be
+    believed; and whether README.md has the same sentence."""
+    texts = ["\n".join(one.lines).rstrip() for one in reading.seen if one.name in ("IsSound", "IsAnswered")]
     _, many, lines = reading.table()[0]
     counts = f"{many} definitions of {lines} lines"
     page, readme = ((ROOT / name).read_text() for name in ("docs/THEOREM.md", "README.md"))
     sentence = page[page.index("**If `check`") : page.index("**\n\nThis page")]
-    wanted = [(one, "docs/THEOREM.md", page) for one in (*reading.clauses.values(), "\n".join(record.lines).rstrip(), counts)]
+    wanted = [(one, "docs/THEOREM.md", page) for one in (*reading.clauses.values(), *texts, counts)]
     wanted += [(one, "README.md", readme) for one in (sentence, counts)]
     found = [f"{name}: {one.split(' {')[0].splitlines()[0]}" for one, name, text in wanted if one not in text]
     return f"these do not say of the theorem what the sources say: {'; '.join(found)}" if found else ""

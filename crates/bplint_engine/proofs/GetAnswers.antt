@@ -90,8 +90,8 @@ module _ (style : Style) where
       → ∥ Answers (LinesSay (found_line style) Says f texts) made ∥₁
   replies_say Says f texts paths queries replies (Ok output) are asked sure there told =
       ∥∥₁_elim sure (hlevel props) (λ (said, bytes, says). ∥∥₁_map there (λ a.
-      let t = told_of a.value paths queries output.said output.bytes.items asked (told.0 ∙ ap replies_said a.answered, told.1 ∙ ap (λ (rs : List Reply). flat_map (reply_line style) rs) a.answered) in
-      inr (paths, gives said bytes, are, says, (a.value, a.holds, same_gives output.said (said_of (map (look 0 a.value) paths)) output.bytes.items (flat_map (found_line style) (map (look 0 a.value) paths)) t.0 t.1))))
+      let t = told_of a.0.value paths queries output.said output.bytes.items asked (told.0 ∙ ap replies_said a.1, told.1 ∙ ap (λ (rs : List Reply). flat_map (reply_line style) rs) a.1) in
+      inr (paths, gives said bytes, are, says, (a.0.value, a.0.holds, same_gives output.said (said_of (map (look 0 a.0.value) paths)) output.bytes.items (flat_map (found_line style) (map (look 0 a.0.value) paths)) t.0 t.1))))
   replies_say Says f texts paths queries replies (Err fault) are asked sure there told = merely (excused_refused (LinesSay (found_line style) Says f texts) fault told)
 
 -- the same for a file and a certificate, for which there may be no replies

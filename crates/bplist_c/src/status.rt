@@ -30,8 +30,7 @@ pub(crate) enum Status {
     Opened,
     /// The file has changed, or is not the one that was opened.
     OtherFile,
-    /// The certificate does not vouch for the object: the number does not exist, or the object is not reachable from
-    /// the top.
+    /// The certificate does not vouch for the object: the number does not exist, or the certificate gives it no height.
     NoObject,
     /// The object is not of the kind that the call needs.
     OtherKind,

@@ -1,6 +1,7 @@
 -- What valid heights prove: each vouched object holds a value, and references from it go down.
-use Rattle.std.proofs.Common.{◌≡◌, ℕ, zero, suc, ◌<◌, ◌≤◌, ◌+◌, ◌*◌, List, [], ◌∷◌, length, slice_index, refl, sym, ap, ◌∙◌, subst, arith, Contains}
+use Rattle.std.proofs.Common.{◌≡◌, ℕ, zero, suc, ◌<◌, ◌≤◌, ◌+◌, ◌*◌, List, [], ◌∷◌, length, slice_index, refl, sym, ap, ◌∙◌, subst, arith, Contains, All}
 use Rattle.std.specs.List.{AllByRecursion, AllZip}
+use Rattle.bplist_objects.specs.Frame.{IsFrame}
 use Rattle.bplist_objects.specs.Numbers.{nums_at}
 use Rattle.bplist_objects.specs.declared.frame.Frame.{Frame}
 use Rattle.bplist_objects.specs.declared.head.Kind.{Kind}
@@ -16,6 +17,7 @@ use Rattle.bplist_objects.proofs.Fronts.{one_head}
 use Rattle.bplist_objects.proofs.ObjectValues.{OneHead, holds_one, one_value_of_file}
 use Rattle.bplist_objects.proofs.References.{length-nums_at}
 use Rattle.bplist_objects.proofs.ProperLeaves.{refs_below}
+use Rattle.bplist_cert.specs.Sound.{IsSound}
 use Rattle.bplist_cert.specs.Valid.{IsVouchedBy, IsVouched, IsValid, HasKeys, HoldsOneValue}
 
 module _ (f : List ℕ) (F : Frame) where
@@ -121,3 +123,28 @@ module _ (f : List ℕ) (F : Frame) (heights : List ℕ) (valid : IsValid f F he
   -- the references of a vouched object are vouched for and lower
   pub references_lower : (n m : ℕ) → IsVouchedBy heights n → Refs f F n m → IsVouchedBy heights m × (slice_index heights m < slice_index heights n)
   references_lower n m vo r = lower f F heights valid.vouched (one_head f F) n m vo r
+
+  -- the file is sound
+  pub sound : IsSound f
+  sound =
+      let file = file_holds in
+      let same : F ≡ file.1.frame = valid.frame.spelled ∙ sym file.1.is.spelled in
+      record {
+        value = file.0;
+        holds = file.1;
+        one = file.2;
+        inside = subst (λ G. (n : ℕ) → Reach f G n → (c : Content) × Spells f G n c × All (λ m. m < G.objects) (refs c)) same (λ n r. let s = reached_spells n r in (s.0, s.1, s.1.refs));
+        no_circle = subst (λ G. (n : ℕ) → Reach f G n → Chain f G n n → ⊥) same circle_free;
+      }
+
+-- what a sound file is by its frame
+module _ (f : List ℕ) (F : Frame) (is : IsSound f) (frame : IsFrame f F) where
+  same_frame : is.holds.frame ≡ F
+  same_frame = is.holds.is.spelled ∙ sym frame.spelled
+
+  pub sound_inside : (n : ℕ) → Reach f F n → (c : Content) × Spells f F n c × AllByRecursion (λ m. m < F.objects) (refs c)
+  sound_inside = subst (λ G. (n : ℕ) → Reach f G n → (c : Content) × Spells f G n c × AllByRecursion (λ m. m < G.objects) (refs c)) same_frame
+      (λ n r. let s = is.inside n r in (s.0, s.1, refs_below f is.holds.frame n s.0 s.1))
+
+  pub sound_no_circle : (n : ℕ) → Reach f F n → Chain f F n n → ⊥
+  sound_no_circle = subst (λ G. (n : ℕ) → Reach f G n → Chain f G n n → ⊥) same_frame is.no_circle

@@ -2,6 +2,7 @@ pub mod Lists
 pub mod Encoding
 pub mod Versions
 pub mod Valid
+pub mod Sound
 pub mod Sorted
 pub mod Heights
 pub mod DictKeys

@@ -8,7 +8,7 @@ pub use Rattle.bplist_objects.specs.Announced.{HasHead}
 pub use Rattle.bplist_objects.specs.Answers.{Gives, Never, read_failed}
 pub use Rattle.bplist_objects.specs.Claims.{FailsAt}
 pub use Rattle.bplist_objects.specs.Extents.{Sums}
-pub use Rattle.bplist_objects.specs.Frame.{off}
+pub use Rattle.bplist_objects.specs.Frame.{IsFrame, off}
 pub use Rattle.bplist_objects.specs.Framed.{HonestlyIn, frame_in}
 pub use Rattle.bplist_objects.specs.Heads.{Content, HasShape, Spells, refs}
 pub use Rattle.bplist_objects.specs.Holds.{Holds}
@@ -47,6 +47,7 @@ pub use Rattle.bplist_cert.specs.LowBytes.{AreLow, IsLow}
 pub use Rattle.bplist_cert.specs.PairFault.{AreCheckedBelow, IsCheckedObject, IsPairFault, IsSeenFault, IsVouchedFault, IsWalkFault, KeepsPairRules}
 pub use Rattle.bplist_cert.specs.Refusals.{GivesRefusal, Judges, MayRefuse, is_read, refusal_of, refusal_of_keys, refused_read}
 pub use Rattle.bplist_cert.specs.Sorted.{IsAccepted, IsSorted}
+pub use Rattle.bplist_cert.specs.Sound.{IsSound}
 pub use Rattle.bplist_cert.specs.Valid.{HoldsOneValue, IsValid, IsVouchedBy, SpellsText}
 pub use Rattle.bplist_cert.specs.Versions.{header_octets, is_keyed}
 pub use Rattle.bplist_cert.specs.declared.checker.Pass.TheVariants.{Exact, Quick}

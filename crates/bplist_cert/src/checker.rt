@@ -1,13 +1,13 @@
 //! The check of a certificate against a file, and its walk over the vouched objects.
 
 ghost use Rattle.std.specs.Prelude.{◌≡◌, ◌+◌, ◌≤◌, ◌<◌, ℕ, length, IfOk, IfErr, MatchResult, Some};
-ghost use Rattle.bplist_cert.specs.Prelude.{AllByRecursion, OnlyReads, Honestly, frame_in, HonestlyIn, off, Sums};
-ghost use Rattle.bplist_cert.specs.Prelude.{IsSafeFrame, ObjectNo as object_no, IsVouchedBy, HoldsOneValue};
+ghost use Rattle.bplist_cert.specs.Prelude.{OnlyReads, Honestly, frame_in, HonestlyIn, off, Sums};
+ghost use Rattle.bplist_cert.specs.Prelude.{IsSafeFrame, ObjectNo as object_no, IsVouchedBy, IsSound};
 ghost use Rattle.bplist_cert.specs.Prelude.{IsShownFault, ArePlaces, AreSeen, Quick as quick, Exact as exact};
 ghost use Rattle.bplist_cert.specs.Prelude.{IsCheckedObject, AreCheckedBelow, IsWalkFault, IsSeenFault, IsVouchedFault};
 ghost use Rattle.bplist_cert.specs.Prelude.{KeepsPairRules, IsPairFault, Gives, read_failed, Judges, GivesRefusal};
-ghost use Rattle.bplist_cert.specs.Prelude.{is_read, refused_read, MayRefuse, IsAccepted, Never, Reach, Chain, Content};
-ghost use Rattle.bplist_cert.specs.Prelude.{Spells, refs, Frame as frame, IsSafeHead, HasHead, IsCheckFault};
+ghost use Rattle.bplist_cert.specs.Prelude.{is_read, refused_read, MayRefuse, IsAccepted, Never};
+ghost use Rattle.bplist_cert.specs.Prelude.{Frame as frame, IsSafeHead, HasHead, IsCheckFault};
 ghost use Rattle.bplist_cert.specs.Prelude.{KeepsAll, KeepsByObject, body_rules, AreLower};
 
 use crate::certificate::Certificate;
@@ -330,8 +330,8 @@ fn check_lists<S: Source>(alloc: Global, src: &mut S, cert: &Certificate) -> Res
 /// Over an honest source the certificate is accepted exactly if the file has a frame (rules 1 to 13), there is one
 /// height for each object (26), the top is vouched for (27), and each vouched object keeps rules 14 to 21 and 31, rule
 /// 22 (or 32 if there are key lists), and refers only to vouched objects (28) of smaller heights (29). After a yes the
-/// file holds exactly one value, every reference in an object that the top reaches is the number of an object, and the
-/// top reaches no circle.
+/// file holds exactly one value by the grammar, every reference in an object that the top reaches is the number of an
+/// object, and the top reaches no circle (`sound`).
 ///
 /// Otherwise the fault is the first one: the first broken rule of 1 to 13, 26 and 27; or else, of the lowest-numbered
 /// vouched object that breaks a rule, the first that it breaks in the order 14 to 20, 31, 28, 29, 21 and then 22 or 32.
@@ -347,18 +347,13 @@ pub fn check<S: Source>(
     ensures handed { MatchResult result
         (λ checked. (checked.certificate ≡ cert) × (checked.source ≡ S.means src))
         (λ refused. (refused.2 ≡ cert) × OnlyReads (is_read refused.0) (S.means src) (S.means refused.1)) }
+    ensures sound { Honestly (S.means src) (λ f. IfOk result (λ _. ∥ IsSound f ∥₁)) }
     ensures yes { Honestly (S.means src) (λ f. IfOk result (λ checked. ∥ IsAccepted f checked.frame cert ∥₁)) }
     ensures accepts { Honestly (S.means src) (λ f. (F : frame) → IsAccepted f F cert
         → MatchResult result (λ checked. checked.frame ≡ F) (λ refused. GivesRefusal Never refused.0)) }
     ensures fault { Honestly (S.means src) (λ f. IfErr result
         (λ refused. GivesRefusal (IsPairFault f cert) refused.0)) }
     ensures memory { IfErr result (λ refused. MayRefuse cert.keys refused.0) }
-    ensures one_value { Honestly (S.means src) (λ f. IfOk result (λ checked. ∥ HoldsOneValue f ∥₁)) }
-    ensures references { Honestly (S.means src) (λ f. IfOk result (λ checked. (n : ℕ) → Reach f checked.frame n
-        → ∥ ((c : Content) × Spells f checked.frame n c × AllByRecursion
-        (λ m. m < checked.frame.objects) (refs c)) ∥₁)) }
-    ensures no_circle { Honestly (S.means src) (λ f. IfOk result (λ checked. (n : ℕ) → Reach f checked.frame n
-        → Chain f checked.frame n n → ⊥)) }
 {
     let mut src = src;
     match check_lists(alloc, &mut src, &cert) {

@@ -2,9 +2,10 @@
 
 ghost use Rattle.std.specs.Prelude.{◌≡◌, ◌⊎◌, ℕ, ◌<◌, List, length, slice_index, Bool};
 ghost use Rattle.bplist_cert.specs.Prelude.{OnlyReads, Fault as fault, Frame as frame, Head as head, Value, Content};
-ghost use Rattle.bplist_cert.specs.Prelude.{Spells, Holds, Chain, Reach, Refs, Lists, IsCertificate, octets_of};
+ghost use Rattle.bplist_cert.specs.Prelude.{Spells, Holds, Chain, Reach, Refs, Lists, IsCertificate, octets_of, refs};
 ghost use Rattle.bplist_cert.specs.Prelude.{IsVouchedBy, IsValid, HoldsOneValue, SpellsText, IsSorted, IsAccepted};
 ghost use Rattle.bplist_cert.specs.Prelude.{KeysAreTexts, KeysDiffer, AreInOrder, IsPairFault, CheckedFile, meaning_of};
+ghost use Rattle.bplist_cert.specs.Prelude.{IsSound, IsFrame, AllByRecursion};
 
 /// Certificates with the same bytes are the same.
 pub fn one_certificate()
@@ -16,6 +17,20 @@ pub fn vouched_values()
     ensures object { (f : List ℕ) (F : frame) (heights : List ℕ) → IsValid f F heights → (n : ℕ) → IsVouchedBy heights n
         → (v : Value) × Holds f F n v × ((w : Value) → Holds f F n w → w ≡ v) }
     ensures file { (f : List ℕ) (F : frame) (heights : List ℕ) → IsValid f F heights → HoldsOneValue f }
+{}
+
+/// A file with valid heights is sound.
+pub fn valid_is_sound()
+    ensures { (f : List ℕ) (F : frame) (heights : List ℕ) → IsValid f F heights → IsSound f }
+{}
+
+/// A sound file holds exactly one value. Under its frame each reference in an object that the top reaches is the number
+/// of an object, and the top reaches no circle.
+pub fn sound_files()
+    ensures one_value { (f : List ℕ) → IsSound f → HoldsOneValue f }
+    ensures references { (f : List ℕ) (F : frame) → IsSound f → IsFrame f F → (n : ℕ) → Reach f F n
+        → (c : Content) × Spells f F n c × AllByRecursion (λ m. m < F.objects) (refs c) }
+    ensures no_circle { (f : List ℕ) (F : frame) → IsSound f → IsFrame f F → (n : ℕ) → Reach f F n → Chain f F n n → ⊥ }
 {}
 
 /// Under valid heights each object that the top reaches is vouched for and spells a content, its references are numbers

@@ -55,6 +55,7 @@ pub use checker::check;
 pub use key_names::vouched_keys;
 pub use laws::{
     checked_stays, one_certificate, one_pair_fault, ordered_keys_differ, pair_fault_excludes,
-    reached_objects, repeated_key_has_no_list, vouched_references, vouched_values, yes_or_fault,
+    reached_objects, repeated_key_has_no_list, sound_files, valid_is_sound, vouched_references,
+    vouched_values, yes_or_fault,
 };
 pub use refusal::Refusal;

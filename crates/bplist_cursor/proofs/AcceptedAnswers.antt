@@ -7,7 +7,7 @@ use Rattle.bplist_cert.specs.Valid.{IsValid}
 use Rattle.bplist_cert.specs.declared.refusal.Refusal.{Refusal}
 use Rattle.bplist_cert.specs.declared.refusal.Refusal.TheVariants as refusals
 use Rattle.bplist_cert.specs.Refusals.{GivesRefusal}
-use Rattle.bplist_cert.proofs.VouchedObjects.{file_holds, reached_spells, circle_free}
+use Rattle.bplist_cert.proofs.VouchedObjects.{sound}
 use Rattle.bplist_objects.specs.declared.fault.Fault.{Fault}
 use Rattle.bplist_cursor.specs.declared.replies.Query.{Query}
 use Rattle.bplist_cursor.specs.declared.replies.Reply.{Reply}
@@ -20,17 +20,9 @@ use Rattle.bplist_cursor.specs.Answered.{IsAnswered, RefusesBy}
 pub answered : (f : List ℕ) (F : Frame) (heights : List ℕ) (queries : List Query) (replies : List Reply) → IsValid f F heights
     → ((v : Value) → Holds f F F.top.0 v → replies ≡ map (reply v) queries) → IsAnswered f queries replies
 answered f F heights queries replies valid told =
-    let file = file_holds f F heights valid in
-    let same : F ≡ file.1.frame = valid.frame.spelled ∙ sym file.1.is.spelled in
-    let here = subst (λ G. IsValid f G heights) same valid in
-    record {
-      value = file.0;
-      holds = file.1;
-      one = file.2;
-      inside = λ n r. let s = reached_spells f file.1.frame heights here n r in (s.0, s.1, s.1.refs);
-      no_circle = circle_free f file.1.frame heights here;
-      answered = told file.0 (subst (λ G. Holds f G G.top.0 file.0) (sym same) file.1.holds);
-    }
+    let is = sound f F heights valid in
+    let same : is.holds.frame ≡ F = is.holds.is.spelled ∙ sym valid.frame.spelled in
+    (is, told is.value (subst (λ G. Holds f G G.top.0 is.value) same is.holds.holds))
 
 -- a refusal of the check as the fault of an answer
 abbrev pub answer_fault_of : Refusal → AnswerFault

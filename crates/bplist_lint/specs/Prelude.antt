@@ -27,6 +27,7 @@ pub use Rattle.bplist_keys.specs.Ranks.{AreRanks}
 pub use Rattle.bplist_cert.specs.CheckRules.{key_rules}
 pub use Rattle.bplist_cert.specs.KeyRepeats.{BreaksKeys, HasGoodKeys, KeysAreSound}
 pub use Rattle.bplist_cert.specs.Refusals.{Judges, refused_read}
+pub use Rattle.bplist_cert.specs.Sound.{IsSound}
 pub use Rattle.bplist_cert.specs.Valid.{IsValid, IsVouchedBy}
 pub use Rattle.bplist_lint.specs.FileFault.{IsCircle, IsFileCircle, IsFileFault}
 pub use Rattle.bplist_lint.specs.Graph.{AreLeast, AreObjects, AreWhole, Ends, IsCircleOf, IsFirstWithout, IsWhole, Reaches}

@@ -6,7 +6,7 @@ ghost use Rattle.bplist_lint.specs.Prelude.{AreOffsets32, Judges, refused_read, 
 ghost use Rattle.bplist_lint.specs.Prelude.{HasShape, Head as head, IsMarked, AreLeast, AreChildless, IsReachedFault};
 ghost use Rattle.bplist_lint.specs.Prelude.{KeepReached, key_rules, HasRoomFor, IsWalked, AreNamed, IsFileFault};
 ghost use Rattle.bplist_lint.specs.Prelude.{IsFileCircle, Lints, lint_failed, no_circle, KeepsRules, IsLintedBy};
-ghost use Rattle.bplist_lint.specs.Prelude.{IsLinted, IsLintedWithKind, HasNoHeights, reach_rules, HonestlyBy};
+ghost use Rattle.bplist_lint.specs.Prelude.{IsLinted, IsLintedWithKind, HasNoHeights, reach_rules, HonestlyBy, IsSound};
 
 use crate::answer::{Lint, LintRefusal, ObjectNos};
 use crate::circle::circle;
@@ -19,8 +19,8 @@ use crate::walk::{Reached, walk};
 use bplist_cert::{Certificate, Refusal};
 use bplist_keys::NamedKeys;
 use bplist_objects::{
-    Fault, Frame, Framed, Kind, OffsetReader, OffsetTable, Offsets, Rule, check_offsets,
-    offsets_of, shape_of, trailer_of,
+    Frame, Framed, Kind, OffsetReader, OffsetTable, Offsets, check_offsets, offsets_of, shape_of,
+    trailer_of,
 };
 use bplist_octets::Source;
 use std::alloc::Global;
@@ -63,15 +63,7 @@ fn find_reached<P: Offsets>(alloc: Global, src: &mut P) -> Result<(Reached, Name
     if let Some(known) = walk(alloc, src)? {
         return Ok(known);
     }
-    let frame = src.frame();
-    let len = src.len();
-    if frame.table > u32::MAX as u64 {
-        return Err(Refusal::Fault(Fault {
-            rule: Rule::TooLarge,
-            object: None,
-            place: len,
-        }));
-    }
+    let _frame = src.frame();
     let Marked {
         marks,
         childless,
@@ -221,6 +213,7 @@ pub fn lint_with_kind<S: Source>(alloc: Global, src: &mut S) -> Result<(Lint, Ki
     ensures exact { IsTrue (S.means src.old).honest
         → Lints (λ answer. IsLintedWithKind (S.means src.old).octets answer.0 answer.1)
         (IsFileFault (S.means src.old).octets) (IsFileCircle (S.means src.old).octets) result }
+    ensures sound { Honestly (S.means src.old) (λ f. IfOk result (λ _. ∥ IsSound f ∥₁)) }
 {
     let (frame, places) = read_places(alloc, src)?;
     let lint = lint_reached(alloc, src, frame, places)?;
@@ -229,7 +222,9 @@ pub fn lint_with_kind<S: Source>(alloc: Global, src: &mut S) -> Result<(Lint, Ki
 }
 
 /// Decides whether a file holds a value. Returns the certificate of the least heights, or else the first fault of the
-/// file. After a fault or a circle no heights are valid for the file.
+/// file. After a yes the file is sound, as after a yes of `check`: it holds exactly one value by the grammar, every
+/// reference in an object that the top reaches is the number of an object, and the top reaches no circle. After a fault
+/// or a circle no heights are valid for the file.
 ///
 /// The place of a fault counts from the file's first byte. Errors other than a fault: `Read` if a read of the source
 /// failed; `Memory` if an allocation was refused. After an error the source is as before, except for its count of
@@ -241,6 +236,7 @@ pub fn lint<S: Source>(alloc: Global, src: &mut S) -> Result<Lint, LintRefusal>
     ensures exact { IsTrue (S.means src.old).honest
         → Lints (IsLinted (S.means src.old).octets) (IsFileFault (S.means src.old).octets)
         (IsFileCircle (S.means src.old).octets) result }
+    ensures sound { Honestly (S.means src.old) (λ f. IfOk result (λ _. ∥ IsSound f ∥₁)) }
     ensures decisive { IsTrue (S.means src.old).honest
         → Lints (λ _. ⊤) (λ _. HasNoHeights (S.means src.old).octets) (λ _. HasNoHeights (S.means src.old).octets) result }
     ensures never { IsTrue (S.means src.old).honest → (v : Value) → FileHolds (S.means src.old).octets v

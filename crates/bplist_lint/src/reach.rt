@@ -1,7 +1,7 @@
 //! Finds the objects that the top reaches. The linter needs this only if the quick walk meets a fault. Arrays may overlap
 //! in such a file, so the reference at each place is followed once, however many arrays it is part of.
 
-ghost use Rattle.std.specs.Prelude.{◌≡◌, ◌↔◌, ℕ, ◌+◌, ◌^◌, ◌≤◌, ◌<◌, true, false, not, IsTrue, IfOk, OnOk, is_err};
+ghost use Rattle.std.specs.Prelude.{◌≡◌, ◌↔◌, ℕ, ◌+◌, ◌≤◌, ◌<◌, true, false, not, IsTrue, IfOk, OnOk, is_err};
 ghost use Rattle.std.specs.Prelude.{replicate, count_by, vec_len};
 ghost use Rattle.bplist_lint.specs.Prelude.{OnlyReads, frame_in, HonestlyIn, content_at, refs, Reach, IsSafeHead};
 ghost use Rattle.bplist_lint.specs.Prelude.{ref_count, AreBelow, failed_to_read, IsMarked, HasMarks, place_index};
@@ -40,7 +40,6 @@ struct ReachSearch {
 impl ReachSearch {
     /// Starts the search with the top.
     fn from_top<P: Framed>(alloc: Global, src: &P) -> Result<ReachSearch, AllocError>
-        requires { (frame_in (P.means src.now)).table < 2 ^ 32 }
         ensures ready { IfOk result (IsReady (frame_in (P.means src.now))) }
         ensures searching { HonestlyIn (P.means src.now) (λ f F. IfOk result (λ search. Searching f F search.stack.items search)) }
     {
@@ -64,7 +63,6 @@ impl ReachSearch {
 /// Returns the number of a place. Places one reference size apart have consecutive numbers, so that the references of
 /// an array are a range.
 fn place_index<P: Framed>(src: &P, place: u64) -> u64
-    requires small { (frame_in (P.means src.now)).table < 2 ^ 32 }
     requires within { place ≤ (frame_in (P.means src.now)).table }
     ensures { result ≡ place_index (frame_in (P.means src.now)) place }
 {
@@ -77,7 +75,6 @@ fn place_index<P: Framed>(src: &P, place: u64) -> u64
 /// Returns whether each reference of an object with this head is the number of an object. Adds the places that are good
 /// to `good`.
 fn are_good<P: Framed>(src: &mut P, head: &Head, good: &mut BitSet) -> Result<bool, ReadFault>
-    requires small { (frame_in (P.means src.old)).table < 2 ^ 32 }
     requires head { IsSafeHead (frame_in (P.means src.old)) head.now }
     requires size { good.old.size ≡ index_count (frame_in (P.means src.old)) }
     ensures reads { OnlyReads (is_err result) (P.means src.old) (P.means src.new) }
@@ -105,7 +102,6 @@ fn are_good<P: Framed>(src: &mut P, head: &Head, good: &mut BitSet) -> Result<bo
 /// Follows those references of an object with this head that were not followed yet: marks each object, and puts it on
 /// the stack if it was not marked. All these references must be numbers of objects.
 fn follow<P: Framed>(src: &mut P, head: &Head, search: &mut ReachSearch) -> Result<(), Failure>
-    requires small { (frame_in (P.means src.old)).table < 2 ^ 32 }
     requires head { IsSafeHead (frame_in (P.means src.old)) head.now }
     requires ready { IsReady (frame_in (P.means src.old)) search.old }
     ensures reads { OnlyReads (failed_to_read result) (P.means src.old) (P.means src.new) }
@@ -140,7 +136,6 @@ fn follow<P: Framed>(src: &mut P, head: &Head, search: &mut ReachSearch) -> Resu
 
 /// Marks exactly the objects that the top reaches.
 pub fn mark_reached<P: Offsets>(alloc: Global, src: &mut P) -> Result<Marked, Failure>
-    requires small { (frame_in (P.means src.old)).table < 2 ^ 32 }
     ensures reads { OnlyReads (failed_to_read result) (P.means src.old) (P.means src.new) }
     ensures all { IfOk result (λ marked. vec_len marked.marks ≡ (frame_in (P.means src.old)).objects) }
     ensures exact { HonestlyIn (P.means src.old) (λ f F. IfOk result (λ marked.

@@ -27,6 +27,7 @@ frame_safe f F frame =
       };
       top = n.top;
       table = n.table_early;
+      small = omega (arith, n.table_late, n.large);
     }
 
 -- the head of an object is safe

@@ -40,7 +40,7 @@ module _ (f : List ℕ) (F : Frame) (n : ℕ) where
     announced_shape head h kept =
         let early = kept.1.1.1.0 kept.1.0 (kept.1.1.0 kept.1.0) in
         let inside : head.«end» ≤ F.table = subst (λ (x : Head). x.«end» ≤ F.table) (HasHead-unique f F n early.0 head early.1 h) early.2 in
-        record { low = kept.0; has = h; inside = inside }
+        record { within = lt; low = kept.0; has = h; inside = inside }
 
     pub shape_tie : (head : Head) → (HasHead f F n head × KeepsAll (KeepsByObject f F n) shape_rules) ↔ HasShape f F n head
     shape_tie head = ((λ h. announced_shape head h.0 h.1), λ h. (shape_announced head h, shape_keeps head h))

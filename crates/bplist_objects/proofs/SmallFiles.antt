@@ -67,7 +67,7 @@ true_0 : Spells row_true (trailer row_true) 0 (Content.leaf (boolean true))
 unfolding num
 true_0 = record {
   shape = record { kind = kinds.True; count = 0; body = 9; «end» = 9 };
-  has = record { low = omega arith; has = record { front = 9 ∷ []; announces = (refl, refl); stands = refl; body = refl; ends = refl }; inside = omega arith };
+  has = record { within = omega arith; low = omega arith; has = record { front = 9 ∷ []; announces = (refl, refl); stands = refl; body = refl; ends = refl }; inside = omega arith };
   ascii = λ e. cc e;
   uid = λ x e. cc e;
   refs = All-from_recursion (λ m. m < 1) [] tt;
@@ -120,7 +120,7 @@ array_0 : Spells row_array (trailer row_array) 0 (Content.array (1 ∷ 1 ∷ [])
 unfolding num
 array_0 = record {
   shape = record { kind = kinds.Array; count = 2; body = 9; «end» = 11 };
-  has = record { low = omega arith; has = record { front = 162 ∷ []; announces = inl (omega arith, refl); stands = refl; body = refl; ends = refl }; inside = omega arith };
+  has = record { within = omega arith; low = omega arith; has = record { front = 162 ∷ []; announces = inl (omega arith, refl); stands = refl; body = refl; ends = refl }; inside = omega arith };
   ascii = λ e. cc e;
   uid = λ x e. cc e;
   refs = All-from_recursion (λ m. m < 2) (1 ∷ 1 ∷ []) (omega arith, (omega arith, tt));
@@ -131,7 +131,7 @@ array_1 : Spells row_array (trailer row_array) 1 (Content.leaf (boolean true))
 unfolding num
 array_1 = record {
   shape = record { kind = kinds.True; count = 0; body = 12; «end» = 12 };
-  has = record { low = omega arith; has = record { front = 9 ∷ []; announces = (refl, refl); stands = refl; body = refl; ends = refl }; inside = omega arith };
+  has = record { within = omega arith; low = omega arith; has = record { front = 9 ∷ []; announces = (refl, refl); stands = refl; body = refl; ends = refl }; inside = omega arith };
   ascii = λ e. cc e;
   uid = λ x e. cc e;
   refs = All-from_recursion (λ m. m < 2) [] tt;
@@ -186,7 +186,7 @@ dict_0 : Spells row_dict (trailer row_dict) 0 (Content.dict (1 ∷ []) (2 ∷ []
 unfolding num
 dict_0 = record {
   shape = record { kind = kinds.Dict; count = 1; body = 9; «end» = 11 };
-  has = record { low = omega arith; has = record { front = 209 ∷ []; announces = inl (omega arith, refl); stands = refl; body = refl; ends = refl }; inside = omega arith };
+  has = record { within = omega arith; low = omega arith; has = record { front = 209 ∷ []; announces = inl (omega arith, refl); stands = refl; body = refl; ends = refl }; inside = omega arith };
   ascii = λ e. cc e;
   uid = λ x e. cc e;
   refs = All-from_recursion (λ m. m < 3) (1 ∷ 2 ∷ []) (omega arith, (omega arith, tt));
@@ -197,7 +197,7 @@ dict_1 : Spells row_dict (trailer row_dict) 1 (Content.leaf (text (97 ∷ [])))
 unfolding num
 dict_1 = record {
   shape = record { kind = kinds.Ascii; count = 1; body = 12; «end» = 13 };
-  has = record { low = omega arith; has = record { front = 81 ∷ []; announces = inl (omega arith, refl); stands = refl; body = refl; ends = refl }; inside = omega arith };
+  has = record { within = omega arith; low = omega arith; has = record { front = 81 ∷ []; announces = inl (omega arith, refl); stands = refl; body = refl; ends = refl }; inside = omega arith };
   ascii = λ e. All-from_recursion (λ b. b < 128) (97 ∷ []) (omega arith, tt);
   uid = λ x e. cc e;
   refs = All-from_recursion (λ m. m < 3) [] tt;
@@ -208,7 +208,7 @@ dict_2 : Spells row_dict (trailer row_dict) 2 (Content.leaf (boolean true))
 unfolding num
 dict_2 = record {
   shape = record { kind = kinds.True; count = 0; body = 14; «end» = 14 };
-  has = record { low = omega arith; has = record { front = 9 ∷ []; announces = (refl, refl); stands = refl; body = refl; ends = refl }; inside = omega arith };
+  has = record { within = omega arith; low = omega arith; has = record { front = 9 ∷ []; announces = (refl, refl); stands = refl; body = refl; ends = refl }; inside = omega arith };
   ascii = λ e. cc e;
   uid = λ x e. cc e;
   refs = All-from_recursion (λ m. m < 3) [] tt;

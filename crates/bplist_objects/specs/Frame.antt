@@ -1,11 +1,11 @@
 -- The frame of a file (the five numbers of its trailer), and rules 1 to 13 of a file as a whole. Source: the format
 -- comment of CFBinaryPList.c; the limits of rules 1, 8 and 9, all words and the order are profile.
 use Rattle.std.specs.Prelude.{◌≡◌, ℕ, ◌+◌, ◌-◌, ◌*◌, ◌^◌, ◌<◌, ◌≤◌, List, [], ◌∷◌, ◌++◌, length, slice_index}
+use Rattle.std.specs.List.{AllByRecursion}
 use Rattle.bplist_objects.specs.declared.frame.Frame.{Frame}
 use Rattle.bplist_objects.specs.declared.rule.Rule.{Rule}
 use Rattle.bplist_objects.specs.declared.rule.Rule.TheVariants.{TooLarge, TooShort, Magic, NoObjects, Top, TableEarly, TableLate, OffsetSize, RefSize, Length, RefNarrow, OffsetNarrow, OffsetHigh}
 use Rattle.bplist_objects.specs.Numbers.{num_at}
-use Rattle.bplist_objects.specs.Rules.{KeepsAll}
 
 -- the eight bytes `bplist00`
 abbrev pub header : List ℕ
@@ -58,4 +58,4 @@ Keeps f _ = Unit {0}
 -- F is the trailer's numbers, and the file keeps rules 1 to 13
 pub record IsFrame (f : List ℕ) (F : Frame) : Type 0 where
   pub spelled : F ≡ trailer f
-  pub kept : KeepsAll (Keeps f) frame_rules
+  pub kept : AllByRecursion (Keeps f) frame_rules

@@ -22,8 +22,9 @@ abbrev pub refs : Content → List ℕ
 refs content = elim content [ leaf l ↦ [] | array ms ↦ ms | set ms ↦ ms | dict ks ms ↦ ks ++ ms ]
 
 module _ (f : List ℕ) (F : Frame) where
-  -- object n has this head, and lies between place 8 and the table: rules 14 to 17
+  -- n is an object with this head, which lies between place 8 and the table: rules 14 to 17
   pub record HasShape (n : ℕ) (head : Head) : Type 0 where
+    pub within : n < F.objects
     pub low : 8 ≤ off f F n
     pub has : HasHead f F n head
     pub inside : head.«end» ≤ F.table

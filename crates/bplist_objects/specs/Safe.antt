@@ -1,5 +1,5 @@
 -- The frames and heads with which the parts of a file can be read over any source. Source: profile.
-use Rattle.std.specs.Prelude.{ℕ, ◌+◌, ◌*◌, ◌<◌, ◌≤◌}
+use Rattle.std.specs.Prelude.{ℕ, ◌+◌, ◌*◌, ◌^◌, ◌<◌, ◌≤◌}
 use Rattle.bplist_objects.specs.declared.frame.Frame.{Frame}
 use Rattle.bplist_objects.specs.declared.head.Head.{Head}
 use Rattle.bplist_objects.specs.declared.head.Kind.{Kind}
@@ -14,11 +14,12 @@ pub record IsSafe (len : ℕ) (frame : Frame) : Type 0 where
   pub ref_high : frame.ref_size ≤ 8
   pub room : frame.table + frame.objects * frame.offset_size ≤ len
 
--- besides, the top is an object, and there is room for an object before the table
+-- besides, the top is an object, there is room for an object before the table, and the table's place has 32 bits
 pub record IsSafeFrame (len : ℕ) (frame : Frame) : Type 0 where
   pub safe : IsSafe len frame
   pub top : frame.top.0 < frame.objects
   pub table : 9 ≤ frame.table
+  pub small : frame.table < 2 ^ 32
 
 -- the number of references of an object with this kind and count
 abbrev pub ref_count : Kind → ℕ → ℕ

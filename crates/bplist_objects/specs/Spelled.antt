@@ -20,11 +20,11 @@ is_proper f kinds.Uid count body = nat_le (num_at f body count) 4294967295
 is_proper f _ count body = true
 
 module _ (f : List ℕ) (F : Frame) where
-  -- the object with this announced head keeps rules 14 to 20
+  -- n is an object, and with this announced head it keeps rules 14 to 20
   abbrev pub is_spelled : ℕ → Head → Bool
   is_spelled n head =
-      nat_le 8 (off f F n) && (nat_le head.body (length f) && (nat_le head.end F.table
-      && (is_proper f head.kind head.count head.body && list_all (λ m. nat_lt m F.objects) (refs (content_at f F head)))))
+      nat_lt n F.objects && (nat_le 8 (off f F n) && (nat_le head.body (length f) && (nat_le head.end F.table
+      && (is_proper f head.kind head.count head.body && list_all (λ m. nat_lt m F.objects) (refs (content_at f F head))))))
 
   -- what object n spells, if it spells anything
   unfoldable pub spelled_at : ℕ → Option Content

@@ -1,7 +1,9 @@
+use Rattle.std.proofs.lemmas.Grind.{merely}
 use Rattle.std.proofs.lemmas.Result.{err_from_is_err_and}
 use Rattle.bplist_objects.specs.Answers.{Never}
 use Rattle.bplist_objects.specs.Reach.{top}
 use Rattle.bplist_objects.proofs.HeadTies.{spells_head}
+use Rattle.bplist_cert.proofs.VouchedObjects.{sound}
 use Rattle.bplist_lint.specs.FileFault.{IsFileFault, IsFileCircle}
 use Rattle.bplist_lint.proofs.Passes.{check_means, fault_passed}
 use Rattle.bplist_lint.proofs.linter.lint_with_kind.Goals as goal
@@ -32,3 +34,8 @@ returns-clause-exact g c = λ honest.
     let spelled = here.least.least _ top in
     let told = (rw (c.in_ok-lint.ensures.reads, c.in_ok-frame.ensures.reads) at c.in_ok-kind.ensures.exact) honest here.valid.frame spelled.1.shape spelled.1.has in
     (_, here.valid.frame, here, (spelled.1.shape, spells_head _ _ _ spelled.0 spelled.1, told))
+
+pub returns-clause-sound : goal.returns-clause-sound
+returns-clause-sound g c = λ honest.
+    let here = (rw c.in_ok-frame.ensures.reads at c.in_ok-lint.ensures.exact) honest in
+    merely (sound _ _ _ here.valid)

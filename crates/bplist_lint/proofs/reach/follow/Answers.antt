@@ -32,7 +32,7 @@ overflow_add-end g c =
     let h = c.args.head.now in
     let low = numbers_low f F h c.frame-frame.ensures.framed.safe.safe.ref_low c.requires.head in
     let few = size_small F in
-    omega (arith, low, few, c.requires.small, c.place_index-first.ensures, c.refs_of.ensures, c.frame-frame.ensures.framed.safe.safe.ref_high)
+    omega (arith, low, few, c.frame-frame.ensures.framed.safe.small, c.place_index-first.ensures, c.refs_of.ensures, c.frame-frame.ensures.framed.safe.safe.ref_high)
 
 pub next_outside-number-requires : goal.next_outside-number-requires
 next_outside-number-requires g c =
