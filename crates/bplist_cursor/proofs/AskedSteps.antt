@@ -1,7 +1,9 @@
 -- How many bytes are asked for, from call to call.
-use Rattle.std.proofs.Common.{arith, ◌≡◌, ◌+◌, ◌*◌, ◌≤◌, ℕ, suc, List, [], ◌∷◌, length, Result, Ok, Err, refl, sym, ap, subst, ◌∙◌}
+use Rattle.std.proofs.Common.{arith, ◌≡◌, ◌+◌, ◌*◌, ◌<◌, ◌≤◌, ℕ, suc, List, [], ◌∷◌, length, slice_index_or, take, Result, Ok, Err, refl, sym, ap, subst, ◌∙◌}
 use Rattle.std.specs.Prelude.{Option}
+use Rattle.std.specs.List.{sum_by}
 use Rattle.std.proofs.Math.Nat.{add-mul, mul-le-mul_right}
+use Rattle.std.proofs.lemmas.List.Sums.{sum_by_more, sum_by_more_le}
 use Rattle.bplist_objects.specs.declared.frame.Frame.{Frame}
 use Rattle.bplist_objects.specs.declared.head.Head.{Head}
 use Rattle.bplist_objects.specs.declared.head.Kind.{Kind}
@@ -10,12 +12,17 @@ use Rattle.bplist_objects.specs.Value.{Leaf, Value, leaf, array, set, dict, keys
 use Rattle.bplist_objects.specs.Heads as H
 use Rattle.bplist_objects.specs.Heads.{Spells}
 use Rattle.bplist_objects.specs.Holds.{Holds}
-use Rattle.bplist_objects.proofs.References.{as_many, dict_parts}
+use Rattle.bplist_objects.specs.Announced.{item_size}
+use Rattle.bplist_objects.specs.Safe.{IsSafeBody}
+use Rattle.bplist_objects.proofs.References.{as_many, dict_parts, length-nums_at}
+use Rattle.bplist_objects.proofs.Units.{length-part}
 use Rattle.bplist_cert.specs.Lists.{Keyed}
 use Rattle.bplist_cert.specs.CheckedFile.{CheckedFile, HonestlyChecked}
 use Rattle.bplist_cursor.specs.Kept.{IsSameFile}
-use Rattle.bplist_cursor.specs.Asked.{key_bytes, path_bytes, tries}
-use Rattle.bplist_cursor.specs.Look.{stepped}
+use Rattle.bplist_cursor.specs.Asked.{count_bytes, face_bytes, key_bytes, leaf_bytes, path_bytes, reply_bytes, told_bytes, tries}
+use Rattle.bplist_cursor.specs.declared.replies.Query.{Query}
+use Rattle.bplist_cursor.specs.Look.{look, stepped}
+use Rattle.bplist_cursor.specs.Queries.{steps_in}
 use Rattle.bplist_cursor.specs.declared.node.Why.{Why}
 use Rattle.bplist_cursor.proofs.Counts.{pair_counts}
 
@@ -35,6 +42,15 @@ a_turn_less start before after left less all each fewer a b =
     let turn : suc less * each ≤ left * each = mul-le-mul_right each fewer in
     omega (arith, a, b, turn, add-mul 1 less each)
 
+-- an item more, of as many bytes as each asks for
+pub an_item_more : {X : Type 0} (bytes : X → ℕ) (xs : List X) (i start before after : ℕ) (d : X) → i < length xs
+    → before ≤ start + sum_by bytes (take i xs) → after ≤ before + bytes (slice_index_or xs i d)
+    → (after ≤ start + sum_by bytes (take (i + 1) xs)) × (after ≤ start + sum_by bytes xs)
+an_item_more bytes xs i start before after d l a b =
+    let more = sum_by_more bytes xs i d l in
+    let all = sum_by_more_le bytes xs i d l in
+    (omega (arith, a, b, more), omega (arith, a, b, all))
+
 -- the bytes that finding a key with these units in a value asks for
 abbrev pub value_bytes : Option Keyed → Value → List ℕ → ℕ
 value_bytes lists v s = elim v [ dict ps ↦ tries lists (length (keys ps)) * (36 + 2 * length s) | _ ↦ 0 ]
@@ -50,6 +66,11 @@ last_bytes lists v s = either (stepped v s)
     either : (r : Result Value Why) → 36 + value_bytes lists v s + on_either r (λ w. 0) (λ why. 0) ≡ 36 + value_bytes lists v s
     either (Ok w) = omega arith
     either (Err y) = omega arith
+
+-- a query whose path leads to a value
+pub reply_to : (lists : Option Keyed) (v w : Value) (query : Query) → look 0 v (steps_in query) ≡ Ok w
+    → reply_bytes lists v query ≡ path_bytes lists v (steps_in query) + told_bytes w query
+reply_to lists v w query e = ap (λ r. path_bytes lists v (steps_in query) + on_either r (λ x. told_bytes x query) (λ missing. 0)) e
 
 module _ (f : List ℕ) (F : Frame) (lists : Option Keyed) (s : List ℕ) where
   -- they are the same for the value and for the head
@@ -76,6 +97,30 @@ module _ (f : List ℕ) (F : Frame) (lists : Option Keyed) (s : List ℕ) where
       let counts = as_many f F head.kind head.count head.body o.0 o.1 is in
       let many = (pair_counts f F o.0 o.1 ps o.3).0 in
       ap (λ kind. key_bytes lists kind head.count s) parts.0 ∙ ap (λ count. tries lists count * (36 + 2 * length s)) (sym counts.0 ∙ many)
+
+-- the bytes of a leaf that is spelled
+abbrev pub spelled_bytes : H.Content → ℕ
+spelled_bytes content = elim content [ H.Content.leaf l ↦ leaf_bytes l | _ ↦ 0 ]
+
+module _ (f : List ℕ) (F : Frame) where
+  by_kind : (kind : Kind) (count at : ℕ) → at + count * item_size 1 kind ≤ length f → spelled_bytes (H.content_of f F kind count at) ≡ count_bytes kind count
+  by_kind kinds.Real count at h = length-part f at count (omega (arith, h))
+  by_kind kinds.Date count at h = length-part f at count (omega (arith, h))
+  by_kind kinds.Bytes count at h = length-part f at count (omega (arith, h))
+  by_kind kinds.Ascii count at h = ap (λ n. 2 * n) (length-part f at count (omega (arith, h)))
+  by_kind kinds.Wide count at h = ap (λ n. 2 * n) (length-nums_at f at 2 count)
+  by_kind _ count at h = refl
+
+  -- the face of a value asks for the same bytes by the head
+  pub same_face : (v : Value) (n : ℕ) (head : Head) → Holds f F n v → ((content : H.Content) → Spells f F n content → content ≡ H.content_at f F head)
+      → IsSafeBody (length f) head → 28 + count_bytes head.kind head.count ≡ face_bytes v
+  same_face v n head o e safe = let body = safe.body in let within = safe.within in go v o (by_kind head.kind head.count head.body (omega (arith, body, within)))
+    where
+      go : (v : Value) → Holds f F n v → spelled_bytes (H.content_at f F head) ≡ count_bytes head.kind head.count → 28 + count_bytes head.kind head.count ≡ face_bytes v
+      go (leaf l) o k = ap (λ m. 28 + m) (sym (ap spelled_bytes (e _ o) ∙ k))
+      go (array vs) o k = ap (λ m. 28 + m) (sym (ap spelled_bytes (e _ o.1) ∙ k))
+      go (set vs) o k = ap (λ m. 28 + m) (sym (ap spelled_bytes (e _ o.1) ∙ k))
+      go (dict ps) o k = ap (λ m. 28 + m) (sym (ap spelled_bytes (e _ o.2) ∙ k))
 
 -- what a step asks for, if the file before it is as it was at the start
 pub asked_from : (old mid : CheckedFile) (n after : ℕ) (steps : List (List ℕ)) → IsSameFile old mid

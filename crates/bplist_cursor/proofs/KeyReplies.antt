@@ -1,5 +1,5 @@
 -- What a value replies to a query for its keys, by the head of the object that holds it.
-use Rattle.std.proofs.Common.{Ok, ◌≡◌, ℕ, List, [], ◌∷◌, refl, ap, ◌∙◌}
+use Rattle.std.proofs.Common.{Ok, ◌≡◌, ℕ, ◌+◌, List, [], ◌∷◌, refl, ap, ◌∙◌}
 use Rattle.std.specs.List.{AllZip}
 use Rattle.bplist_objects.specs.declared.frame.Frame.{Frame}
 use Rattle.bplist_objects.specs.declared.head.Head.{Head}
@@ -13,6 +13,7 @@ use Rattle.bplist_cert.specs.Valid.{SpellsText}
 use Rattle.bplist_cursor.specs.declared.replies.Reply.TheVariants as replies
 use Rattle.bplist_cursor.specs.declared.replies.Query.{Query}
 use Rattle.bplist_cursor.specs.declared.replies.Query.TheVariants as queries
+use Rattle.bplist_cursor.specs.Asked.{keys_bytes, texts_bytes}
 use Rattle.bplist_cursor.specs.Look.{look}
 use Rattle.bplist_cursor.specs.Replies.{reply, told_of, keys_reply}
 use Rattle.bplist_cursor.specs.Queries.{steps_in, reply_at}
@@ -37,6 +38,7 @@ module _ (f : List ℕ) (F : Frame) where
     pub units : List (List ℕ)
     pub texts : AllZip (SpellsText f F) keys units
     pub told : keys_reply v ≡ replies.Keys units
+    pub bytes : keys_bytes v ≡ 28 + texts_bytes units
 
   leaf_kind : (kind : Kind) (c at : ℕ) (content : Content) → content ≡ content_of f F kind c at → kind ≡ kinds.Dict → content ≡ content_of f F kinds.Dict c at
   leaf_kind kind c at content e k = e ∙ ap (λ k. content_of f F k c at) k
@@ -45,7 +47,7 @@ module _ (f : List ℕ) (F : Frame) where
   keys_told (leaf l) n head o e k = cc (leaf_kind head.kind head.count head.body _ (e _ o) k)
   keys_told (array vs) n head o e k = cc (leaf_kind head.kind head.count head.body _ (e _ o.1) k)
   keys_told (set vs) n head o e k = cc (leaf_kind head.kind head.count head.body _ (e _ o.1) k)
-  keys_told (dict ps) n head o e k = record { keys = o.0; values = o.1; spells = o.2; means = e _ o.2; units = keys ps; texts = key_units ps o.0 o.1 o.3; told = refl }
+  keys_told (dict ps) n head o e k = record { keys = o.0; values = o.1; spells = o.2; means = e _ o.2; units = keys ps; texts = key_units ps o.0 o.1 o.3; told = refl; bytes = refl }
 
   pub no_keys : (v : Value) (n : ℕ) (head : Head) → Holds f F n v → ((content : Content) → Spells f F n content → content ≡ content_at f F head) → (head.kind ≡ kinds.Dict → ⊥) → keys_reply v ≡ replies.NoKeys
   no_keys (leaf l) n head o e other = refl

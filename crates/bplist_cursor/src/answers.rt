@@ -1,8 +1,10 @@
 //! Answers queries about the value of a checked file. For many queries the file is measured at most once.
 
-ghost use Rattle.std.specs.Prelude.{⊤, ◌≡◌, ◌<◌, map, IsTrue, IfSome};
+ghost use Rattle.std.specs.Prelude.{⊤, ◌≡◌, ◌<◌, ◌+◌, ◌≤◌, map, All, IsTrue, IfSome};
+ghost use Rattle.std.specs.List.{sum_by};
 ghost use Rattle.bplist_cursor.specs.Prelude.{HonestlyChecked, Value, Holds, GivesCursor, cursor_read, OnlyReadsFile};
 ghost use Rattle.bplist_cursor.specs.Prelude.{IsHeld, AreMeasuresOf, cap, nodes, reply, keys_reply, steps_in, reply_at};
+ghost use Rattle.bplist_cursor.specs.Prelude.{IsUnsized, keys_bytes, reply_bytes, told_bytes};
 
 use crate::bodies::node_head;
 use crate::faults::CursorFault;
@@ -25,6 +27,8 @@ fn keys_at<S: Source>(
     node: Node,
 ) -> Result<Reply, CursorFault>
     ensures reads { OnlyReadsFile (cursor_read result) checked.old checked.new }
+    ensures asks { IsTrue checked.old.source.honest → (v : Value) → IsHeld checked.old node.object.0 v
+        → checked.new.asked ≤ checked.old.asked + keys_bytes v }
     ensures exact { IsTrue checked.old.source.honest → (v : Value) → IsHeld checked.old node.object.0 v
         → GivesCursor (λ told. told ≡ keys_reply v) result }
 {
@@ -88,6 +92,8 @@ fn answer_at<S: Source>(
     measures: &mut Option<Measures>,
 ) -> Result<Reply, CursorFault>
     ensures reads { OnlyReadsFile (cursor_read result) checked.old checked.new }
+    ensures asks { IsTrue checked.old.source.honest → IsUnsized query.now → (v : Value) → IsHeld checked.old node.object.0 v
+        → checked.new.asked ≤ checked.old.asked + told_bytes v query.now }
     ensures exact { IsTrue checked.old.source.honest → IfSome measures.old (AreMeasuresOf checked.old)
         → (v : Value) → IsHeld checked.old node.object.0 v
         → GivesCursor (λ told. (told ≡ reply_at v query.now) × IfSome measures.new (AreMeasuresOf checked.old)) result }
@@ -111,6 +117,8 @@ fn answer_by<S: Source>(
     measures: &mut Option<Measures>,
 ) -> Result<Reply, CursorFault>
     ensures reads { OnlyReadsFile (cursor_read result) checked.old checked.new }
+    ensures asks { HonestlyChecked checked.old (λ f F. IsUnsized query.now → (v : Value) → Holds f F F.top.0 v
+        → checked.new.asked ≤ checked.old.asked + reply_bytes checked.old.certificate.keys v query.now) }
     ensures exact { HonestlyChecked checked.old (λ f F. IfSome measures.old (AreMeasuresOf checked.old) → (v : Value)
         → Holds f F F.top.0 v → GivesCursor (λ told. (told ≡ reply v query.now)
         × IfSome measures.new (AreMeasuresOf checked.old)) result) }
@@ -131,6 +139,8 @@ pub fn answer<S: Source>(
     query: &Query,
 ) -> Result<Reply, CursorFault>
     ensures reads { OnlyReadsFile (cursor_read result) checked.old checked.new }
+    ensures asks { HonestlyChecked checked.old (λ f F. IsUnsized query.now → (v : Value) → Holds f F F.top.0 v
+        → checked.new.asked ≤ checked.old.asked + reply_bytes checked.old.certificate.keys v query.now) }
     ensures exact { HonestlyChecked checked.old (λ f F. (v : Value) → Holds f F F.top.0 v
         → GivesCursor (λ told. told ≡ reply v query.now) result) }
     ensures unchanged { IsTrue checked.old.source.honest → GivesCursor (λ _. ⊤) result }
@@ -150,6 +160,8 @@ pub fn answer_all<S: Source>(
     queries: &[Query],
 ) -> Result<Vec<Reply>, CursorFault>
     ensures reads { OnlyReadsFile (cursor_read result) checked.old checked.new }
+    ensures asks { HonestlyChecked checked.old (λ f F. All IsUnsized queries.now → (v : Value) → Holds f F F.top.0 v
+        → checked.new.asked ≤ checked.old.asked + sum_by (reply_bytes checked.old.certificate.keys v) queries.now) }
     ensures exact { HonestlyChecked checked.old (λ f F. (v : Value) → Holds f F F.top.0 v
         → GivesCursor (λ replies. replies.items ≡ map (reply v) queries.now) result) }
     ensures unchanged { IsTrue checked.old.source.honest → GivesCursor (λ _. ⊤) result }

@@ -9,7 +9,7 @@ ghost use Rattle.bplist_cursor.specs.Prelude.{HonestlyChecked, text, Spells, lea
 ghost use Rattle.bplist_cursor.specs.Prelude.{SpellsText, GivesCursor, cursor_read, OnlyReadsFile, part, compare_units};
 ghost use Rattle.bplist_cursor.specs.Prelude.{Keyed, IsVouchedBy, GivesRead, read_failed, SpellTexts, HonestlyKeyed};
 ghost use Rattle.bplist_cursor.specs.Prelude.{IsKeyIndex, IsCompared, IsKeyList, RisesAtMost, ListStarts, IsUnlisted};
-ghost use Rattle.bplist_cursor.specs.Prelude.{IsSafeBody, IsTextKind, tries};
+ghost use Rattle.bplist_cursor.specs.Prelude.{IsSafeBody, IsTextKind, texts_bytes, tries};
 ghost use Rattle.bplist_objects.specs.Units.{units_of};
 ghost use Rattle.std.specs.List.{AllZip};
 ghost use Rattle.std.specs.Int.Digits.{digits_of};
@@ -49,6 +49,8 @@ fn key_text<S: Source>(
 ) -> Result<List<u16>, CursorFault>
     requires within { k.0 < checked.old.frame.objects }
     ensures reads { OnlyReadsFile (cursor_read result) checked.old checked.new }
+    ensures asks { HonestlyChecked checked.old (λ f F. (us : list ℕ) → Spells f F k.0 (leaf (text us))
+        → checked.new.asked ≤ checked.old.asked + (28 + 2 * length us)) }
     ensures exact { HonestlyChecked checked.old (λ f F. (us : list ℕ) → Spells f F k.0 (leaf (text us))
         → GivesCursor (λ units. units ≡ us) result) }
 {
@@ -65,6 +67,9 @@ pub(crate) fn key_texts<S: Source>(
     requires head { IsSafeHead checked.old.frame head.now }
     requires is_dict { head.now.kind ≡ Dict }
     ensures reads { OnlyReadsFile (cursor_read result) checked.old checked.new }
+    ensures asks { HonestlyChecked checked.old (λ f F. (n : ℕ) (ks ms : list ℕ) → Spells f F n (dict ks ms)
+        → dict ks ms ≡ content_at f F head.now → (us : list (list ℕ)) → AllZip (SpellsText f F) ks us
+        → checked.new.asked ≤ checked.old.asked + texts_bytes us) }
     ensures exact { HonestlyChecked checked.old (λ f F. (n : ℕ) (ks ms : list ℕ) → Spells f F n (dict ks ms)
         → dict ks ms ≡ content_at f F head.now → (us : list (list ℕ)) → AllZip (SpellsText f F) ks us
         → GivesCursor (λ keys. keys ≡ us) result) }

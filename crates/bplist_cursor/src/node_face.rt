@@ -2,8 +2,8 @@
 //!
 //! A face owns what it shows, so the body of a leaf is read into a [`List`].
 
-ghost use Rattle.std.specs.Prelude.{◌≡◌, ◌≢◌, ℕ, IsTrue, IfOk, IfErr, length, Err};
-ghost use Rattle.bplist_cursor.specs.Prelude.{part, HonestlyChecked, Value, item_size, Content, Spells, content_at, Holds, IsLeafKind, IsTextKind, IsSafeHead, IsSafeBody, IsVouchedBy, GivesCursor, cursor_read, OnlyReadsFile, face as face_of, content_face, HasRoom};
+ghost use Rattle.std.specs.Prelude.{◌≡◌, ◌≢◌, ◌+◌, ◌*◌, ◌≤◌, ℕ, IsTrue, IfOk, IfErr, length, Err};
+ghost use Rattle.bplist_cursor.specs.Prelude.{part, HonestlyChecked, Value, item_size, Content, Spells, content_at, Holds, IsLeafKind, IsTextKind, IsSafeHead, IsSafeBody, IsVouchedBy, GivesCursor, cursor_read, OnlyReadsFile, face as face_of, content_face, HasRoom, count_bytes, face_bytes};
 ghost use Rattle.bplist_objects.specs.Units.{units_of};
 ghost use Rattle.bplist_cursor.specs.declared.faults.CursorFault.TheVariants.{Changed};
 
@@ -26,6 +26,7 @@ fn leaf_bytes<S: Source>(
     requires one { item_size 1 head.now.kind ≡ 1 }
     requires head { IsSafeBody (length checked.old.source.octets) head.now }
     ensures reads { OnlyReadsFile (cursor_read result) checked.old checked.new }
+    ensures asks { checked.new.asked ≤ checked.old.asked + head.now.count }
     ensures value { GivesCursor (λ bytes. HonestlyChecked checked.old
         (λ f _. bytes ≡ part f head.now.body head.now.count)) result }
 {
@@ -43,6 +44,7 @@ pub(crate) fn text_units<S: Source>(
     requires kind { IsTextKind head.now.kind }
     requires head { IsSafeBody (length checked.old.source.octets) head.now }
     ensures reads { OnlyReadsFile (cursor_read result) checked.old checked.new }
+    ensures asks { checked.new.asked ≤ checked.old.asked + 2 * head.now.count }
     ensures value { GivesCursor (λ units. HonestlyChecked checked.old (λ f _. units ≡ units_of f head.now)) result }
 {
     let mut units = vec![in alloc; 0u16; head.count as usize]?;
@@ -58,6 +60,7 @@ fn face_by_head<S: Source>(
     requires head { IsSafeHead checked.old.frame head.now }
     requires body { IsSafeBody (length checked.old.source.octets) head.now }
     ensures reads { OnlyReadsFile (cursor_read result) checked.old checked.new }
+    ensures asks { checked.new.asked ≤ checked.old.asked + count_bytes head.now.kind head.now.count }
     ensures content { HonestlyChecked checked.old (λ f F. (n : ℕ) → Spells f F n (content_at f F head.now)
         → GivesCursor (λ shown. shown ≡ content_face (content_at f F head.now)) result) }
     ensures room { IfOk result (HasRoom (length checked.old.source.octets)) }
@@ -93,6 +96,8 @@ pub fn face<S: Source>(
     node: Node,
 ) -> Result<Face, CursorFault>
     ensures reads { OnlyReadsFile (cursor_read result) checked.old checked.new }
+    ensures asks { HonestlyChecked checked.old (λ f F. IsVouchedBy checked.old.certificate.heights node.object.0
+        → (v : Value) → Holds f F node.object.0 v → checked.new.asked ≤ checked.old.asked + face_bytes v) }
     ensures value { HonestlyChecked checked.old (λ f F. IsVouchedBy checked.old.certificate.heights node.object.0
         → (v : Value) → Holds f F node.object.0 v → GivesCursor (λ shown. shown ≡ face_of v) result) }
     ensures content { HonestlyChecked checked.old (λ f F. IsVouchedBy checked.old.certificate.heights node.object.0

@@ -1,4 +1,4 @@
-use Rattle.std.proofs.Common.{sym, ap, ◌∙◌}
+use Rattle.std.proofs.Common.{arith, sym, ap, ◌∙◌}
 use Rattle.std.proofs.lemmas.Result.{err_from_is_err_and}
 use Rattle.bplist_cursor.specs.declared.replies.Reply.TheVariants as replies
 use Rattle.bplist_cursor.proofs.Causes.{unread_excused}
@@ -28,5 +28,22 @@ returns-in_ok-key_texts-in-Dict-clause-exact g c = λ honest v o.
 pub returns-in_default : goal.returns-in_default
 returns-in_default g c = record {
   reads = c.in_ok-head.ensures.reads;
+  asks = λ honest v o. omega (arith, c.in_ok-head.ensures.asks);
   exact = λ honest v o. sym (no_keys c.args.checked.now.source.octets c.args.checked.now.frame v c.args.node.object.0 c.in_ok-head.head o.1 (c.in_ok-head.ensures.exact honest o.0) c.in_default.not-Dict);
 }
+
+pub returns-in_err-key_texts-in-Dict-clause-asks : goal.returns-in_err-key_texts-in-Dict-clause-asks
+returns-in_err-key_texts-in-Dict-clause-asks g c = λ honest v o.
+    let checked = c.args.checked.now in
+    let t = keys_told checked.source.octets checked.frame v c.args.node.object.0 c.in_ok-head.head o.1 (c.in_ok-head.ensures.exact honest o.0) c.in-Dict.is in
+    let keys = (rw c.in_ok-head.ensures.reads at c.in_err-key_texts-in-Dict.ensures.asks) honest c.args.node.object.0 t.keys t.values t.spells t.means t.units t.texts in
+    let bytes = t.bytes in
+    omega (arith, keys, bytes, c.in_ok-head.ensures.asks)
+
+pub returns-in_ok-key_texts-in-Dict-clause-asks : goal.returns-in_ok-key_texts-in-Dict-clause-asks
+returns-in_ok-key_texts-in-Dict-clause-asks g c = λ honest v o.
+    let checked = c.args.checked.now in
+    let t = keys_told checked.source.octets checked.frame v c.args.node.object.0 c.in_ok-head.head o.1 (c.in_ok-head.ensures.exact honest o.0) c.in-Dict.is in
+    let keys = (rw c.in_ok-head.ensures.reads at c.in_ok-key_texts-in-Dict.ensures.asks) honest c.args.node.object.0 t.keys t.values t.spells t.means t.units t.texts in
+    let bytes = t.bytes in
+    omega (arith, keys, bytes, c.in_ok-head.ensures.asks)

@@ -1,5 +1,6 @@
-use Rattle.std.proofs.Common.{◌∙◌, sym}
+use Rattle.std.proofs.Common.{arith, ◌∙◌, ap, length, sym}
 use Rattle.std.proofs.lemmas.Result.{err_from_is_err_and}
+use Rattle.bplist_objects.proofs.Units.{length-units_at}
 use Rattle.bplist_cursor.proofs.Causes.{unread_excused}
 use Rattle.bplist_cursor.proofs.VouchedObjects.{gives_weaker}
 use Rattle.bplist_cursor.proofs.key_search.key_text.Goals as goal
@@ -12,3 +13,13 @@ returns-in_err-head-clause-exact g c = λ honest us s.
 pub returns-clause-exact : goal.returns-clause-exact
 returns-clause-exact g c = λ honest us s.
     gives_weaker _ _ c.text_units.result (λ units told. told honest ∙ sym (c.in_ok-head.ensures.exact honest us s)) (rw c.in_ok-head.ensures.reads at c.text_units.ensures.value)
+
+pub returns-clause-asks : goal.returns-clause-asks
+returns-clause-asks g c = λ honest us s.
+    let f = c.args.checked.now.source.octets in
+    let head = c.in_ok-head.head in
+    let body = c.in_ok-head.ensures.body in
+    let inside = body.body in
+    let within = body.within in
+    let len = ap length (c.in_ok-head.ensures.exact honest us s) ∙ length-units_at f head.kind head.count head.body c.in_ok-head.ensures.kind (omega (arith, inside, within)) in
+    omega (arith, len, c.text_units.ensures.asks, c.in_ok-head.ensures.asks)

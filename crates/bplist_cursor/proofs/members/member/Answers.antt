@@ -3,7 +3,7 @@ use Rattle.std.proofs.lemmas.Result.{err_from_is_err_and}
 use Rattle.bplist_cursor.specs.Members.{HoldsMember, member_of, member_reference, named}
 use Rattle.bplist_cursor.proofs.Causes.{unread_excused}
 use Rattle.bplist_cursor.proofs.Membership.{held_members}
-use Rattle.bplist_cursor.proofs.VouchedObjects.{gives_weaker, never_changed}
+use Rattle.bplist_cursor.proofs.VouchedObjects.{never_changed}
 use Rattle.bplist_cursor.proofs.members.member.Goals as goal
 
 pub returns-in_err-head-clause-reference : goal.returns-in_err-head-clause-reference

@@ -1,7 +1,8 @@
-use Rattle.std.proofs.Common.{◌≡◌, ap, ◌∙◌, sym, subst}
+use Rattle.std.proofs.Common.{arith, ◌≡◌, ap, ◌∙◌, sym, subst}
 use Rattle.std.proofs.lemmas.Result.{err_from_is_err_and}
 use Rattle.bplist_objects.specs.Heads.{Spells}
 use Rattle.bplist_cursor.specs.Shown.{content_face}
+use Rattle.bplist_cursor.proofs.AskedSteps.{same_face}
 use Rattle.bplist_cursor.proofs.Causes.{unread_excused}
 use Rattle.bplist_cursor.proofs.FoundSteps.{unread_for}
 use Rattle.bplist_cursor.proofs.VouchedObjects.{gives_weaker, never_changed}
@@ -42,3 +43,8 @@ pub returns-clause-unchanged : goal.returns-clause-unchanged
 returns-clause-unchanged g c = λ honest vouched.
     never_changed c.args.checked.now c.frame-frame.ensures.checked honest c.args.node.object.0 vouched
     (λ content shown. shown ≡ content_face content) c.face_by_head.result (returns-clause-content g c honest vouched)
+
+pub returns-clause-asks : goal.returns-clause-asks
+returns-clause-asks g c = λ honest vouched v h.
+    let same = same_face c.args.checked.now.source.octets c.args.checked.now.frame v c.args.node.object.0 c.in_ok-head.head h (c.in_ok-head.ensures.exact honest vouched) c.in_ok-head.ensures.body in
+    omega (arith, same, c.face_by_head.ensures.asks, c.in_ok-head.ensures.asks)
