@@ -126,6 +126,9 @@ utf8_parts us done n cs some within cut is =
 high_not_low : (u : ℕ) → is_high_surrogate u ≡ true → is_low_surrogate u ≡ false
 high_not_low u h = grind (arith, nat_tests, h)
 
+low_not_high : (u : ℕ) → is_low_surrogate u ≡ true → is_high_surrogate u ≡ false
+low_not_high u h = grind (arith, nat_tests, h)
+
 -- a part ends between characters if it ends with the text, if its last unit is no first half, or if it ends before a
 -- first half
 pub cut_at_end : (us : List ℕ) (place : ℕ) → length us ≤ place → IsCut us place
@@ -161,3 +164,40 @@ last_read us into rest from n some within read =
 pub not_lone : (b : Bool) → true ≡ not b → b ≡ false
 not_lone false h = refl
 not_lone true h = cc h
+
+-- ---- texts whose surrogates all have their partners
+-- such a text does not end with the first half of a pair
+none_high_last : (us : List ℕ) → has_unpaired_surrogate us ≡ false → ends_high us ≡ false
+unfolding utf16_chars
+none_high_last [] h = refl
+none_high_last (u ∷ []) h = grind (arith, nat_tests, h)
+none_high_last (u ∷ v ∷ us) h = go (is_high_surrogate u && is_low_surrogate v) refl h (none_high_last us) (none_high_last (v ∷ us))
+  where
+    pair : (b : Bool) → (b && is_low_surrogate v) ≡ true → is_high_surrogate v ≡ false
+    pair true e = low_not_high v e
+    pair false e = absurd (cc e)
+
+    behind : (us : List ℕ) → is_high_surrogate v ≡ false → ends_high us ≡ false → ends_high (v ∷ us) ≡ false
+    behind [] e k = e
+    behind (w ∷ us) e k = k
+
+    rest : (b c : Bool) → (b || c) ≡ false → c ≡ false
+    rest false c e = e
+    rest true c e = absurd (cc e)
+
+    go : (t : Bool) → (is_high_surrogate u && is_low_surrogate v) ≡ t
+        → have_lone (cond t (Some (surrogate_pair_char u v) ∷ utf16_chars us) (lone_unit_char u ∷ utf16_chars (v ∷ us))) ≡ false
+        → (have_lone (utf16_chars us) ≡ false → ends_high us ≡ false) → (have_lone (utf16_chars (v ∷ us)) ≡ false → ends_high (v ∷ us) ≡ false) → ends_high (u ∷ v ∷ us) ≡ false
+    go true e k after behind_one = behind us (pair (is_high_surrogate u) e) (after k)
+    go false e k after behind_one = behind_one (rest _ _ k)
+
+-- one such text after another
+module _ (xs ys : List ℕ) (h : has_unpaired_surrogate xs ≡ false) (k : has_unpaired_surrogate ys ≡ false) where
+  joined_chars : utf16_chars (xs ++ ys) ≡ utf16_chars xs ++ utf16_chars ys
+  joined_chars = chars_split xs ys (ap (λ b. b && starts_low ys) (none_high_last xs h))
+
+  pub joined_paired : has_unpaired_surrogate (xs ++ ys) ≡ false
+  joined_paired = ap have_lone joined_chars ∙ none_lone_on (utf16_chars xs) (utf16_chars ys) h k
+
+  pub joined_utf8 : utf8_of (utf16_chars (xs ++ ys)) ≡ utf8_of (utf16_chars xs) ++ utf8_of (utf16_chars ys)
+  joined_utf8 = ap utf8_of joined_chars ∙ utf8_append (utf16_chars xs) (utf16_chars ys)

@@ -1,6 +1,6 @@
 -- What `show --raw` says: bytes of data, UTF-8 of a text, digits of an integer or UID, `true` or `false`. Source:
 -- profile.
-use Rattle.std.specs.Prelude.{◌≡◌, ℕ, ◌∷◌, List, [], codes, Bool, true, false, if◌then◌else◌, Option, None, Some, Result, Ok, Err, MatchOption, MatchResult, encode_utf8_all, ⊤}
+use Rattle.std.specs.Prelude.{◌≡◌, ℕ, ◌∷◌, List, [], codes, Bool, true, false, if◌then◌else◌, Option, None, Some, Result, Ok, Err, MatchOption, MatchResult, encode_utf8_all, length, ⊤}
 use Rattle.std.specs.Char.Utf16.{has_unpaired_surrogate, utf16_lossy_chars}
 use Rattle.std.specs.Fmt.{decimal, signed_decimal}
 use Rattle.std.specs.Io.KnownBytes.{Keeps}
@@ -82,6 +82,12 @@ abbrev pub raw_in : List ℕ → Raw → List ℕ
 raw_in f (Data head) = part f head.body head.count
 raw_in f (Text head) = encode_utf8_all (utf16_lossy_chars (units_of f head))
 raw_in f (Word word) = word.items
+
+-- what may be sent over any source: as many bytes as the head counts, or the UTF-8 of as many units
+abbrev pub IsWholeRaw : Raw → List ℕ → Type 0
+IsWholeRaw (Data head) octets = length octets ≡ head.count
+IsWholeRaw (Text head) octets = (units : List ℕ) × (length units ≡ head.count) × (utf8_text units ≡ Some octets)
+IsWholeRaw (Word word) octets = octets ≡ word.items
 
 -- the body that is sent lies in a file of `len` bytes
 abbrev pub IsSafeRaw : ℕ → Raw → Type 0

@@ -1,5 +1,5 @@
 -- Bytes that go through a sink, and places between the characters of UTF-16 units. Source: profile.
-use Rattle.std.specs.Prelude.{◌≡◌, ℕ, ◌-◌, ◌&&◌, List, [], ◌++◌, false, slice_index, Option, Result, MatchResult}
+use Rattle.std.specs.Prelude.{◌≡◌, ℕ, ◌-◌, ◌&&◌, List, [], ◌++◌, false, slice_index, Option, Result, MatchResult, OnOk}
 use Rattle.std.specs.Char.Utf16.{is_high_surrogate, is_low_surrogate}
 use Rattle.std.specs.Io.KnownBytes.{Appends}
 use Rattle.bplist_octets.specs.Sending.{Sending, SendsSome, Takes, TakesPart}
@@ -22,6 +22,10 @@ module _ (old new : Option (List ℕ)) (before : Sending) where
 abbrev pub Puts : Option (List ℕ) → Option (List ℕ) → Sending → Sending → List ℕ → Result (Unit {0}) RunFault → Type 0
 Puts old new before after bytes result =
     MatchResult result (λ _. Takes old new before after bytes) (Fails old new before bytes)
+
+-- after Ok, bytes of which P holds were put into a sink
+abbrev pub PutsSome : (List ℕ → Type 0) → Option (List ℕ) → Option (List ℕ) → Sending → Sending → Result (Unit {0}) RunFault → Type 0
+PutsSome P old new before after result = OnOk result ((bytes : List ℕ) × P bytes × Takes old new before after bytes)
 
 -- the bytes were written, or why they were not
 abbrev pub SendsAll : Option (List ℕ) → Option (List ℕ) → List ℕ → Result (Unit {0}) RunFault → Type 0

@@ -1,17 +1,19 @@
 //! Decides which raw bytes a value has, and writes them. Long data and texts are read and written part by part. A part
 //! of a text never ends between the two halves of a surrogate pair, so each part has its own UTF-8.
 
-ghost use Rattle.std.specs.Prelude.{◌≡◌, IfOk, IfSome, IsTrue, length, not, option_map, ◌+◌, ◌<◌, ◌≤◌, take, false};
+ghost use Rattle.std.specs.Prelude.{◌≡◌, IfOk, IfSome, IsTrue, length, not, option_map, ◌+◌, ◌<◌, ◌≤◌, ℕ, List, OnOk, take, false};
 ghost use Rattle.std.specs.Prelude.{encode_utf8_all};
 ghost use Rattle.std.specs.Char.Utf16.{has_unpaired_surrogate, is_high_surrogate, utf16_lossy_chars};
 ghost use Rattle.bplist_objects.specs.Safe.{IsSafeBody};
 ghost use Rattle.bplist_objects.specs.Units.{IsTextKind, units_of};
 ghost use Rattle.bplint_engine.specs.Prelude.{Holds, Value, IsVouchedBy, OnlyReadsFile, read_failed};
-ghost use Rattle.bplint_engine.specs.Raw.{IsRawOf, IsSafeRaw, raw_word, IsPairedRaw, raw_in};
+ghost use Rattle.bplint_engine.specs.Raw.{IsRawOf, IsSafeRaw, IsWholeRaw, raw_word, IsPairedRaw, raw_in};
 ghost use Rattle.bplist_octets.specs.Octets.{part};
 ghost use Rattle.bplist_cert.specs.CheckedFile.{HonestlyChecked};
 ghost use Rattle.bplist_cursor.specs.Causes.{GivesCursor, GivesRead, cursor_read, read_failed as part_unread};
-ghost use Rattle.bplint_engine.specs.Streams.{IsCut, Puts, SendsAll};
+ghost use Rattle.bplint_engine.specs.Streams.{IsCut, Puts, PutsSome, SendsAll};
+ghost use Rattle.bplint_engine.specs.declared.raw_bytes.Raw.TheVariants.{Data, Text};
+ghost use Rattle.std.specs.Io.KnownBytes.{Appends};
 ghost use Rattle.bplist_objects.specs.declared.head.Kind.TheVariants.{Bytes};
 
 use bplint_lines::RunFault;
@@ -141,7 +143,8 @@ fn is_high_surrogate(unit: u16) -> bool
     matches!(unit, 0xD800..=0xDBFF)
 }
 
-/// Writes raw bytes, and flushes the sink.
+/// Writes raw bytes, and flushes the sink. After Ok it wrote, over any source, as many bytes of data or the UTF-8 of as
+/// many units as the head counts.
 pub(crate) fn send_raw<S: Source, W: Write>(
     alloc: Global,
     checked: &mut Checked<S>,
@@ -152,6 +155,7 @@ pub(crate) fn send_raw<S: Source, W: Write>(
     ensures reads { OnlyReadsFile (read_failed result) checked.old checked.new }
     ensures exact { IsTrue checked.old.source.honest → IsPairedRaw checked.old.source.octets raw.now
         → SendsAll (W.contents out.old) (W.contents out.new) (raw_in checked.old.source.octets raw.now) result }
+    ensures whole { OnOk result ((bytes : List ℕ) × IsWholeRaw raw.now bytes × Appends (W.contents out.old) (W.contents out.new) bytes) }
 {
     let mut sink = Sink::new();
     put_raw(alloc, checked, raw, &mut sink, out)?;
@@ -172,6 +176,7 @@ fn put_raw<S: Source, W: Write>(
     ensures exact { IsTrue checked.old.source.honest → IsPairedRaw checked.old.source.octets raw.now
         → Puts (W.contents out.old) (W.contents out.new) sink.old sink.new
         (raw_in checked.old.source.octets raw.now) result }
+    ensures whole { PutsSome (IsWholeRaw raw.now) (W.contents out.old) (W.contents out.new) sink.old sink.new result }
 {
     match raw {
         Raw::Data(head) => put_data(checked, head, sink, out),
@@ -192,6 +197,7 @@ fn put_data<S: Source, W: Write>(
     ensures reads { OnlyReadsFile (read_failed result) checked.old checked.new }
     ensures exact { IsTrue checked.old.source.honest → Puts (W.contents out.old) (W.contents out.new) sink.old sink.new
         (part checked.old.source.octets head.now.body head.now.count) result }
+    ensures whole { PutsSome (IsWholeRaw (Data head.now)) (W.contents out.old) (W.contents out.new) sink.old sink.new result }
 {
     let mut buffer = [0; PART];
     let mut done = 0;
@@ -205,7 +211,7 @@ fn put_data<S: Source, W: Write>(
     Ok(())
 }
 
-/// Puts the UTF-8 of a text into a sink.
+/// Puts the UTF-8 of a text into a sink. Returns `Changed` if a surrogate has lost its other half.
 fn put_text<S: Source, W: Write>(
     alloc: Global,
     checked: &mut Checked<S>,
@@ -220,6 +226,7 @@ fn put_text<S: Source, W: Write>(
         → has_unpaired_surrogate (units_of checked.old.source.octets head.now) ≡ false
         → Puts (W.contents out.old) (W.contents out.new) sink.old sink.new
         (encode_utf8_all (utf16_lossy_chars (units_of checked.old.source.octets head.now))) result }
+    ensures whole { PutsSome (IsWholeRaw (Text head.now)) (W.contents out.old) (W.contents out.new) sink.old sink.new result }
 {
     let count = head.count;
     let mut buffer = [0; PART];

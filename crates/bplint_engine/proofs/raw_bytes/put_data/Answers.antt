@@ -1,5 +1,5 @@
 use Rattle.std.proofs.Common.{rules, arith, ◌++◌, ◌≡◌, ◌+◌, Err, length, take, drop, refl, sym, ap, ◌∙◌, subst, take-append-drop}
-use Rattle.std.proofs.lemmas.List.{take_all, length-take, length-take-le}
+use Rattle.std.proofs.lemmas.List.{take_all, length-append, length-take, length-take-le}
 use Rattle.std.proofs.lemmas.Result.{err_from_is_err_and}
 use lib.Seq.{take-add}
 use Rattle.bplist_octets.specs.Octets.{part}
@@ -43,6 +43,9 @@ loop-done-preserved g c =
           ∙ sym (part-part f c.args.head.now.body c.args.head.now.count c.loop-done.done c.min-now.result (c.args.head.now.body + c.loop-done.done) (omega arith) refl) in
           subst (Takes _ _ _ _) (ap (λ x. take c.loop-done.done all ++ x) read ∙ sym (take-add c.loop-done.done c.min-now.result all))
           (takes_more (c.loop-done.invariant.so_far honest) c.in_ok-put.ensures.taken);
+      whole =
+          let (before, many, takes) = c.loop-done.invariant.whole in
+          (before ++ _, length-append before _ ∙ omega (arith, many, len), takes_more takes c.in_ok-put.ensures.taken);
     }
 
 pub returns-clause-exact : goal.returns-clause-exact

@@ -1,4 +1,4 @@
-use Rattle.std.proofs.Common.{◌≤◌, ◌-◌, take, IsTrue}
+use Rattle.std.proofs.Common.{◌≡◌, ◌≤◌, ◌-◌, ℕ, List, length, take, IsTrue}
 use Rattle.bplist_octets.specs.Octets.{part}
 use Rattle.bplist_octets.specs.Sending.{Takes}
 use Rattle.bplist_cursor.specs.Kept.{IsSameFile}
@@ -13,6 +13,7 @@ invariant-loop-done g l =
       reached : l.done ≤ l.head.count;
       so_far : IsTrue file.source.honest → Takes (g.W.Write.contents l.fn.out) (g.W.Write.contents l.out) l.fn.sink l.sink
           (take l.done (part file.source.octets l.head.body l.head.count));
+      whole : (bytes : List ℕ) × (length bytes ≡ l.done) × Takes (g.W.Write.contents l.fn.out) (g.W.Write.contents l.out) l.fn.sink l.sink bytes;
     }
 
 abbrev pub decreases-loop-done : goal.decreases-loop-done

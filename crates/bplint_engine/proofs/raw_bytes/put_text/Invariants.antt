@@ -1,4 +1,5 @@
-use Rattle.std.proofs.Common.{◌≤◌, ◌-◌, ℕ, List, Option, IsTrue}
+use Rattle.std.proofs.Common.{◌≡◌, ◌≤◌, ◌-◌, ℕ, List, length, Option, false, IsTrue}
+use Rattle.std.specs.Char.Utf16.{has_unpaired_surrogate, utf16_chars}
 use Rattle.bplist_objects.specs.Units.{units_of}
 use Rattle.bplist_octets.specs.Sending.{Takes}
 use Rattle.bplint_engine.proofs.ReadCharacters.{IsRead, utf8_of}
@@ -14,6 +15,8 @@ invariant-loop-done g l =
       reached : l.done ≤ l.head.count;
       so_far : IsTrue file.source.honest → (cs : List (Option ℕ)) × IsRead (units_of file.source.octets l.head) l.done cs
           × Takes (g.W.Write.contents l.fn.out) (g.W.Write.contents l.out) l.fn.sink l.sink (utf8_of cs);
+      whole : (us : List ℕ) × (length us ≡ l.done) × (has_unpaired_surrogate us ≡ false)
+          × Takes (g.W.Write.contents l.fn.out) (g.W.Write.contents l.out) l.fn.sink l.sink (utf8_of (utf16_chars us));
     }
 
 abbrev pub decreases-loop-done : goal.decreases-loop-done
