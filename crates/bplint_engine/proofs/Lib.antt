@@ -24,5 +24,8 @@ mod RefusedCertificates
 mod SentAnswers
 mod SentTexts
 mod SinkLines
+mod ToldTexts
+mod ToldTrees
+mod ToldValues
 mod TreeLines
 mod TreeSteps

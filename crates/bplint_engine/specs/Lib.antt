@@ -15,4 +15,5 @@ pub mod Said
 pub mod Streams
 pub mod Prelude
 pub mod Tree
+pub mod Told
 pub mod TreeWalks

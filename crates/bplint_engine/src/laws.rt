@@ -2,10 +2,15 @@
 
 ghost use Rattle.std.specs.Prelude.{◌≡◌, ◌∷◌, ℕ, List, Bool, Ok};
 ghost use Rattle.std.specs.List.{flat_map};
+ghost use Rattle.hex.specs.Hex.{IsBytes};
+ghost use Rattle.bplist_objects.specs.Frame.{IsFrame};
+ghost use Rattle.bplist_objects.specs.declared.frame.Frame.{Frame as frame};
 ghost use Rattle.bplint_lines.specs.declared.texts.Style.{Style};
 ghost use Rattle.bplint_engine.specs.Ls.{named_line};
-ghost use Rattle.bplint_engine.specs.Prelude.{Answer, Asked, IsLeaf, Says, SaysOver, Value, listed};
+ghost use Rattle.bplint_engine.specs.Prelude.{Answer, Asked, Holds, IsLeaf, Says, SaysOver, Value, listed};
+ghost use Rattle.bplint_engine.specs.Told.{HasShownKeys};
 ghost use Rattle.bplint_engine.specs.Tree.{joined_lines, named_members, tree_lines};
+ghost use Rattle.bplint_lines.specs.declared.texts.Style.TheVariants.{Utf8};
 
 /// A command has only one answer for a file and the bytes of a certificate.
 pub fn one_answer()
@@ -27,4 +32,12 @@ pub fn tree_of_ls()
     ensures ls { (style : Style) (name : List ℕ) (w : Value) → (IsLeaf w → ⊥)
         → listed style name (Ok w) ≡ flat_map (λ m. named_line style m.0 m.1) (named_members style name w) }
     ensures leaf { (style : Style) (name : List ℕ) (w : Value) → IsLeaf w → listed style name (Ok w) ≡ joined_lines (tree_lines style name w) }
+{}
+
+/// Recursive listings in UTF-8 tell values apart. Let two files hold values in which all keys can be shown. If the
+/// listings of both values under one name have the same lines, the values are equal: integers by value, texts by units.
+pub fn listings_tell_values()
+    ensures { (f g : List ℕ) (F G : frame) (m n : ℕ) (v w : Value) (name : List ℕ) → IsBytes f → IsBytes g → IsFrame f F
+        → IsFrame g G → Holds f F m v → Holds g G n w → HasShownKeys v → HasShownKeys w
+        → tree_lines Utf8 name v ≡ tree_lines Utf8 name w → v ≡ w }
 {}

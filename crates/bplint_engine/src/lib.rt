@@ -55,7 +55,7 @@ mod tree;
 mod tree_walk;
 
 pub use certify::checked_by_lint;
-pub use laws::{one_answer, one_answer_over, tree_of_ls};
+pub use laws::{listings_tell_values, one_answer, one_answer_over, tree_of_ls};
 pub use ls::list_on;
 pub use raw::show_raw_on;
 pub use run::{Command, Verb, run_certified, run_on, run_over, undo_hex};
