@@ -145,7 +145,7 @@ class Threads(Child):
                     plist.plain(limit)
                 except bplist.TooLarge:
                     pass
-                is_enabled, end = gc.isenabled(), time.perf_counter()
+                end, is_enabled = time.perf_counter(), gc.isenabled()
                 while len(moments) < done:
                     time.sleep(0.001)
                 # Only if the thread ran during the call.
