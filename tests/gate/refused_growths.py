@@ -81,6 +81,8 @@ COMMANDS = [
 
 # Commands that may write a first part of their answer.
 PARTLY = ("print", "ls", "map", "textconv")
+# Commands without `--hex`.
+NO_HEX = ("textconv",)
 # Its paths are one more list that std collects.
 PATHS = ["map", "--paths"]
 
@@ -229,7 +231,9 @@ def command_outcomes(folder, library, program, pool):
     def outcomes(row, file, heights, is_hex, lines):
         stage = Stage(os.path.join(folder, f"{row}-{is_hex}"), library)
         stage.hold(file, heights, is_hex)
-        commands = [line.split(" ") + (["--hex"] if is_hex else []) for line in lines]
+        commands = [line.split(" ") for line in lines]
+        if is_hex:
+            commands = [[*words, "--hex"] for words in commands if words[0] not in NO_HEX]
         return [command_outcome(stage, program, row, words) for words in commands]
 
     tasks = [(row, *held, is_hex, COMMANDS + MORE.get(row, [])) for row, held in FILES.items() for is_hex in (False, True)]

@@ -4,22 +4,13 @@
 ghost use Rattle.bplint_engine.specs.Commands.{PrintsOnePath};
 
 use crate::failing_calls::MOST_READS;
-use crate::runs::{outcome, with_path};
+use crate::runs::{line_of_read, outcome, with_path};
 use bplint_engine::{Command, Verb, run_on, run_over};
 use bplist_octets::ReadFault;
 use bplist_samples::{FailingRead, FailingSource, READ_FAULTS, Row, tested_rows};
 use std::alloc::Global;
 use std::process::Abort;
 use std::test::Fail;
-
-/// The line and the status that bplint gives for a failed read.
-fn line_of(fault: ReadFault) -> &'static str {
-    match fault {
-        ReadFault::Device => "3 read Device\n",
-        ReadFault::Ended => "3 read Ended\n",
-        ReadFault::TooManyTurns => "3 read TooManyTurns\n",
-    }
-}
 
 /// Returns the outcome of a command over a row's file with a failing read.
 fn outcome_of(
@@ -55,7 +46,7 @@ fn run_at_each_turn(
             return Ok(before);
         }
         let name = row.name;
-        assert_eq!(rt; told.as_str(), line_of(fault), "{name}");
+        assert_eq!(rt; told.as_str(), line_of_read(fault), "{name}");
     }
     Err(Fail::new(row.name))
 }

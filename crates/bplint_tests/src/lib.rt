@@ -25,6 +25,8 @@ mod octets;
 #[cfg(test)]
 mod runs;
 #[cfg(test)]
+mod shown_files;
+#[cfg(test)]
 mod windows;
 #[cfg(test)]
 mod writers;

@@ -5,6 +5,7 @@ ghost use Rattle.bplint_engine.specs.Commands.{PrintsOnePath};
 
 use bplint_engine::{Command, Verb, run_over};
 use bplint_lines::{RunFault, Said};
+use bplist_octets::ReadFault;
 use std::alloc::{AllocError, Global};
 use std::test::Fail;
 
@@ -61,4 +62,13 @@ pub(crate) fn certificate_of(alloc: Global, file: &[u8]) -> Option<Vec<u8>> {
     let mut out = Vec::new(alloc);
     let answer = run_over(alloc, &plain(alloc, Verb::Certify), file, b"", &mut out);
     answer.ok().map(|_| out)
+}
+
+/// The status and the line that bplint gives for a failed read.
+pub(crate) fn line_of_read(fault: ReadFault) -> &'static str {
+    match fault {
+        ReadFault::Device => "3 read Device\n",
+        ReadFault::Ended => "3 read Ended\n",
+        ReadFault::TooManyTurns => "3 read TooManyTurns\n",
+    }
 }

@@ -1,0 +1,168 @@
+//! The calls that show a file without a certificate: over a file that changes while it is read, and with one failing
+//! read.
+
+use crate::failing_calls::MOST_READS;
+use crate::runs::{line_of_read, outcome};
+use bplint_engine::{Branch, list_all_on, list_on, show_on, show_raw_on, show_text_on};
+use bplint_lines::{RawFault, Style};
+use bplint_map::map_on;
+use bplist_octets::{ReadFault, ShiftingSource, SliceSource, Source};
+use bplist_samples::{
+    A_TO_ONE, FailingRead, FailingSource, Parts, READ_FAULTS, Row, TWO_TRUES, small, tested_rows,
+};
+use std::alloc::Global;
+use std::process::Abort;
+use std::test::Fail;
+
+/// A call that shows a file.
+#[derive(Clone, Copy, Debug, PartialEq, Eq)]
+enum Show {
+    Value,
+    Text,
+    Raw,
+    Members,
+    /// Also what `textconv` writes.
+    All,
+    Map,
+}
+
+const CALLS: &[Show] = &[
+    Show::Value,
+    Show::Text,
+    Show::Raw,
+    Show::Members,
+    Show::All,
+    Show::Map,
+];
+
+/// Returns what a call writes for the value under a path, or the status and the line of its fault.
+fn shown<S: Source + Drop>(
+    alloc: Global,
+    call: Show,
+    path: &str,
+    source: S,
+) -> Result<String, Fail> {
+    let mut out = Vec::new(alloc);
+    let style = Style::Utf8;
+    let answer = match call {
+        Show::Value => {
+            let paths = vec![in alloc; String::from_str(alloc, path)?]?;
+            show_on(alloc, source, &paths, style, &mut out).0
+        }
+        Show::Text => show_text_on(alloc, source, path, 100, &mut out).0,
+        Show::Raw => match show_raw_on(alloc, source, path, &mut out).0 {
+            Ok(said) => Ok(said),
+            Err(RawFault::Run(fault)) => Err(fault),
+            Err(fault) => return Ok(fault.line(alloc)?),
+        },
+        Show::Members => list_on(alloc, source, path, style, &mut out).0,
+        Show::All => {
+            let branch = Branch {
+                path,
+                limit: 100,
+                style,
+            };
+            list_all_on(alloc, source, &branch, &mut out).0
+        }
+        Show::Map => {
+            let mut source = source;
+            map_on(alloc, &mut source, &mut out)
+        }
+    };
+    outcome(alloc, answer, &out)
+}
+
+/// Lets each read of a call fail in its turn. Returns how many reads the call makes.
+fn shown_at_each_turn(
+    rt: &impl Abort,
+    alloc: Global,
+    call: Show,
+    row: &Row,
+    fault: ReadFault,
+) -> Result<u64, Fail> {
+    let whole = shown(alloc, call, "", SliceSource::new(&row.octets))?;
+    for before in 0..MOST_READS {
+        let source = FailingSource::new(&row.octets, FailingRead { before, fault });
+        let told = shown(alloc, call, "", source)?;
+        if told.as_str() == whole.as_str() {
+            return Ok(before);
+        }
+        let name = row.name;
+        assert_eq!(rt; told.as_str(), line_of_read(fault), "{name} {call:?}");
+    }
+    Err(Fail::new(row.name))
+}
+
+#[test]
+fn each_read_of_each_shown_file(rt: HostRuntime) -> Result<(), Fail> {
+    let alloc = rt.alloc();
+    let rows = tested_rows(alloc)?;
+    for call in CALLS {
+        for row in rows.iter().filter(|row| row.octets.len() < 100) {
+            for fault in READ_FAULTS {
+                assert!(rt; shown_at_each_turn(&rt, alloc, *call, row, *fault)? > 0);
+            }
+        }
+    }
+    Ok(())
+}
+
+/// Returns how often a call notices that its file becomes another one, after each of the first hundred reads. If it
+/// does not notice it, it answers for one of the two files.
+fn changes_noticed(
+    rt: &impl Abort,
+    alloc: Global,
+    call: Show,
+    path: &str,
+    (first, second): (&[u8], &[u8]),
+) -> Result<u32, Fail> {
+    if first.len() != second.len() {
+        return Err(Fail::from("a file of another length"));
+    }
+    let answers = [
+        shown(alloc, call, path, SliceSource::new(first))?,
+        shown(alloc, call, path, SliceSource::new(second))?,
+    ];
+    let mut changes = 0u32;
+    for reads in 0..100 {
+        let told = shown(alloc, call, path, ShiftingSource::new(first, second, reads))?;
+        if told.as_str() == "3 changed\n" {
+            changes = changes.saturating_add(1);
+        } else {
+            let is_one = answers
+                .iter()
+                .any(|answer| answer.as_str() == told.as_str());
+            assert!(rt; is_one, "{call:?} after {reads} reads: {told}");
+        }
+    }
+    Ok(changes)
+}
+
+/// An array whose member becomes the array's own container: a circle.
+#[test]
+fn shown_files_that_change(rt: HostRuntime) -> Result<(), Fail> {
+    let alloc = rt.alloc();
+    let first = small(alloc, TWO_TRUES.0, TWO_TRUES.1)?;
+    let second = small(alloc, TWO_TRUES.0, &[0, 11])?;
+    for call in [Show::Value, Show::Members, Show::All] {
+        let changes = changes_noticed(&rt, alloc, call, "", (&first, &second))?;
+        assert!(rt; changes > 0, "{call:?}");
+    }
+    Ok(())
+}
+
+/// A wide text of one character, which is a surrogate pair.
+const PAIR: Parts = (&[0x62, 0xd8, 0x3d, 0xde, 0x00], &[8]);
+
+/// The same bytes, except that the second half of the pair is a letter.
+const LONE_HALF: &[u8] = &[0x62, 0xd8, 0x3d, 0x00, 0x61];
+
+/// `show --raw` writes the whole text or says that it has changed, and never a part of it.
+#[test]
+fn raw_text_that_changes(rt: HostRuntime) -> Result<(), Fail> {
+    let alloc = rt.alloc();
+    let first = small(alloc, PAIR.0, PAIR.1)?;
+    let second = small(alloc, LONE_HALF, PAIR.1)?;
+    assert!(rt; changes_noticed(&rt, alloc, Show::Raw, "", (&first, &second))? > 0);
+    Ok(())
+}
