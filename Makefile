@@ -1,6 +1,6 @@
 ## bplint: `rt` of the kit proves and builds; python3 runs the tests on what is built.
 ##
-##   make build          proves and builds the program, crates/bplint/out/bplint; half an hour the first time
+##   make build          proves and builds the program, crates/bplint/out/bplint; up to an hour the first time
 ##   make look FILE=F    lints F with the proved program if it is built, and otherwise with an unproved one, which it keeps
 ##   make lib            proves and builds the C library, into crates/bplist_c/out
 ##   make wheel          the Python package for pip, with the library in it, into dist/
