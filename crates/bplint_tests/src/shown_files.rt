@@ -50,11 +50,14 @@ fn shown<S: Source + Drop>(
             show_on(alloc, source, &paths, style, &mut out).0
         }
         Show::Text => show_text_on(alloc, source, path, 100, &mut out).0,
-        Show::Raw => match show_raw_on(alloc, source, path, &mut out).0 {
-            Ok(said) => Ok(said),
-            Err(RawFault::Run(fault)) => Err(fault),
-            Err(fault) => return Ok(fault.line(alloc)?),
-        },
+        Show::Raw => {
+            let (answer, _source) = show_raw_on(alloc, source, path, &mut out);
+            match answer {
+                Ok(said) => Ok(said),
+                Err(RawFault::Run(fault)) => Err(fault),
+                Err(fault) => return Ok(fault.line(alloc)?),
+            }
+        }
         Show::Members => list_on(alloc, source, path, style, &mut out).0,
         Show::All => {
             let branch = Branch {
