@@ -262,6 +262,9 @@ def try_crate(kit, crate, names, is_gate):
         if not kit.is_built(library):
             below = f"{library.name} below it is not built as it stands: run `rt lib` in crates/{library.name}"
             raise ValueError(f"{crate.name}: {below}")
+    if is_gate:
+        # Also what is not tried has to fit the sources.
+        edits_of(crate, [], False)
     edits, failed = edits_of(crate, names, is_gate), 0
     for edit, goals in tried(kit, crate, edits) if edits else ():
         failed += verdict(goals) not in REFUSED
