@@ -1,44 +1,33 @@
 -- Fingerprints of texts: numbers that are compared before the units. Source: profile.
-use Rattle.std.specs.Prelude.{◌≡◌, ◌⊎◌, ◌↔◌, ℕ, ◌+◌, ◌*◌, ◌^◌, ◌%◌, ◌<◌, ◌≤◌, max, List, length, fold, slice_index}
+use Rattle.std.specs.Prelude.{◌≡◌, ℕ, ◌+◌, ◌*◌, ◌/◌, ◌^◌, ◌%◌, ◌<◌, Bool, List, Option, All, Contains, MatchOption, length, fold, map, slice_index, take}
 use Rattle.bplist_objects.specs.declared.frame.Frame.{Frame}
+use Rattle.bplist_keys.specs.Marks.{IsMarked}
 use Rattle.bplist_keys.specs.Texts.{HasTextShape, text_units}
 
 -- a fingerprint with one more unit added
 abbrev pub mix : ℕ → ℕ → ℕ
 mix x u = (x * 16777619 % 2 ^ 32 + u) % 2 ^ 32
 
--- the fingerprint of units: their number, with each of them added
+-- the fingerprint of units: their number, with each of the first 128 added
 abbrev pub fingerprint : List ℕ → ℕ
-fingerprint us = fold mix (length us % 2 ^ 32) us
+fingerprint us = fold mix (length us % 2 ^ 32) (take 128 us)
 
--- the fingerprint by which a text is compared, which is never 0
-abbrev pub print : List ℕ → ℕ
-print us = max (fingerprint us) 1
+-- object m has this fingerprint if it is named and a text by marker and count, and none otherwise
+abbrev pub HasPrint : List ℕ → Frame → List Bool → ℕ → Option ℕ → Type 0
+HasPrint f F named m found =
+    MatchOption found ((IsMarked named m → HasTextShape f F m → ⊥))
+    (λ x. IsMarked named m × (HasTextShape f F m × (x ≡ fingerprint (text_units f F m))))
 
--- object m has this number: its fingerprint, or 0 if it is not a text by marker and count
-abbrev pub HasPrint : List ℕ → Frame → ℕ → ℕ → Type 0
-HasPrint f F m x = (0 < x → HasTextShape f F m × (x ≡ print (text_units f F m))) × (HasTextShape f F m → 0 < x)
+-- the list has a fingerprint times 2^32 plus a number for each object below n that is named and a text, and no other
+abbrev pub ArePrints : List ℕ → Frame → List Bool → ℕ → List ℕ → Type 0
+ArePrints f F named n prints =
+    ((m : ℕ) → m < n → IsMarked named m → HasTextShape f F m → Contains prints (fingerprint (text_units f F m) * 2 ^ 32 + m))
+    × All (λ p. IsMarked named (p % 2 ^ 32) × (HasTextShape f F (p % 2 ^ 32) × (p / 2 ^ 32 ≡ fingerprint (text_units f F (p % 2 ^ 32))))) prints
 
--- the named objects that are texts by marker and count have their fingerprints, and all others have 0
-pub record ArePrints (f : List ℕ) (F : Frame) (named prints : List ℕ) : Type 0 where
-  pub only : (m : ℕ) → 0 < slice_index prints m → (0 < slice_index named m) × HasTextShape f F m × (slice_index prints m ≡ print (text_units f F m))
-  pub all : (m : ℕ) → 0 < slice_index named m → HasTextShape f F m → 0 < slice_index prints m
-
--- the objects that have a fingerprint have a number above 0, and equal numbers if and only if the units are the same
-pub record AreTold (f : List ℕ) (F : Frame) (prints numbers : List ℕ) : Type 0 where
-  pub given : (m : ℕ) → (0 < slice_index numbers m) ↔ (0 < slice_index prints m)
-  pub same : (a b : ℕ) → 0 < slice_index numbers a → 0 < slice_index numbers b
-      → (slice_index numbers a ≡ slice_index numbers b) ↔ (text_units f F a ≡ text_units f F b)
-
--- each of the first `count` texts has a number above 0 and up to `count`, and any other object has what it had
-abbrev pub AreGiven : List ℕ → List ℕ → List ℕ → ℕ → Type 0
-AreGiven prints numbers texts count =
-    (m : ℕ)
-    → ((slice_index numbers m ≡ slice_index prints m) × ((i : ℕ) → i < count → slice_index texts i ≡ m → ⊥))
-    ⊎ ((i : ℕ) × (i < count) × (slice_index texts i ≡ m) × (0 < slice_index numbers m) × (slice_index numbers m ≤ count))
-
--- the first `count` texts have equal numbers if and only if their units are the same
-abbrev pub AreSame : (ℕ → List ℕ) → List ℕ → List ℕ → ℕ → Type 0
-AreSame text numbers texts count =
-    (i j : ℕ) → i < count → j < count
-    → (slice_index numbers (slice_index texts i) ≡ slice_index numbers (slice_index texts j)) ↔ (text (slice_index texts i) ≡ text (slice_index texts j))
+-- some marks were moved: those of objects whose fingerprint in the list is that of no other object
+pub record AreSingle (prints : List ℕ) (before after single : List Bool) : Type 0 where
+  pub all : length after ≡ length before
+  pub marks : length single ≡ length before
+  pub moved : (m : ℕ) → IsMarked single m → (IsMarked after m → ⊥) × Contains (map (λ p. p % 2 ^ 32) prints) m
+  pub kept : (m : ℕ) → (IsMarked single m → ⊥) → slice_index after m ≡ slice_index before m
+  pub alone : (p q : ℕ) → Contains prints p → Contains prints q → IsMarked single (p % 2 ^ 32) → p / 2 ^ 32 ≡ q / 2 ^ 32 → p ≡ q
