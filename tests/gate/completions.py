@@ -144,7 +144,9 @@ SHELLS = {
     "bash": (["bash", "--norc", "-i"], f"source {shlex.quote(str(COMPLETIONS / 'bplint.bash'))}"),
     "zsh": (
         ["zsh", "-f", "-i"],
-        f"fpath=({shlex.quote(str(COMPLETIONS))} $fpath); autoload -U compinit; compinit -u -D; PS1='{PROMPT}'; PROMPT_SP=",
+        # The prompt in two parts: the terminal shows this line too, and must not seem to be ready.
+        f"fpath=({shlex.quote(str(COMPLETIONS))} $fpath); autoload -U compinit; compinit -u -D; "
+        f"PS1='{PROMPT[:2]}''{PROMPT[2:]}'; PROMPT_SP=",
     ),
 }
 
