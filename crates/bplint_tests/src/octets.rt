@@ -1,12 +1,13 @@
-//! The readers of bplist_octets: sources over memory and files, readers that are interrupted, and numbers that bytes spell.
+//! The readers of bplist_octets: sources over memory, streams and files, streams that are interrupted, and numbers that
+//! bytes spell.
 
-ghost use Rattle.std.specs.Prelude.{◌+◌, ◌≤◌, length};
+ghost use Rattle.std.specs.Prelude.{◌+◌, ◌≤◌, None, length};
 
 use bplist_octets::{
-    FaultySource, FileSource, ReadFault, ShiftingSource, SliceSource, Source, fill_from,
-    first_high, sized, wide,
+    FaultySource, FileSource, ReadFault, SeekSource, ShiftingSource, SliceSource, Source, Stream,
+    fill_from, first_high, sized, wide,
 };
-use std::io::ErrorKind;
+use std::io::{Cursor, ErrorKind};
 use std::process::Abort;
 use std::test::Fail;
 use std::{env, fs, io};
@@ -73,15 +74,27 @@ fn the_bytes_change(rt: HostRuntime) {
     }
 }
 
-/// A reader that is interrupted some times, and then gives one byte for each read.
+/// A stream that is interrupted some times, and then gives one byte for each read.
 #[derive(Drop)]
 struct Slow {
     interrupts: u64,
     reads: u64,
 }
 
-impl io::Read for Slow {
-    fn read(&mut self, buf: &mut [u8]) -> io::Result<usize> {
+impl Stream for Slow {
+    ghost bytes = { λ _. None };
+
+    ghost position = { λ _. 0 };
+
+    fn stream_len(&self) -> io::Result<u64> {
+        Ok(5)
+    }
+
+    fn seek_to(&mut self, at: u64) -> io::Result<u64> {
+        Ok(at)
+    }
+
+    fn read_on(&mut self, buf: &mut [u8]) -> io::Result<usize> {
         self.reads = self.reads.wrapping_add(1);
         if self.interrupts > 0 {
             self.interrupts -= 1;
@@ -97,7 +110,7 @@ impl io::Read for Slow {
     }
 }
 
-/// How often a reader is interrupted, the result of reading five bytes after that, and the number of reads it takes.
+/// How often a stream is interrupted, the result of reading five bytes after that, and the number of reads it takes.
 const INTERRUPTED: &[(u64, Result<(), ReadFault>, u64)] = &[
     (0, Ok(()), 5),
     (64, Ok(()), 69),
@@ -106,15 +119,24 @@ const INTERRUPTED: &[(u64, Result<(), ReadFault>, u64)] = &[
 ];
 
 #[test]
-fn a_reader_that_is_interrupted(rt: HostRuntime) {
+fn a_stream_that_is_interrupted(rt: HostRuntime) {
     for (interrupts, want, reads) in INTERRUPTED {
-        let mut reader = Slow {
+        let mut stream = Slow {
             interrupts: *interrupts,
             reads: 0,
         };
-        let answer = fill_from(&mut reader, &mut [0; 5]);
-        assert_eq!(rt; (answer, reader.reads), (*want, *reads), "at {interrupts}");
+        let answer = fill_from(&mut stream, &mut [0; 5]);
+        assert_eq!(rt; (answer, stream.reads), (*want, *reads), "at {interrupts}");
     }
+}
+
+#[test]
+fn a_stream_in_memory(rt: HostRuntime) -> Result<(), Fail> {
+    let mut source = SeekSource::new(Cursor::new(b"abcdef".as_slice()))?;
+    for read in [(2, 3), (0, 6), (6, 0), (5, 1)] {
+        answers(&rt, &mut source, b"abcdef", (read.0, read.1, Ok(())));
+    }
+    Ok(())
 }
 
 #[test]

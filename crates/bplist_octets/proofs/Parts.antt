@@ -1,13 +1,12 @@
 -- Parts of lists.
-use Rattle.std.proofs.Common.{◌≡◌, ℕ, ◌+◌, ◌-◌, ◌≤◌, List, ◌++◌, arith, length, take, drop, slice_range, sym, ap, ◌∙◌, le_refl, drop_at, length-take-le, subst}
-use Rattle.std.specs.Prelude.{Option}
-use Rattle.std.specs.Io.KnownBytes.{Consumes, Keeps}
-use Rattle.std.proofs.KnownBytes.{Consumes-trans, Consumes-kept}
+use Rattle.std.proofs.Common.{◌≡◌, ℕ, ◌+◌, ◌-◌, ◌≤◌, List, ◌++◌, arith, length, take, drop, slice_range, sym, ap, ◌∙◌, le_refl, drop_at, length-take-le, refl, subst}
+use Rattle.std.specs.Prelude.{Option, Some, None, IfSome}
 use Rattle.std.proofs.lemmas.List.{drop-take, take-take, drop-drop}
 use Rattle.std.proofs.lemmas.Slice.{take-put_mid_below, between_is}
 use borrow.Rule.Slice.PartMut.{put_mid, post_of}
 use lib.Seq.{take-add, take-append-le}
 use Rattle.bplist_octets.specs.Octets.{part}
+use Rattle.bplist_octets.specs.Streams.{ReadsOn}
 
 -- a slice's range of n bytes is a part of it
 pub range_is_part : (xs : List ℕ) (place n : ℕ) → slice_range xs place (place + n) ≡ part xs place n
@@ -52,12 +51,29 @@ take-put_mid_part a k n xs ys within fits =
     sym (take_split a (a + n) xs (put_mid a k xs ys) (omega arith) (take-put_mid_below _ _ _ _ _ (le_refl _) within))
     ∙ ap (λ l. take a xs ++ l) (slice_range-put_mid a k n xs ys within fits)
 
+-- two parts, one behind the other
+part_joined : (xs : List ℕ) (place a n : ℕ) → part xs place a ++ part xs (place + a) n ≡ part xs place (a + n)
+part_joined xs place a n =
+    ap (λ l. part xs place a ++ take n l) (sym (drop-drop a place xs)) ∙ sym (take-add a n (drop place xs))
+
 -- a loop that fills a buffer, after reading n more
-pub fills_more : (a k n m : ℕ) (xs ys : List ℕ) (old mid new : Option (List ℕ)) → m ≡ a + n → a ≤ length xs → n ≤ length ys → Consumes old mid (take a xs) → Consumes mid new (take n ys) → Consumes old new (take m (put_mid a k xs ys))
-fills_more a k n m xs ys old mid new is within fits before read =
-    subst (Consumes old new) (sym (ap (λ i. take i (put_mid a k xs ys)) is ∙ take-put_mid_part a k n xs ys within fits)) (Consumes-trans old mid new (take a xs) (take n ys) before read)
+pub reads_more : (a k n m start mid new : ℕ) (into read : List ℕ) (known now : Option (List ℕ)) → now ≡ known → m ≡ a + n → a ≤ length into → n ≤ length read
+    → ReadsOn known start mid a into → ReadsOn now mid new n read → ReadsOn known start new m (put_mid a k into read)
+reads_more a k n m start mid new into read None now same is within fits before more = tt
+reads_more a k n m start mid new into read (Some xs) now same is within fits before more =
+    let last : ReadsOn (Some xs) mid new n read = subst (λ o. ReadsOn o mid new n read) same more in (
+      ap (λ i. take i (put_mid a k into read)) is ∙ take-put_mid_part a k n into read within fits
+          ∙ ap (λ l. l ++ take n read) before.0
+          ∙ ap (λ l. part xs start a ++ l) (last.0 ∙ ap (λ i. part xs i n) before.1)
+          ∙ part_joined xs start a n
+          ∙ ap (part xs start) (sym is),
+      omega (arith, before.1, last.1),
+    )
 
 -- and after a read of nothing
-pub fills_same : (a k m : ℕ) (xs ys : List ℕ) (old mid new : Option (List ℕ)) → m ≡ a → a ≤ length xs → Consumes old mid (take a xs) → Keeps mid new → Consumes old new (take m (put_mid a k xs ys))
-fills_same a k m xs ys old mid new is within before kept =
-    subst (Consumes old new) (sym (ap (λ i. take i (put_mid a k xs ys)) is ∙ take-put_mid_below a k xs ys a (le_refl a) within)) (Consumes-kept old mid new (take a xs) before kept)
+pub reads_same : (a k m start mid new : ℕ) (into read : List ℕ) (known now : Option (List ℕ)) → now ≡ known → m ≡ a → a ≤ length into
+    → ReadsOn known start mid a into → IfSome now (λ _. new ≡ mid) → ReadsOn known start new m (put_mid a k into read)
+reads_same a k m start mid new into read None now same is within before stays = tt
+reads_same a k m start mid new into read (Some xs) now same is within before stays =
+    let still : new ≡ mid = subst (λ o. IfSome o (λ _. new ≡ mid)) same stays in
+    reads_more a k 0 m start mid new into read (Some xs) (Some xs) refl (omega arith) within (omega arith) before (refl, omega arith)

@@ -1,6 +1,6 @@
 pub mod Octets
 pub mod Meaning
 pub mod Slices
-pub mod Fills
+pub mod Streams
 pub mod Panes
 pub mod Sending
