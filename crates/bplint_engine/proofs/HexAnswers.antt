@@ -1,5 +1,5 @@
 -- Answers for inputs that may be hexadecimal text.
-use Rattle.std.proofs.Common.{◌≡◌, ◌⊎◌, inl, inr, ℕ, List, [], true, false, sym, subst, refl, Option, Result, Ok, Err}
+use Rattle.std.proofs.Common.{◌≡◌, ◌⊎◌, inl, inr, ℕ, List, [], true, false, None, sym, subst, refl, Option, Result, Ok, Err}
 use Rattle.std.specs.Prelude.{MatchResult, IsErr, if◌then◌else◌}
 use Rattle.std.proofs.Math.Logic.{∥∥₁_map}
 use Rattle.std.proofs.lemmas.Grind.{merely}
@@ -54,6 +54,6 @@ text_refused command file cert shown f old fault hex is shows (inr (wrong, none)
     ))
 
 -- neither refused memory nor a wrong text is a failed read
-pub no_read : (cert : List ℕ) (fault : RunFault) → (fault ≡ Memory) ⊎ ((fault ≡ Hex) × IsErr (spelled cert)) → is_read fault ≡ false
+pub no_read : (cert : List ℕ) (fault : RunFault) → (fault ≡ Memory) ⊎ ((fault ≡ Hex) × IsErr (spelled cert)) → is_read fault ≡ None
 no_read cert fault (inl memory) = rw memory refl
 no_read cert fault (inr (wrong, _)) = rw wrong refl

@@ -1,6 +1,7 @@
 -- The output or fault of a command, and how it is sent. Source: profile.
-use Rattle.std.specs.Prelude.{◌≡◌, ℕ, List, Bool, Option, Result, Ok, Err}
+use Rattle.std.specs.Prelude.{◌≡◌, ℕ, List, Option, Result, Ok, Err}
 use Rattle.std.specs.Io.KnownBytes.{Appends, Keeps}
+use Rattle.bplist_octets.specs.declared.source.ReadFault.{ReadFault}
 use Rattle.bplist_octets.specs.Sending.{SendsPart}
 use Rattle.bplint_lines.specs.declared.fault.RunFault.{RunFault}
 use Rattle.bplint_lines.specs.declared.fault.RunFault.TheVariants as faults
@@ -8,8 +9,8 @@ use Rattle.bplint_lines.specs.declared.fault.Said.{Said}
 use Rattle.bplint_lines.specs.Answers.{Answer, gives, refuses, read_failed}
 use Rattle.bplint_engine.specs.declared.output.Output.{Output}
 
--- the error is a failed read
-abbrev pub is_read : RunFault → Bool
+-- the fault of the failed read that the error is, if it is one
+abbrev pub is_read : RunFault → Option ReadFault
 is_read fault = read_failed {X = Unit {0}} (Err fault)
 
 -- this fault may come before anything is written; a failed read or refused memory may always come

@@ -5,6 +5,7 @@ use Rattle.std.specs.Char.Utf16.{has_unpaired_surrogate, utf16_lossy_chars}
 use Rattle.std.specs.Fmt.{decimal, signed_decimal}
 use Rattle.std.specs.Io.KnownBytes.{Keeps}
 use Rattle.bplist_octets.specs.Octets.{part}
+use Rattle.bplist_octets.specs.declared.source.ReadFault.{ReadFault}
 use Rattle.bplist_objects.specs.declared.frame.Frame.{Frame}
 use Rattle.bplist_objects.specs.declared.head.Kind.TheVariants.{Bytes as data_kind}
 use Rattle.bplist_objects.specs.File.{FileHolds}
@@ -66,9 +67,9 @@ abbrev pub IsRawless : (Answer → Type 0) → List ℕ → List ℕ → ℕ →
 IsRawless Says f path n = (steps : List (List ℕ)) × (said : Said) × (octets : List ℕ) × (F : Frame) × (v : Value)
     × IsPathOf path steps × Says (gives said octets) × IsFrame f F × FileHolds f v × LeadsToRawless f F steps v n
 
--- true if the result is a failed read
-abbrev pub raw_read_failed : {X : Type 0} → Result X RawFault → Bool
-raw_read_failed answer = elim answer [ Err (Run (faults.Read _)) ↦ true | _ ↦ false ]
+-- the fault of the failed read that the result is, if it is one
+abbrev pub raw_read_failed : {X : Type 0} → Result X RawFault → Option ReadFault
+raw_read_failed answer = elim answer [ Err (Run (faults.Read fault)) ↦ Some fault | _ ↦ None ]
 
 -- what a run leaves with the writer: what LeavesSomeBy allows, or nothing if the value has no raw bytes
 abbrev pub LeavesRawBy : (Answer → Type 0) → (ℕ → Type 0) → Option (List ℕ) → Option (List ℕ) → Result Said RawFault → Type 0

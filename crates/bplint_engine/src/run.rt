@@ -1,7 +1,7 @@
 //! Runs one command over a file and a certificate, which are a source, bytes or hexadecimal text: the commands with
 //! their options, and the calls that run them.
 
-ghost use Rattle.std.specs.Prelude.{◌≡◌, ℕ, List, [], false, IsTrue, if◌then◌else◌, ◌⊎◌, ◌-◌, ◌==◌, IfOk, IfErr, IsErr};
+ghost use Rattle.std.specs.Prelude.{◌≡◌, ℕ, List, [], None, IsTrue, if◌then◌else◌, ◌⊎◌, ◌-◌, ◌==◌, IfOk, IfErr, IsErr};
 ghost use Rattle.std.specs.Prelude.{Ok, length, slice_index, take};
 ghost use Rattle.bplint_engine.specs.Prelude.{OnlyReads, IsDecoded, PrintsOnePath, Leaves, read_failed, Says, SaysOver};
 ghost use Rattle.bplint_engine.specs.Prelude.{most, takes_cert, spelled};
@@ -137,7 +137,7 @@ pub fn run_over<W: Write>(
     requires { PrintsOnePath command.now }
     ensures exact { Leaves (SaysOver command.now.hex command.now file.now cert.now) (most command.now)
         (W.contents out.old) (W.contents out.new) result }
-    ensures whole { read_failed result ≡ false }
+    ensures whole { read_failed result ≡ None }
 {
     if !command.hex {
         return run_over_bytes(alloc, command, file, cert, out);
@@ -166,7 +166,7 @@ fn run_over_bytes<W: Write>(
 ) -> Result<Said, RunFault>
     requires { PrintsOnePath command.now }
     ensures exact { Leaves (Says command.now file.now cert.now) (most command.now) (W.contents out.old) (W.contents out.new) result }
-    ensures whole { read_failed result ≡ false }
+    ensures whole { read_failed result ≡ None }
 {
     run_on(alloc, command, SliceSource::new(file), cert, out).0
 }

@@ -1,6 +1,7 @@
 -- Answers to a command, and what they leave with the writer. Source: profile.
-use Rattle.std.specs.Prelude.{◌⊎◌, ℕ, List, Bool, true, false, Option, None, Some, IfSome, Result, Ok, Err}
+use Rattle.std.specs.Prelude.{◌⊎◌, ℕ, List, Option, None, Some, IfSome, Result, Ok, Err}
 use Rattle.std.specs.Io.KnownBytes.{Appends, Keeps}
+use Rattle.bplist_octets.specs.declared.source.ReadFault.{ReadFault}
 use Rattle.bplist_octets.specs.Sending.{SendsPart, SendsSome, AtMost}
 use Rattle.bplint_lines.specs.declared.fault.RunFault.{RunFault}
 use Rattle.bplint_lines.specs.declared.fault.RunFault.TheVariants as faults
@@ -11,9 +12,9 @@ pub data Answer : Type 0 where
   gives : Said → List ℕ → Answer
   refuses : RunFault → Answer
 
--- true if the result is a failed read
-abbrev pub read_failed : {X : Type 0} → Result X RunFault → Bool
-read_failed answer = elim answer [ Err (faults.Read _) ↦ true | _ ↦ false ]
+-- the fault of the failed read that the result is, if it is one
+abbrev pub read_failed : {X : Type 0} → Result X RunFault → Option ReadFault
+read_failed answer = elim answer [ Err (faults.Read fault) ↦ Some fault | _ ↦ None ]
 
 module _ (Says : Answer → Type 0) (bound : Option ℕ) (old new : Option (List ℕ)) where
   -- nothing was written, or a first part of the answer; if there is a bound, of at most so many bytes

@@ -1,6 +1,6 @@
 //! The command `map --paths`: the lines of a map with one more column, the shortest path to each object.
 
-ghost use Rattle.std.specs.Prelude.{◌≡◌, ◌<◌, All, false};
+ghost use Rattle.std.specs.Prelude.{◌≡◌, ◌<◌, All, None};
 ghost use Rattle.bplist_octets.specs.Meaning.{OnlyReads};
 ghost use Rattle.bplist_objects.specs.Failures.{failed_to_read};
 ghost use Rattle.bplist_objects.specs.Framed.{frame_in};
@@ -116,7 +116,7 @@ impl<'a, W: Write> PathLines<'a, W> {
         verdict: &Verdict,
         path: &str,
     ) -> Result<(), RunFault>
-        ensures { read_failed result ≡ false }
+        ensures { read_failed result ≡ None }
     {
         add_region(&mut self.line, reached, row.place, "gap")?;
         self.put("-")?;
@@ -133,7 +133,7 @@ impl<'a, W: Write> PathLines<'a, W> {
 
     /// Puts the names of the columns and the line of the header into the sink.
     fn put_front(&mut self) -> Result<(), RunFault>
-        ensures { read_failed result ≡ false }
+        ensures { read_failed result ≡ None }
     {
         self.line.push_str(TITLE)?;
         self.put("path")?;
@@ -143,7 +143,7 @@ impl<'a, W: Write> PathLines<'a, W> {
 
     /// Puts these lines into the sink.
     fn put_all(&mut self, lines: &str) -> Result<(), RunFault>
-        ensures { read_failed result ≡ false }
+        ensures { read_failed result ≡ None }
     {
         for line in lines.lines() {
             self.line.push_str(line)?;
@@ -155,7 +155,7 @@ impl<'a, W: Write> PathLines<'a, W> {
 
     /// Writes what the sink holds.
     fn finish(&mut self) -> Result<(), RunFault>
-        ensures { read_failed result ≡ false }
+        ensures { read_failed result ≡ None }
     {
         self.sink.flush(self.out)?;
         Ok(())
@@ -163,7 +163,7 @@ impl<'a, W: Write> PathLines<'a, W> {
 
     /// Puts the line, if there is one, into the sink with this last column.
     fn put(&mut self, last: &str) -> Result<(), RunFault>
-        ensures { read_failed result ≡ false }
+        ensures { read_failed result ≡ None }
     {
         if self.line.pop().is_none() {
             return Ok(());

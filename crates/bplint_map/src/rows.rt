@@ -1,7 +1,8 @@
 //! What the map says of the objects of a file: what the linter says of all of them, and what each object breaks by
 //! itself. The linter stops at the first fault, so the map also checks the objects one by one.
 
-ghost use Rattle.std.specs.Prelude.{IsTrue, ◌≡◌, ℕ, List, ◌∷◌, ◌<◌, IfOk, is_err};
+ghost use Rattle.std.specs.Prelude.{IsTrue, ◌≡◌, ℕ, List, ◌∷◌, ◌<◌, IfOk};
+ghost use Rattle.std.specs.Result.{result_err};
 ghost use Rattle.bplist_octets.specs.Meaning.{OnlyReads};
 ghost use Rattle.bplint_map.specs.Map.{IsVerdict};
 ghost use Rattle.bplist_objects.specs.Failures.{failed_to_read};
@@ -74,7 +75,7 @@ pub(crate) fn row_of<P: Framed>(
     left: &mut u64,
 ) -> Result<Row, ReadFault>
     requires { object.number < (frame_in (P.means src.old)).objects }
-    ensures reads { OnlyReads (is_err result) (P.means src.old) (P.means src.new) }
+    ensures reads { OnlyReads (result_err result) (P.means src.old) (P.means src.new) }
     ensures exact { HonestlyIn (P.means src.old) (λ f F. object ≡ placed f F object.number
         → (findings : ℕ → Finding) → AreFindings f F findings → IfOk result (λ row. (behind : List ℕ)
         → rows f F findings left.old (object.number ∷ behind) ≡ row ∷ rows f F findings left.new behind)) }
@@ -107,7 +108,7 @@ fn finding_of<P: Framed>(
     head: Head,
 ) -> Result<Finding, ReadFault>
     requires { IsSafeHead (frame_in (P.means src.old)) head }
-    ensures reads { OnlyReads (is_err result) (P.means src.old) (P.means src.new) }
+    ensures reads { OnlyReads (result_err result) (P.means src.old) (P.means src.new) }
     ensures exact { HonestlyIn (P.means src.old) (λ f F. object.place ≡ off f F object.number
         → HasShape f F object.number head → KeepsAll (KeepsByObject f F object.number) shape_rules
         → IfOk result (IsFinding f F object.number)) }

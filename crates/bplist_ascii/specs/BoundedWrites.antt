@@ -1,18 +1,19 @@
 -- What is put into a sink with a limited room. Source: profile.
-use Rattle.std.specs.Prelude.{◌≡◌, ℕ, ◌+◌, ◌/◌, ◌%◌, ◌≤◌, Bool, true, false, List, [], ◌∷◌, ◌++◌, length, slice_index, Option, Result, Err}
+use Rattle.std.specs.Prelude.{◌≡◌, ℕ, ◌+◌, ◌/◌, ◌%◌, ◌≤◌, Bool, true, false, List, [], ◌∷◌, ◌++◌, length, slice_index, Option, None, Some, Result, Err}
 use Rattle.std.specs.List.{list_all}
 use Rattle.hex.specs.Hex.{lower_digits}
 use Rattle.std.specs.Char.{is_ascii_alphanumeric}
 use Rattle.bplist_cursor.specs.Texts.{quoted_unit}
+use Rattle.bplist_octets.specs.declared.source.ReadFault.{ReadFault}
 use Rattle.bplist_octets.specs.Sending.{Sending, SendsSome, Takes, TakesPart, AtMost}
 use Rattle.bplist_ascii.specs.declared.printer.PrintFault.{PrintFault}
 use Rattle.bplist_ascii.specs.declared.printer.PrintFault.TheVariants.{Write, Read, Memory}
 use Rattle.bplist_ascii.specs.declared.printer.Style.{Style}
 use Rattle.bplist_ascii.specs.declared.printer.Style.TheVariants.{Unquoted, Quoted}
 
--- true if the result is a failed read
-abbrev pub print_read : {X : Type 0} → Result X PrintFault → Bool
-print_read answer = elim answer [ Err (Read _) ↦ true | _ ↦ false ]
+-- the fault of the failed read that the result is, if it is one
+abbrev pub print_read : {X : Type 0} → Result X PrintFault → Option ReadFault
+print_read answer = elim answer [ Err (Read fault) ↦ Some fault | _ ↦ None ]
 
 -- these bytes were put in, and `left` bytes of the room are left
 pub record Adds (old new : Option (List ℕ)) (before after : Sending) (room left : ℕ) (bytes : List ℕ) : Type 0 where

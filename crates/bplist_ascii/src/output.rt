@@ -1,6 +1,6 @@
 //! Puts bytes into a sink that has a limited room.
 
-ghost use Rattle.std.specs.Prelude.{◌≡◌, ◌<◌, ◌≤◌, false, true, length, flat_map, OnOk, IfErr, OnErr};
+ghost use Rattle.std.specs.Prelude.{◌≡◌, ◌<◌, ◌≤◌, None, true, length, flat_map, OnOk, IfErr, OnErr};
 ghost use Rattle.std.specs.List.{list_all};
 ghost use Rattle.bplist_ascii.specs.Prelude.{hex_digits, print_read, Adds, AddFails, FailsWithin, StaysWithin, styled};
 ghost use Rattle.bplist_ascii.specs.Prelude.{fits};
@@ -19,7 +19,7 @@ pub(crate) fn write<W: Write>(
     room: &mut u64,
     bytes: &[u8],
 ) -> Result<(), PrintFault>
-    ensures unread { print_read result ≡ false }
+    ensures unread { print_read result ≡ None }
     ensures adds { OnOk result (Adds (W.contents out.old) (W.contents out.new) sink.old sink.new room.old room.new bytes.now) }
     ensures fails { IfErr result (FailsWithin (W.contents out.old) (W.contents out.new) sink.old room.old bytes.now) }
     ensures bounded { OnErr result (StaysWithin (W.contents out.old) (W.contents out.new) sink.old room.old) }
@@ -41,7 +41,7 @@ fn write_unit<W: Write>(
     style: Style,
     unit: u16,
 ) -> Result<(), PrintFault>
-    ensures unread { print_read result ≡ false }
+    ensures unread { print_read result ≡ None }
     ensures adds { OnOk result (Adds (W.contents out.old) (W.contents out.new) sink.old sink.new room.old room.new (styled style unit)) }
     ensures fails { IfErr result (λ e. fits style unit ≡ true → length (styled style unit) ≤ room.old
         → AddFails (W.contents out.old) (W.contents out.new) sink.old (styled style unit) e) }
@@ -66,7 +66,7 @@ pub(crate) fn write_units<W: Write>(
     style: Style,
     units: &[u16],
 ) -> Result<(), PrintFault>
-    ensures unread { print_read result ≡ false }
+    ensures unread { print_read result ≡ None }
     ensures adds { OnOk result (Adds (W.contents out.old) (W.contents out.new) sink.old sink.new room.old room.new
         (flat_map (styled style) units.now)) }
     ensures fails { IfErr result (λ e. list_all (fits style) units.now ≡ true → length (flat_map (styled style) units.now) ≤ room.old
@@ -86,7 +86,7 @@ pub(crate) fn write_digits<W: Write>(
     room: &mut u64,
     bytes: &[u8],
 ) -> Result<(), PrintFault>
-    ensures unread { print_read result ≡ false }
+    ensures unread { print_read result ≡ None }
     ensures adds { OnOk result (Adds (W.contents out.old) (W.contents out.new) sink.old sink.new room.old room.new
         (flat_map hex_digits bytes.now)) }
     ensures fails { IfErr result (FailsWithin (W.contents out.old) (W.contents out.new) sink.old room.old

@@ -1,5 +1,5 @@
 -- The head of a vouched object, from call to call.
-use Rattle.std.proofs.Common.{arith, ◌≡◌, ◌≤◌, ◌∙◌, ℕ, IsTrue, false, Result, Ok, Err, ap, inl, inr, subst}
+use Rattle.std.proofs.Common.{arith, ◌≡◌, ◌≤◌, ◌∙◌, ℕ, IsTrue, None, Result, Ok, Err, ap, inl, inr, subst}
 use Rattle.std.proofs.lemmas.Bool.{cases_lt}
 use Rattle.std.proofs.lemmas.Grind.{not_there}
 use Rattle.bplist_objects.specs.declared.fault.ObjectFault.{ObjectFault}
@@ -18,7 +18,7 @@ abbrev pub IsHead : CheckedFile → ℕ → Result Head Status → Type 0
 IsHead checked n answer = OnObject checked n IsHeadOf (λ head found. found ≡ Ok head) answer
 
 -- if no read fails and no rule is broken, there is an answer
-pub never_refused : {X : Type 0} (P : X → Type 0) (r : Result X ObjectFault) (e : ObjectFault) → read_failed r ≡ false → Gives P Never r → r ≡ Err e → ⊥
+pub never_refused : {X : Type 0} (P : X → Type 0) (r : Result X ObjectFault) (e : ObjectFault) → read_failed r ≡ None → Gives P Never r → r ≡ Err e → ⊥
 never_refused P (Ok x) e read given is = cc is
 never_refused P (Err (errors.Fault x)) e read given is = given
 never_refused P (Err (errors.Read x)) e read given is = cc read

@@ -1,6 +1,7 @@
 -- A call that only reads a checked file keeps frame and certificate.
-use Rattle.std.proofs.Common.{◌≡◌, ℕ, List, [], ◌∷◌, ◌++◌, slice_index, slice_index_or, drop, Option, Some, None, Bool, true, false, refl, ap, ap₂, arith}
+use Rattle.std.proofs.Common.{◌≡◌, ℕ, List, [], ◌∷◌, ◌++◌, slice_index, slice_index_or, drop, Option, Some, None, refl, ap, ap₂, arith}
 use Rattle.std.specs.Option.{option_map_or}
+use Rattle.bplist_octets.specs.declared.source.ReadFault.{ReadFault}
 use Rattle.bplist_octets.specs.Meaning.{Meaning, OnlyReads}
 use Rattle.bplist_objects.specs.declared.frame.Frame.{Frame}
 use Rattle.bplist_objects.specs.Framed.{with_frame}
@@ -37,15 +38,16 @@ extra_same old new e =
     let keys = rest.0 in
     (rest.1, frame, λ i. record { heights = heights i; keys = keys i })
 
-pub stays : (failed : Bool) (old new : CheckedFile) → OnlyReads failed (meaning_of old) (meaning_of new)
+pub stays : (failed : Option ReadFault) (old new : CheckedFile) → OnlyReads failed (meaning_of old) (meaning_of new)
     → OnlyReads failed old.source new.source × (new.frame ≡ old.frame) × (new.certificate ≡ old.certificate)
-stays false old new e =
+stays None old new e =
     let b = extra_same old new (ap (λ (m : Meaning). m.extra) e) in
     let octets : new.source.octets ≡ old.source.octets = ap (λ (m : Meaning). m.octets) e in
     let honest : new.source.honest ≡ old.source.honest = ap (λ (m : Meaning). m.honest) e in
     let failures : new.source.failures ≡ old.source.failures = ap (λ (m : Meaning). m.failures) e in
+    let last : new.source.last ≡ old.source.last = ap (λ (m : Meaning). m.last) e in
     let extra = b.0 in
-    (λ i. record { octets = octets i; honest = honest i; failures = failures i; extra = extra i }, b.1, b.2)
-stays true old new e =
-    let b = extra_same old new e.extra in
-    (record { octets = e.octets; honest = e.honest; extra = b.0; rises = e.rises; stays_only_at_last = e.stays_only_at_last }, b.1, b.2)
+    (λ i. record { octets = octets i; honest = honest i; failures = failures i; last = last i; extra = extra i }, b.1, b.2)
+stays (Some fault) old new e =
+    let b = extra_same old new e.same.1.1 in
+    (record { same = (e.same.0, e.same.1.0, b.0); rises = e.rises; stays_only_at_last = e.stays_only_at_last; last = e.last }, b.1, b.2)

@@ -1,5 +1,6 @@
 -- What a refusal of the check says. Source: profile.
-use Rattle.std.specs.Prelude.{◌≡◌, Bool, true, false, Result, Err, MatchResult, Option, None}
+use Rattle.std.specs.Prelude.{◌≡◌, Result, Err, MatchResult, Option, None, Some}
+use Rattle.bplist_octets.specs.declared.source.ReadFault.{ReadFault}
 use Rattle.bplist_objects.specs.declared.fault.Fault.{Fault}
 use Rattle.bplist_objects.specs.declared.fault.ObjectFault.{ObjectFault}
 use Rattle.bplist_objects.specs.declared.fault.ObjectFault.TheVariants as errors
@@ -9,13 +10,13 @@ use Rattle.bplist_cert.specs.declared.refusal.Refusal.{Refusal}
 use Rattle.bplist_cert.specs.declared.refusal.Refusal.TheVariants as refusals
 use Rattle.bplist_cert.specs.Lists.{Keyed}
 
--- the refusal is a failed read
-abbrev pub is_read : Refusal → Bool
-is_read refusal = elim refusal [ refusals.Read _ ↦ true | _ ↦ false ]
+-- the fault of the failed read that the refusal is, if it is one
+abbrev pub is_read : Refusal → Option ReadFault
+is_read refusal = elim refusal [ refusals.Read fault ↦ Some fault | _ ↦ None ]
 
--- the answer is a failed read
-abbrev pub refused_read : {X : Type 0} → Result X Refusal → Bool
-refused_read answer = elim answer [ Err refusal ↦ is_read refusal | _ ↦ false ]
+-- the fault of the failed read that the result is, if it is one
+abbrev pub refused_read : {X : Type 0} → Result X Refusal → Option ReadFault
+refused_read answer = elim answer [ Err refusal ↦ is_read refusal | _ ↦ None ]
 
 -- Q holds of the fault, unless a read failed or memory was refused
 abbrev pub GivesRefusal : (Fault → Type 0) → Refusal → Type 0

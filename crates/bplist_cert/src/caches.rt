@@ -3,7 +3,8 @@
 //! file that have only bytes below 128, for rule 18: an Ascii text is not read again if many dictionaries name it, or if
 //! texts overlap.
 
-ghost use Rattle.std.specs.Prelude.{◌≡◌, ◌+◌, ◌*◌, ℕ, List, IsTrue, ◌↔◌, ◌≤◌, ◌<◌, length, IfOk, is_err};
+ghost use Rattle.std.specs.Prelude.{◌≡◌, ◌+◌, ◌*◌, ℕ, List, IsTrue, ◌↔◌, ◌≤◌, ◌<◌, length, IfOk};
+ghost use Rattle.std.specs.Result.{result_err};
 ghost use Rattle.bplist_cert.specs.Prelude.{Frame as frame, Ascends, AreKnown, OnlyReads, Honestly, IsLow, AreLow};
 
 use crate::long_keys::LongKeys;
@@ -97,7 +98,7 @@ impl LowBytesCache {
     ) -> Result<bool, ReadFault>
         requires order { from ≤ to }
         requires within { to ≤ length (S.means src.old).octets }
-        ensures reads { OnlyReads (is_err result) (S.means src.old) (S.means src.new) }
+        ensures reads { OnlyReads (result_err result) (S.means src.old) (S.means src.new) }
         ensures exact { Honestly (S.means src.old) (λ f. AreLow f self.old.slots
             → IfOk result (λ low. AreLow f self.new.slots × (IsTrue low ↔ IsLow f from to))) }
     {

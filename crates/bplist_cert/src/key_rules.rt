@@ -7,8 +7,9 @@
 //! they are read in blocks, but not if each key reads all three in turn. So `read_ahead` reads a block of references,
 //! and then the places of the objects that they name.
 
-ghost use Rattle.std.specs.Prelude.{◌≡◌, ◌↔◌, IsTrue, ◌+◌, ◌*◌, ◌<◌, length, IfOk, IfSome, MatchOption, Some, is_err};
+ghost use Rattle.std.specs.Prelude.{◌≡◌, ◌↔◌, IsTrue, ◌+◌, ◌*◌, ◌<◌, length, IfOk, IfSome, MatchOption, Some};
 ghost use Rattle.std.specs.Prelude.{None, OnOk, ◌≤◌};
+ghost use Rattle.std.specs.Result.{result_err};
 ghost use Rattle.bplist_cert.specs.Prelude.{OnlyReads, frame_in, HonestlyIn, IsSafeHead, Gives, read_failed, KeyKind};
 ghost use Rattle.bplist_cert.specs.Prelude.{Dict, Head as head_record, IsText, KeysAreTexts, IsKeylessFault, AreLow};
 ghost use Rattle.bplist_cert.specs.Prelude.{IsOffsetOf, AreOffsetsOf, ReferToTexts, IsFirstOther, HasHead};
@@ -59,7 +60,7 @@ fn is_text<P: Framed>(
     m: u64,
     place: u64,
 ) -> Result<bool, ReadFault>
-    ensures reads { OnlyReads (is_err result) (P.means src.old) (P.means src.new) }
+    ensures reads { OnlyReads (result_err result) (P.means src.old) (P.means src.new) }
     ensures exact { HonestlyIn (P.means src.old) (λ f F. AreLow f low.old.slots → IsOffsetOf f F m place
         → IfOk result (λ text. AreLow f low.new.slots × (IsTrue text ↔ ((key : head_record) × IsText f F m key)))) }
 {
@@ -85,7 +86,7 @@ fn first_other<P: Framed>(
     offsets: &[u64],
 ) -> Result<Option<usize>, ReadFault>
     requires { length offsets.now ≡ length refs.now }
-    ensures reads { OnlyReads (is_err result) (P.means src.old) (P.means src.new) }
+    ensures reads { OnlyReads (result_err result) (P.means src.old) (P.means src.new) }
     ensures exact { HonestlyIn (P.means src.old) (λ f F. AreLow f low.old.slots
         → AreOffsetsOf f F refs.now offsets.now (length refs.now) → IfOk result (λ found. AreLow f low.new.slots
         × MatchOption found (ReferToTexts f F refs.now (length refs.now)) (IsFirstOther f F refs.now))) }
@@ -111,7 +112,7 @@ fn read_ahead<P: Offsets>(
     requires head { IsSafeHead (frame_in (P.means src.old)) head.now }
     requires within { from + length refs.old ≤ ref_count head.now.kind head.now.count }
     requires many { length found.old ≡ length refs.old }
-    ensures reads { OnlyReads (is_err result) (P.means src.old) (P.means src.new) }
+    ensures reads { OnlyReads (result_err result) (P.means src.old) (P.means src.new) }
     ensures refs { OnOk result (HonestlyIn (P.means src.old) (λ f F. AreRefs f F head.now from refs.new)) }
     ensures found { OnOk result (HonestlyIn (P.means src.old) (λ f F. AreOffsetsOf f F refs.new found.new (length refs.new))) }
 {

@@ -1,6 +1,7 @@
 //! Laws about the definitions in specs/. Each law is the contract of a function that does nothing.
 
-ghost use Rattle.std.specs.Prelude.{◌≡◌, ◌⊎◌, ℕ, ◌<◌, List, length, slice_index, Bool};
+ghost use Rattle.std.specs.Prelude.{◌≡◌, ◌⊎◌, ℕ, ◌<◌, List, length, slice_index, Option};
+ghost use Rattle.bplist_octets.specs.declared.source.ReadFault.{ReadFault};
 ghost use Rattle.bplist_cert.specs.Prelude.{OnlyReads, Fault as fault, Frame as frame, Head as head, Value, Content};
 ghost use Rattle.bplist_cert.specs.Prelude.{Spells, Holds, Chain, Reach, Refs, Lists, IsCertificate, octets_of, refs};
 ghost use Rattle.bplist_cert.specs.Prelude.{IsVouchedBy, IsValid, HoldsOneValue, SpellsText, IsSorted, IsAccepted};
@@ -81,6 +82,6 @@ pub fn yes_or_fault()
 
 /// A call that only reads a checked file keeps its frame and its certificate, and only reads its source.
 pub fn checked_stays()
-    ensures { (failed : Bool) (old new : CheckedFile) → OnlyReads failed (meaning_of old) (meaning_of new)
+    ensures { (failed : Option ReadFault) (old new : CheckedFile) → OnlyReads failed (meaning_of old) (meaning_of new)
         → OnlyReads failed old.source new.source × (new.frame ≡ old.frame) × (new.certificate ≡ old.certificate) }
 {}

@@ -5,7 +5,8 @@
 //! most thirteen others, once, and gets a rank. From then on its pairs are compared by their ranks. The table has a
 //! fixed size, because a check with key lists takes no memory.
 
-ghost use Rattle.std.specs.Prelude.{◌≡◌, ◌<◌, ◌≤◌, ℕ, List, IfOk, IfSome, is_err, length, slice_index};
+ghost use Rattle.std.specs.Prelude.{◌≡◌, ◌<◌, ◌≤◌, ℕ, List, IfOk, IfSome, length, slice_index};
+ghost use Rattle.std.specs.Result.{result_err};
 ghost use Rattle.bplist_cert.specs.Prelude.{Frame as frame, OnlyReads, HonestlyIn, frame_in, AreRuns, IsSafeText};
 ghost use Rattle.bplist_cert.specs.Prelude.{text_units, compare_units, AreRanked, FitsBefore, FitsRank, HasRank, IsPlace};
 ghost use Rattle.bplist_cert.specs.Prelude.{IsRaised, IsRankedAs, IsTextKey};
@@ -129,7 +130,7 @@ impl LongKeys {
         key: &TextKey,
     ) -> Result<Option<Ordering>, ReadFault>
         requires { IsSafeText (length (P.means src.old).octets) key.now.head }
-        ensures reads { OnlyReads (is_err result) (P.means src.old) (P.means src.new) }
+        ensures reads { OnlyReads (result_err result) (P.means src.old) (P.means src.new) }
         ensures exact { HonestlyIn (P.means src.old) (λ f F. AreRuns f runs.old.slots → IsTextKey f F key.now
             → IfOk result (λ found. AreRuns f runs.new.slots × IfSome found (λ o.
             (m : ℕ) × HasRank self.now m rank × (compare_units (text_units f F m) (text_units f F key.now.object) ≡ o)))) }
@@ -157,7 +158,7 @@ impl LongKeys {
     ) -> Result<Option<Place>, ReadFault>
         requires key { IsSafeText (length (P.means src.old).octets) key.now.head }
         requires room { self.now.top < 3071 }
-        ensures reads { OnlyReads (is_err result) (P.means src.old) (P.means src.new) }
+        ensures reads { OnlyReads (result_err result) (P.means src.old) (P.means src.new) }
         ensures exact { HonestlyIn (P.means src.old) (λ f F. AreRuns f runs.old.slots → AreRanked f F self.now
             → IsTextKey f F key.now → IfOk result (λ found. AreRuns f runs.new.slots
             × IfSome found (IsPlace f F self.now key.now.object))) }
@@ -216,7 +217,7 @@ impl LongKeys {
         guess: u16,
     ) -> Result<(), ReadFault>
         requires { IsSafeText (length (P.means src.old).octets) key.now.head }
-        ensures reads { OnlyReads (is_err result) (P.means src.old) (P.means src.new) }
+        ensures reads { OnlyReads (result_err result) (P.means src.old) (P.means src.new) }
         ensures exact { HonestlyIn (P.means src.old) (λ f F. AreRuns f runs.old.slots → AreRanked f F self.old
             → IsTextKey f F key.now → IfOk result (λ _. AreRuns f runs.new.slots × AreRanked f F self.new)) }
     {
@@ -249,7 +250,7 @@ impl LongKeys {
     ) -> Result<Option<Ordering>, ReadFault>
         requires first { IsSafeText (length (P.means src.old).octets) a.now.head }
         requires second { IsSafeText (length (P.means src.old).octets) b.now.head }
-        ensures reads { OnlyReads (is_err result) (P.means src.old) (P.means src.new) }
+        ensures reads { OnlyReads (result_err result) (P.means src.old) (P.means src.new) }
         ensures exact { HonestlyIn (P.means src.old) (λ f F. AreRuns f runs.old.slots → AreRanked f F self.old
             → IsTextKey f F a.now → IsTextKey f F b.now → IfOk result (λ found. AreRuns f runs.new.slots
             × AreRanked f F self.new × IfSome found (IsRankedAs f F a.now.object b.now.object))) }

@@ -1,5 +1,5 @@
 -- What the certificate of a checked file says about the object that a path leads to.
-use Rattle.std.proofs.Common.{arith, ◌≡◌, ◌<◌, ◌≤◌, ◌+◌, ℕ, zero, suc, List, [], ◌∷◌, length, map, drop, slice_index_or, Result, Ok, Err, refl, sym, ap, ◌∙◌, subst, IsTrue, Contains, true, false}
+use Rattle.std.proofs.Common.{arith, ◌≡◌, ◌<◌, ◌≤◌, ◌+◌, ℕ, zero, suc, List, [], ◌∷◌, length, map, drop, slice_index_or, Result, Ok, Err, refl, sym, ap, ◌∙◌, subst, IsTrue, Contains, Some, None}
 use Rattle.std.proofs.Props.{props}
 use Rattle.std.proofs.lemmas.Grind.{not_there}
 use Rattle.std.proofs.Math.Logic.{∥∥₁_map, ∥∥₁_elim}
@@ -178,6 +178,6 @@ no_step v s why is = ap (λ x. on_either x (λ w. look 1 w []) (λ why. Err (0, 
 pub never_read : (old new : CheckedFile) (e : Unread) → OnlyReadsFile (read_failed {X = ⊤} (Err e)) old new → new.source.failures ≡ 0 → IsUnread e → ⊥
 never_read old new (unread.Read x) k z h =
     let before : old.source.failures ≡ 0 = omega (arith, k.0.rises, z) in
-    let no_read : true ≡ false = never_fails true old.source new.source before z k.0 in
+    let no_read : Some x ≡ None = never_fails (Some x) old.source new.source before z k.0 in
     cc no_read
 never_read old new unread.Changed k z h = h refl

@@ -1,5 +1,5 @@
 -- Bodies of bytes of an object that a checked file vouches for.
-use Rattle.std.proofs.Common.{◌≡◌, ◌⊎◌, inl, inr, ℕ, List, false, IsTrue, Result, Ok, Err, refl, subst}
+use Rattle.std.proofs.Common.{◌≡◌, ◌⊎◌, inl, inr, ℕ, List, None, IsTrue, Result, Ok, Err, refl, subst}
 use Rattle.std.proofs.Props.{props}
 use Rattle.std.proofs.Math.Logic.{∥∥₁_elim}
 use Rattle.bplist_octets.specs.Octets.{part}
@@ -24,7 +24,7 @@ abbrev IsByteKind : Kind → Type 0
 IsByteKind kind = (kind ≡ kinds.Bytes) ⊎ (kind ≡ kinds.Ascii)
 
 -- if no read failed and there is no fault, there is an answer
-pub no_error : {X : Type 0} (P : X → Type 0) (r : Result X ObjectFault) → read_failed r ≡ false → Gives P Never r → ((x : X) → r ≡ Ok x → ⊥) → ⊥
+pub no_error : {X : Type 0} (P : X → Type 0) (r : Result X ObjectFault) → read_failed r ≡ None → Gives P Never r → ((x : X) → r ≡ Ok x → ⊥) → ⊥
 no_error P (Ok x) read given none = none x refl
 no_error P (Err (errors.Fault x)) read given none = given
 no_error P (Err (errors.Read x)) read given none = cc read

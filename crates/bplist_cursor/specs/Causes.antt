@@ -1,17 +1,18 @@
 -- What a call of the cursor returns. Source: profile.
-use Rattle.std.specs.Prelude.{◌≢◌, Result, MatchResult, Err, Bool, true, false}
+use Rattle.std.specs.Prelude.{◌≢◌, Result, MatchResult, Err, Option, None, Some}
+use Rattle.bplist_octets.specs.declared.source.ReadFault.{ReadFault}
 use Rattle.bplist_cursor.specs.declared.faults.Unread.{Unread}
 use Rattle.bplist_cursor.specs.declared.faults.Unread.TheVariants as unread
 use Rattle.bplist_cursor.specs.declared.faults.CursorFault.{CursorFault}
 use Rattle.bplist_cursor.specs.declared.faults.CursorFault.TheVariants as faults
 
--- a read has failed, for `Unread`
-abbrev pub read_failed : {X : Type 0} → Result X Unread → Bool
-read_failed answer = elim answer [ Err (unread.Read _) ↦ true | _ ↦ false ]
+-- the fault of the failed read that the result is, if it is one, for `Unread`
+abbrev pub read_failed : {X : Type 0} → Result X Unread → Option ReadFault
+read_failed answer = elim answer [ Err (unread.Read fault) ↦ Some fault | _ ↦ None ]
 
--- a read has failed, for `CursorFault`
-abbrev pub cursor_read : {X : Type 0} → Result X CursorFault → Bool
-cursor_read answer = elim answer [ Err (faults.Read _) ↦ true | _ ↦ false ]
+-- the same for `CursorFault`
+abbrev pub cursor_read : {X : Type 0} → Result X CursorFault → Option ReadFault
+cursor_read answer = elim answer [ Err (faults.Read fault) ↦ Some fault | _ ↦ None ]
 
 -- P holds of what was read, or the error is not `Changed`
 abbrev pub GivesRead : {X : Type 0} → (X → Type 0) → Result X Unread → Type 0

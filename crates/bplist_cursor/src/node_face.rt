@@ -89,7 +89,7 @@ fn face_by_head<S: Source>(
 ///
 /// Errors: `Changed` if the certificate does not vouch for the object, or the source gives other bytes than those that
 /// were checked; `Read` if a read of the source failed; `Memory` if the allocation of that Vec was refused. After an
-/// error the `Checked` is as before, except for its source's count of failures.
+/// error the `Checked` is as before, except for what its source says of failed reads.
 pub fn face<S: Source>(
     alloc: Global,
     checked: &mut Checked<S>,

@@ -1,6 +1,7 @@
 //! Reads the beginning and the end of a file, and finds what it looks like.
 
-ghost use Rattle.std.specs.Prelude.{◌≡◌, ◌+◌, ◌≤◌, ◌<◌, IfOk, IfSome, length, is_err};
+ghost use Rattle.std.specs.Prelude.{◌≡◌, ◌+◌, ◌≤◌, ◌<◌, IfOk, IfSome, length};
+ghost use Rattle.std.specs.Result.{result_err};
 ghost use Rattle.bplist_octets.specs.Meaning.{OnlyReads};
 ghost use Rattle.bplist_hints.specs.Hints.{FitsLength};
 
@@ -23,7 +24,7 @@ const SHORTEST: u64 = 40;
 /// The call reads the first 4,096 bytes and the last 4,096. It reads more only where these are zeros alone, up to the
 /// next byte that is not zero.
 pub fn hint_of<S: Source>(src: &mut S) -> Result<Option<Hint>, ReadFault>
-    ensures reads { OnlyReads (is_err result) (S.means src.old) (S.means src.new) }
+    ensures reads { OnlyReads (result_err result) (S.means src.old) (S.means src.new) }
     ensures fits { IfOk result (λ hint. IfSome hint (FitsLength (length (S.means src.old).octets))) }
 {
     let mut octets = [0u8; SAMPLE];
@@ -40,7 +41,7 @@ pub fn hint_of<S: Source>(src: &mut S) -> Result<Option<Hint>, ReadFault>
 
 /// Returns what a file looks like that begins with zeros, or is empty.
 fn zeros_in<S: Source>(src: &mut S) -> Result<Option<Hint>, ReadFault>
-    ensures reads { OnlyReads (is_err result) (S.means src.old) (S.means src.new) }
+    ensures reads { OnlyReads (result_err result) (S.means src.old) (S.means src.new) }
     ensures fits { IfOk result (λ hint. IfSome hint (FitsLength (length (S.means src.old).octets))) }
 {
     if src.len() == 0 {
@@ -54,7 +55,7 @@ fn zeros_in<S: Source>(src: &mut S) -> Result<Option<Hint>, ReadFault>
 
 /// Returns the damage of a file that begins with `bplist00`, of which `front` are the first bytes.
 fn damage_in<S: Source>(src: &mut S, front: &[u8]) -> Result<Option<Hint>, ReadFault>
-    ensures reads { OnlyReads (is_err result) (S.means src.old) (S.means src.new) }
+    ensures reads { OnlyReads (result_err result) (S.means src.old) (S.means src.new) }
     ensures fits { IfOk result (λ hint. IfSome hint (FitsLength (length (S.means src.old).octets))) }
 {
     match trailer_of(src) {
@@ -71,7 +72,7 @@ fn damage_in<S: Source>(src: &mut S, front: &[u8]) -> Result<Option<Hint>, ReadF
 /// Reads the end of a file of 40 bytes or more, and returns the damage.
 fn sampled<S: Source>(src: &mut S, front: &[u8]) -> Result<Option<Hint>, ReadFault>
     requires { 40 ≤ length (S.means src.old).octets }
-    ensures reads { OnlyReads (is_err result) (S.means src.old) (S.means src.new) }
+    ensures reads { OnlyReads (result_err result) (S.means src.old) (S.means src.new) }
     ensures fits { IfOk result (λ hint. IfSome hint (FitsLength (length (S.means src.old).octets))) }
 {
     let length = src.len();
@@ -107,7 +108,7 @@ fn tail_end(length: u64, zeros: u64) -> u64
 
 /// Returns the place behind the last byte that is not zero, or 0 if there is none.
 fn content_end<S: Source>(src: &mut S) -> Result<u64, ReadFault>
-    ensures reads { OnlyReads (is_err result) (S.means src.old) (S.means src.new) }
+    ensures reads { OnlyReads (result_err result) (S.means src.old) (S.means src.new) }
     ensures within { IfOk result (λ end. end ≤ length (S.means src.old).octets) }
 {
     let mut end = src.len();

@@ -1,6 +1,7 @@
 -- The one walk over the reached objects: what it knows between two visits, and at its end. Source: profile.
 use Rattle.std.specs.Prelude.{◌≡◌, ◌≢◌, ◌⊎◌, ◌↔◌, ℕ, ◌-◌, ◌<◌, ◌≤◌, Bool, true, false, All, List, length, slice_index, vec_len, Contains, Option, Some, None, Result, Ok, Err, sum_by, filter}
 use Rattle.std.specs.List.{range_with_len}
+use Rattle.bplist_octets.specs.declared.source.ReadFault.{ReadFault}
 use Rattle.bplist_objects.specs.declared.fault.ObjectFault.{ObjectFault}
 use Rattle.bplist_objects.specs.declared.fault.ObjectFault.TheVariants as object_faults
 use Rattle.bplist_objects.specs.declared.frame.Frame.{Frame}
@@ -31,14 +32,14 @@ abbrev pub of_object : ObjectFault → Stop
 of_object (object_faults.Fault _) = stops.Trouble
 of_object (object_faults.Read error) = stops.Read error
 
--- the walk met a failed read
-abbrev pub stopped_by_read : Stop → Bool
-stopped_by_read (stops.Read _) = true
-stopped_by_read _ = false
+-- the fault of the failed read that stopped the walk, if one did
+abbrev pub stopped_by_read : Stop → Option ReadFault
+stopped_by_read (stops.Read fault) = Some fault
+stopped_by_read _ = None
 
--- a read has failed
-abbrev pub stop_failed : {X : Type 0} → Result X Stop → Bool
-stop_failed (Ok x) = false
+-- the fault of the failed read that the result is, if it is one
+abbrev pub stop_failed : {X : Type 0} → Result X Stop → Option ReadFault
+stop_failed (Ok x) = None
 stop_failed (Err stop) = stopped_by_read stop
 
 -- ---- whatever the source gives

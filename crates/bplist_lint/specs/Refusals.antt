@@ -1,13 +1,14 @@
 -- What a refusal of the linter says. Source: profile.
-use Rattle.std.specs.Prelude.{ℕ, Bool, true, false, List, map, Result, Err, MatchResult}
+use Rattle.std.specs.Prelude.{ℕ, List, map, Option, None, Some, Result, Err, MatchResult}
+use Rattle.bplist_octets.specs.declared.source.ReadFault.{ReadFault}
 use Rattle.bplist_objects.specs.declared.fault.Fault.{Fault}
 use Rattle.bplist_lint.specs.declared.answer.LintRefusal.{LintRefusal}
 use Rattle.bplist_lint.specs.declared.answer.LintRefusal.TheVariants as refusals
 use Rattle.bplist_lint.specs.Trail.{number}
 
--- the answer is a failed read
-abbrev pub lint_failed : {X : Type 0} → Result X LintRefusal → Bool
-lint_failed answer = elim answer [ Err (refusals.Read _) ↦ true | _ ↦ false ]
+-- the fault of the failed read that the result is, if it is one
+abbrev pub lint_failed : {X : Type 0} → Result X LintRefusal → Option ReadFault
+lint_failed answer = elim answer [ Err (refusals.Read fault) ↦ Some fault | _ ↦ None ]
 
 -- P holds of the answer, Q of the fault or R of the circle, unless a read failed or memory was refused
 abbrev pub Lints : {X : Type 0} → (X → Type 0) → (Fault → Type 0) → (List ℕ → Type 0) → Result X LintRefusal → Type 0

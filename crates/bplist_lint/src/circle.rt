@@ -1,7 +1,8 @@
 //! Finds the circle that keeps the top from being founded.
 
 ghost use Rattle.std.specs.Prelude.{◌≡◌, ◌<◌, ◌≤◌, IsTrue, drop, map, length, slice_index, Contains, IfOk, IfSome};
-ghost use Rattle.std.specs.Prelude.{MatchOption, is_err};
+ghost use Rattle.std.specs.Prelude.{MatchOption};
+ghost use Rattle.std.specs.Result.{result_err};
 ghost use Rattle.bplist_lint.specs.Prelude.{OnlyReads, Judges, Never, refused_read, IsWhole, AreWhole, AreObjects};
 ghost use Rattle.bplist_lint.specs.Prelude.{AreLeast, IsFirstWithout, IsCircleOf, number, object, AllHave};
 ghost use Rattle.bplist_lint.specs.Prelude.{IsFirstIndex};
@@ -37,7 +38,7 @@ fn first_without<R: References>(
     requires n_in { n < (R.graph graph.old).size }
     requires all_heights { length heights.now ≡ (R.graph graph.old).size }
     ensures same { R.graph graph.new ≡ R.graph graph.old }
-    ensures reads { OnlyReads (is_err result) (R.means graph.old) (R.means graph.new) }
+    ensures reads { OnlyReads (result_err result) (R.means graph.old) (R.means graph.new) }
     ensures inside { IfOk result (λ m. IfSome m (λ m. m < (R.graph graph.old).size)) }
     ensures first { IsTrue (R.means graph.old).honest → IsWhole (R.graph graph.old) n → IfOk result (λ m. let references = (R.graph graph.old).refs n in
         MatchOption m

@@ -5,7 +5,7 @@
 //! class, and a key without a class is not a text. A key list has the positions of a dictionary's keys, sorted by the
 //! ranks of their texts. Ranks are classes in the order of the texts.
 
-ghost use Rattle.std.specs.Prelude.{◌≡◌, ◌+◌, ◌^◌, ◌<◌, ◌++◌, [], ℕ, ⊤, false, OnOk, length, slice_index, ◌↔◌};
+ghost use Rattle.std.specs.Prelude.{◌≡◌, ◌+◌, ◌^◌, ◌<◌, ◌++◌, [], ℕ, ⊤, None, OnOk, length, slice_index, ◌↔◌};
 ghost use Rattle.bplist_lint.specs.Prelude.{OnlyReads, frame_in, HonestlyIn, IsSafeHead, Dict, ref, failed_to_read};
 ghost use Rattle.bplist_lint.specs.Prelude.{ranks_in, positions_in, AreRanked, AreAbove, HaveRanks, IsListed, Upgrades};
 ghost use Rattle.bplist_lint.specs.Prelude.{upgrade_failed, Reach, KeepsAll, KeepsByObject, object_rules, HasHead};
@@ -120,7 +120,7 @@ fn rank_keys<P: Framed>(
 
 /// Appends the positions of sorted keys. Returns `Changed` if a key has no rank, or the same rank as another key.
 fn push_positions(keys: &[RankedKey], positions: &mut Vec<u32>) -> Result<(), UpgradeFault>
-    ensures read { upgrade_failed result ≡ false }
+    ensures read { upgrade_failed result ≡ None }
     ensures pushed { OnOk result (positions.new.items ≡ positions.old.items ++ positions_in keys.now) }
     ensures exact { AreAbove (ranks_in keys.now) → Upgrades (λ _. ⊤) result }
 {

@@ -227,8 +227,8 @@ pub fn lint_with_kind<S: Source>(alloc: Global, src: &mut S) -> Result<(Lint, Ki
 /// or a circle no heights are valid for the file.
 ///
 /// The place of a fault counts from the file's first byte. Errors other than a fault: `Read` if a read of the source
-/// failed; `Memory` if an allocation was refused. After an error the source is as before, except for its count of
-/// failures. Over a source that is not honest, any answer may come.
+/// failed; `Memory` if an allocation was refused. After an error the source is as before, except for what it
+/// says of failed reads. Over a source that is not honest, any answer may come.
 ///
 /// The reads alternate between a few places. To read a file, put `Panes` around it.
 pub fn lint<S: Source>(alloc: Global, src: &mut S) -> Result<Lint, LintRefusal>

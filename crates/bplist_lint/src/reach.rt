@@ -1,8 +1,9 @@
 //! Finds the objects that the top reaches. The linter needs this only if the quick walk meets a fault. Arrays may overlap
 //! in such a file, so the reference at each place is followed once, however many arrays it is part of.
 
-ghost use Rattle.std.specs.Prelude.{◌≡◌, ◌↔◌, ℕ, ◌+◌, ◌≤◌, ◌<◌, true, false, not, IsTrue, IfOk, OnOk, is_err};
+ghost use Rattle.std.specs.Prelude.{◌≡◌, ◌↔◌, ℕ, ◌+◌, ◌≤◌, ◌<◌, true, false, not, IsTrue, IfOk, OnOk};
 ghost use Rattle.std.specs.Prelude.{replicate, count_by, vec_len};
+ghost use Rattle.std.specs.Result.{result_err};
 ghost use Rattle.bplist_lint.specs.Prelude.{OnlyReads, frame_in, HonestlyIn, content_at, refs, Reach, IsSafeHead};
 ghost use Rattle.bplist_lint.specs.Prelude.{ref_count, AreBelow, failed_to_read, IsMarked, HasMarks, place_index};
 ghost use Rattle.bplist_lint.specs.Prelude.{index_count, IsReady, AreGood, AreFollowed, Looked, Searching};
@@ -77,7 +78,7 @@ fn place_index<P: Framed>(src: &P, place: u64) -> u64
 fn are_good<P: Framed>(src: &mut P, head: &Head, good: &mut BitSet) -> Result<bool, ReadFault>
     requires head { IsSafeHead (frame_in (P.means src.old)) head.now }
     requires size { good.old.size ≡ index_count (frame_in (P.means src.old)) }
-    ensures reads { OnlyReads (is_err result) (P.means src.old) (P.means src.new) }
+    ensures reads { OnlyReads (result_err result) (P.means src.old) (P.means src.new) }
     ensures size { good.new.size ≡ good.old.size }
     ensures good { HonestlyIn (P.means src.old) (λ f F. AreGood f F good.old.words.items → AreGood f F good.new.words.items) }
     ensures exact { HonestlyIn (P.means src.old) (λ f F. AreGood f F good.old.words.items

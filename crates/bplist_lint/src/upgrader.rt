@@ -75,7 +75,7 @@ fn list_vouched<P: Offsets>(
 ///
 /// Errors: `Read` if a read of the source failed; `Memory` if an allocation was refused; `Changed` if the source gives
 /// other bytes than when it was checked, which an honest one never does. The checked file stays as it was, except for
-/// its source's count of failures.
+/// what its source says of failed reads.
 pub fn upgrade<S: Source>(
     alloc: Global,
     checked: &mut Checked<S>,

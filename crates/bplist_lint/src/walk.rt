@@ -1,6 +1,6 @@
 //! Checks all reached objects in one quick walk, which succeeds if none of them breaks a rule and all have room.
 
-ghost use Rattle.std.specs.Prelude.{◌≡◌, ◌≢◌, ◌↔◌, ℕ, ◌+◌, ◌≤◌, ◌<◌, [], ◌∷◌, ◌++◌, not, IsTrue, false, IfOk, IfSome};
+ghost use Rattle.std.specs.Prelude.{◌≡◌, ◌≢◌, ◌↔◌, ℕ, ◌+◌, ◌≤◌, ◌<◌, [], ◌∷◌, ◌++◌, not, IsTrue, None, IfOk, IfSome};
 ghost use Rattle.std.specs.Prelude.{OnOk, count_by, length, slice_index, vec_len};
 ghost use Rattle.bplist_lint.specs.Prelude.{OnlyReads, ObjectFault as object_fault, frame_in, HonestlyIn, content_at};
 ghost use Rattle.bplist_lint.specs.Prelude.{refs, IsSafeHead, ref_count, AreBelow, ref, Dict, failed_to_read, IsMarked};
@@ -103,7 +103,7 @@ pub struct Reached {
 fn mark_block(frame: &Frame, numbers: &[u64], worklist: &mut Worklist) -> Result<(), Stop>
     requires steady { IsSteady frame.now.objects worklist.old }
     ensures steady { OnOk result (IsSteady frame.now.objects worklist.new) }
-    ensures reads { stop_failed result ≡ false }
+    ensures reads { stop_failed result ≡ None }
     ensures current { worklist.new.current ≡ worklist.old.current }
     ensures work { OnOk result (count_by not worklist.new.marks.items + vec_len worklist.new.stack
         ≤ count_by not worklist.old.marks.items + vec_len worklist.old.stack) }

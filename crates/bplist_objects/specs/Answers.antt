@@ -1,12 +1,13 @@
 -- What a call that reads returns. Source: profile.
-use Rattle.std.specs.Prelude.{Result, Err, MatchResult, Bool, true, false}
+use Rattle.std.specs.Prelude.{Result, Err, MatchResult, Option, None, Some}
+use Rattle.bplist_octets.specs.declared.source.ReadFault.{ReadFault}
 use Rattle.bplist_objects.specs.declared.fault.Fault.{Fault}
 use Rattle.bplist_objects.specs.declared.fault.ObjectFault.{ObjectFault}
 use Rattle.bplist_objects.specs.declared.fault.ObjectFault.TheVariants as errors
 
--- the result is a failed read
-abbrev pub read_failed : {X : Type 0} → Result X ObjectFault → Bool
-read_failed answer = elim answer [ Err (errors.Read _) ↦ true | _ ↦ false ]
+-- the fault of the failed read that the result is, if it is one
+abbrev pub read_failed : {X : Type 0} → Result X ObjectFault → Option ReadFault
+read_failed answer = elim answer [ Err (errors.Read fault) ↦ Some fault | _ ↦ None ]
 
 -- Q holds of the fault, unless the error is a failed read
 abbrev pub GivesFault : (Fault → Type 0) → ObjectFault → Type 0

@@ -1,6 +1,7 @@
 //! The frame of a file (the five numbers of its trailer), by rules 1 to 13.
 
-ghost use Rattle.std.specs.Prelude.{◌≡◌, ℕ, ◌^◌, ◌≤◌, ◌<◌, List, length, IfOk, MatchResult, is_err};
+ghost use Rattle.std.specs.Prelude.{◌≡◌, ℕ, ◌^◌, ◌≤◌, ◌<◌, List, length, IfOk, MatchResult};
+ghost use Rattle.std.specs.Result.{result_err};
 ghost use Rattle.bplist_objects.specs.Prelude.{OnlyReads, Honestly, trailer as spelled, Keeps, IsFrame, number_rules};
 ghost use Rattle.bplist_objects.specs.Prelude.{trailer_rules, KeepsAll, IsFirstFault, Breaks, IsFrameFault};
 ghost use Rattle.bplist_objects.specs.Prelude.{IsSafeFrame, frame_of_trailer, Magic, Frame as frame, Gives, Never};
@@ -129,7 +130,7 @@ fn frame_by(trailer: &Trailer, len: u64) -> Result<Frame, Fault>
 fn read_trailer<S: Source>(src: &mut S, len: u64) -> Result<Trailer, ReadFault>
     requires all { len ≡ length (S.means src.old).octets }
     requires room { 32 ≤ len }
-    ensures reads { OnlyReads (is_err result) (S.means src.old) (S.means src.new) }
+    ensures reads { OnlyReads (result_err result) (S.means src.old) (S.means src.new) }
     ensures numbers { IfOk result (λ trailer. Honestly (S.means src.old) (λ f. spelled f ≡ frame_of_trailer trailer)) }
 {
     let mut octets = [0u8; 32];

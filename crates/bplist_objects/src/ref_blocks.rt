@@ -1,7 +1,8 @@
 //! The references of an object, block by block.
 
-ghost use Rattle.std.specs.Prelude.{◌≡◌, ◌≤◌, ◌<◌, ◌+◌, ℕ, IfOk, OnOk, OnErr, IsTrue, is_err, false, length};
+ghost use Rattle.std.specs.Prelude.{◌≡◌, ◌≤◌, ◌<◌, ◌+◌, ℕ, IfOk, OnOk, OnErr, IsTrue, false, length};
 ghost use Rattle.std.specs.Prelude.{slice_index, take};
+ghost use Rattle.std.specs.Result.{result_err};
 ghost use Rattle.bplist_objects.specs.Safe.{IsSafeHead, ref_count};
 ghost use Rattle.bplist_objects.specs.Framed.{HonestlyIn, frame_in};
 ghost use Rattle.bplist_objects.specs.Scan.{ref};
@@ -45,7 +46,7 @@ fn read_front<P: Framed>(
     requires head { IsSafeHead (frame_in (P.means src.old)) head.now }
     requires within { from + count ≤ ref_count head.now.kind head.now.count }
     requires room { count ≤ length into.old }
-    ensures reads { OnlyReads (is_err result) (P.means src.old) (P.means src.new) }
+    ensures reads { OnlyReads (result_err result) (P.means src.old) (P.means src.new) }
     ensures numbers { HonestlyIn (P.means src.old) (λ f F. OnOk result ((k : ℕ) → k < count
         → slice_index (take count into.new) k ≡ ref f F head.now (from + k))) }
 {
@@ -93,7 +94,7 @@ impl RefBlocks {
     #[inline(always)]
     pub fn read<P: Framed>(&mut self, src: &mut P) -> Result<bool, ReadFault>
         requires { IsSafeHead (frame_in (P.means src.old)) self.old.head }
-        ensures reads { OnlyReads (is_err result) (P.means src.old) (P.means src.new) }
+        ensures reads { OnlyReads (result_err result) (P.means src.old) (P.means src.new) }
         ensures same { AreOf self.old.head self.old.bound self.new }
         ensures stays { OnErr result (self.new.next ≡ self.old.next) }
         ensures next { IfOk result (λ more. IsTrue more

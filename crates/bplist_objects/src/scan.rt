@@ -3,7 +3,8 @@
 //! For most leaves the marker is enough: it gives the size, and no rule is about the body. What may be too high is
 //! searched block by block: the offset table (rule 13), texts of one byte a unit (rule 18) and references (rule 20).
 
-ghost use Rattle.std.specs.Prelude.{◌≡◌, ◌<◌, IfOk, ◌+◌, ◌*◌, ◌≤◌, length, IsTrue, IfSome, MatchOption, is_err};
+ghost use Rattle.std.specs.Prelude.{◌≡◌, ◌<◌, IfOk, ◌+◌, ◌*◌, ◌≤◌, length, IsTrue, IfSome, MatchOption};
+ghost use Rattle.std.specs.Result.{result_err};
 ghost use Rattle.bplist_objects.specs.Prelude.{OnlyReads, frame_in, HonestlyIn, off, Gives, read_failed};
 ghost use Rattle.bplist_objects.specs.Prelude.{IsObjectFault, shape_rules, IsVisited, IsSafeVisit};
 ghost use Rattle.bplist_objects.specs.Prelude.{Honestly, AreBelow, IsFirstNotBelow};
@@ -113,7 +114,7 @@ fn first_by_blocks<const ROOM: usize, S: Source>(
     requires some { 8 ≤ ROOM }
     requires fits { ROOM ≤ 4096 }
     requires within { place + count * width.bytes ≤ length (S.means src.old).octets }
-    ensures reads { OnlyReads (is_err result) (S.means src.old) (S.means src.new) }
+    ensures reads { OnlyReads (result_err result) (S.means src.old) (S.means src.new) }
     ensures found { IfOk result (λ found. Honestly (S.means src.old)
         (λ f. MatchOption found (AreBelow f place width.bytes count bound) (IsFirstNotBelow f place width.bytes count bound))) }
     ensures inside { IfOk result (λ found. IfSome found (λ i. i < count)) }
@@ -143,7 +144,7 @@ pub(crate) fn first_not_below<S: Source>(
     bound: u64,
 ) -> Result<Option<u64>, ReadFault>
     requires within { place + count * width.bytes ≤ length (S.means src.old).octets }
-    ensures reads { OnlyReads (is_err result) (S.means src.old) (S.means src.new) }
+    ensures reads { OnlyReads (result_err result) (S.means src.old) (S.means src.new) }
     ensures found { IfOk result (λ found. Honestly (S.means src.old)
         (λ f. MatchOption found (AreBelow f place width.bytes count bound) (IsFirstNotBelow f place width.bytes count bound))) }
     ensures inside { IfOk result (λ found. IfSome found (λ i. i < count)) }
@@ -169,7 +170,7 @@ fn search_part<S: Source>(
 ) -> Result<Option<u64>, ReadFault>
     requires within { place + count ≤ length (S.means src.old).octets }
     requires part { done + length part.old ≤ count }
-    ensures reads { OnlyReads (is_err result) (S.means src.old) (S.means src.new) }
+    ensures reads { OnlyReads (result_err result) (S.means src.old) (S.means src.new) }
     ensures found { IfOk result (λ found. Honestly (S.means src.old) (λ f. AreBelow f place 1 done 128
         → MatchOption found (AreBelow f place 1 (done + length part.old) 128) (IsFirstNotBelow f place 1 count 128))) }
     ensures inside { IfOk result (λ found. IfSome found (λ i. i < count)) }
@@ -192,7 +193,7 @@ fn first_high_at_once<const ROOM: usize, S: Source>(
     requires fits { ROOM ≤ 4096 }
     requires short { count ≤ ROOM }
     requires within { place + count ≤ length (S.means src.old).octets }
-    ensures reads { OnlyReads (is_err result) (S.means src.old) (S.means src.new) }
+    ensures reads { OnlyReads (result_err result) (S.means src.old) (S.means src.new) }
     ensures found { IfOk result (λ found. Honestly (S.means src.old)
         (λ f. MatchOption found (AreBelow f place 1 count 128) (IsFirstNotBelow f place 1 count 128))) }
     ensures inside { IfOk result (λ found. IfSome found (λ i. i < count)) }
@@ -216,7 +217,7 @@ fn first_high_by_parts<const PART: usize, S: Source>(
     requires some { 1 ≤ PART }
     requires fits { PART ≤ 32768 }
     requires within { place + count ≤ length (S.means src.old).octets }
-    ensures reads { OnlyReads (is_err result) (S.means src.old) (S.means src.new) }
+    ensures reads { OnlyReads (result_err result) (S.means src.old) (S.means src.new) }
     ensures found { IfOk result (λ found. Honestly (S.means src.old)
         (λ f. MatchOption found (AreBelow f place 1 count 128) (IsFirstNotBelow f place 1 count 128))) }
     ensures inside { IfOk result (λ found. IfSome found (λ i. i < count)) }
@@ -240,7 +241,7 @@ fn first_high_by_parts<const PART: usize, S: Source>(
 #[inline(never)]
 fn first_high_long<S: Source>(src: &mut S, place: u64, count: u64) -> Result<Option<u64>, ReadFault>
     requires within { place + count ≤ length (S.means src.old).octets }
-    ensures reads { OnlyReads (is_err result) (S.means src.old) (S.means src.new) }
+    ensures reads { OnlyReads (result_err result) (S.means src.old) (S.means src.new) }
     ensures found { IfOk result (λ found. Honestly (S.means src.old)
         (λ f. MatchOption found (AreBelow f place 1 count 128) (IsFirstNotBelow f place 1 count 128))) }
     ensures inside { IfOk result (λ found. IfSome found (λ i. i < count)) }
@@ -256,7 +257,7 @@ pub fn first_high_in<S: Source>(
     count: u64,
 ) -> Result<Option<u64>, ReadFault>
     requires within { place + count ≤ length (S.means src.old).octets }
-    ensures reads { OnlyReads (is_err result) (S.means src.old) (S.means src.new) }
+    ensures reads { OnlyReads (result_err result) (S.means src.old) (S.means src.new) }
     ensures found { IfOk result (λ found. Honestly (S.means src.old)
         (λ f. MatchOption found (AreBelow f place 1 count 128) (IsFirstNotBelow f place 1 count 128))) }
     ensures inside { IfOk result (λ found. IfSome found (λ i. i < count)) }

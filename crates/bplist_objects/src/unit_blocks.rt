@@ -1,6 +1,7 @@
 //! The units of a text, block by block.
 
-ghost use Rattle.std.specs.Prelude.{◌≡◌, ◌≤◌, ◌+◌, IfOk, OnOk, OnErr, IsTrue, is_err, false, length, take};
+ghost use Rattle.std.specs.Prelude.{◌≡◌, ◌≤◌, ◌+◌, IfOk, OnOk, OnErr, IsTrue, false, length, take};
+ghost use Rattle.std.specs.Result.{result_err};
 ghost use Rattle.bplist_octets.specs.Meaning.{OnlyReads, Honestly};
 ghost use Rattle.bplist_octets.specs.Octets.{part};
 ghost use Rattle.bplist_objects.specs.Safe.{IsSafeBody};
@@ -39,7 +40,7 @@ fn read_front<S: Source>(
     requires head { IsSafeBody (length (S.means src.old).octets) head.now }
     requires within { from + count ≤ head.now.count }
     requires room { count ≤ length into.old }
-    ensures reads { OnlyReads (is_err result) (S.means src.old) (S.means src.new) }
+    ensures reads { OnlyReads (result_err result) (S.means src.old) (S.means src.new) }
     ensures units { OnOk result (Honestly (S.means src.old)
         (λ f. take count into.new ≡ part (units_of f head.now) from count)) }
 {
@@ -69,7 +70,7 @@ impl UnitBlocks {
     pub fn read<S: Source>(&mut self, src: &mut S) -> Result<bool, ReadFault>
         requires kind { IsTextKind self.old.head.kind }
         requires head { IsSafeBody (length (S.means src.old).octets) self.old.head }
-        ensures reads { OnlyReads (is_err result) (S.means src.old) (S.means src.new) }
+        ensures reads { OnlyReads (result_err result) (S.means src.old) (S.means src.new) }
         ensures same { self.new.head ≡ self.old.head }
         ensures stays { OnErr result (self.new.next ≡ self.old.next) }
         ensures next { IfOk result (λ more. IsTrue more

@@ -17,4 +17,4 @@ pub record IsEmptyPane (pane : Pane) : Type 0 where
 
 -- the meaning of a source that is read through the borrow with this ghost name
 abbrev pub borrowed : ℕ → Meaning → Meaning
-borrowed through m = record { octets = m.octets; honest = m.honest; failures = m.failures; extra = (through ∷ []) ∷ m.extra }
+borrowed through m = record { octets = m.octets; honest = m.honest; failures = m.failures; last = m.last; extra = (through ∷ []) ∷ m.extra }

@@ -25,6 +25,6 @@ FillFailed known position n fault = elim fault [ Ended ↦ IfSome known (λ xs. 
 
 -- what a source over a stream of this length means: it is honest if the bytes are known. Otherwise no read promises them, so
 -- any list of this length would do
-abbrev pub meaning_of_stream : Option (List ℕ) → ℕ → ℕ → Meaning
-meaning_of_stream (Some xs) n failures = record { octets = xs; honest = true; failures = failures; extra = [] }
-meaning_of_stream None n failures = record { octets = replicate n 0; honest = false; failures = failures; extra = [] }
+abbrev pub meaning_of_stream : Option (List ℕ) → ℕ → ℕ → Option ReadFault → Meaning
+meaning_of_stream (Some xs) n failures last = record { octets = xs; honest = true; failures = failures; last = last; extra = [] }
+meaning_of_stream None n failures last = record { octets = replicate n 0; honest = false; failures = failures; last = last; extra = [] }

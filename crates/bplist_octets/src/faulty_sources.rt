@@ -2,8 +2,9 @@
 //!
 //! Both are public, so that other crates can test what their calls do with such a source.
 
-ghost use Rattle.std.specs.Prelude.{◌≡◌, ◌+◌, ◌≤◌, zero, suc, length, true, [], IsTrue, OnOk, Some, None, is_err, ◌-◌};
+ghost use Rattle.std.specs.Prelude.{◌≡◌, ◌+◌, ◌≤◌, zero, suc, length, true, [], IsTrue, OnOk, Some, None, ◌-◌};
 ghost use Rattle.std.specs.Prelude.{nat_lt, if◌then◌else◌};
+ghost use Rattle.std.specs.Result.{result_err};
 ghost use Rattle.std.specs.Option.{option_map_or};
 ghost use Rattle.bplist_octets.specs.Octets.{part};
 ghost use Rattle.bplist_octets.specs.Meaning.{OnlyReads};
@@ -22,8 +23,14 @@ pub struct FaultySource<'a> {
 }
 
 impl<'a> Source for FaultySource<'a> {
-    // The count of failed reads is 0 until the failing read, and 1 after it.
-    ghost means = { λ s. record { octets = s.octets.now; honest = true; failures = option_map_or (λ _. 0) s.before 1; extra = [] } };
+    // Until the failing read none has failed, and after it one, with `Device`.
+    ghost means = { λ s. record {
+      octets = s.octets.now;
+      honest = true;
+      failures = option_map_or (λ _. 0) s.before 1;
+      last = option_map_or (λ _. None) s.before (Some Device);
+      extra = [];
+    } };
 
     ghost asked = { λ _. 0 };
 
@@ -33,7 +40,7 @@ impl<'a> Source for FaultySource<'a> {
 
     fn read_at(&mut self, at: u64, into: &mut [u8]) -> Result<(), ReadFault>
         requires { at + length into.old ≤ length (⟦<FaultySource<'a> as Source>⟧.means self.old).octets }
-        ensures reads { OnlyReads (is_err result) (⟦<FaultySource<'a> as Source>⟧.means self.old)
+        ensures reads { OnlyReads (result_err result) (⟦<FaultySource<'a> as Source>⟧.means self.old)
             (⟦<FaultySource<'a> as Source>⟧.means self.new) }
         ensures filled { OnOk result (IsTrue (⟦<FaultySource<'a> as Source>⟧.means self.old).honest
             → into.new ≡ part (⟦<FaultySource<'a> as Source>⟧.means self.old).octets at (length into.old)) }
@@ -83,7 +90,7 @@ pub struct ShiftingSource<'a> {
 impl<'a> Source for ShiftingSource<'a> {
     ghost use Rattle.std.specs.Prelude.{false, []};
 
-    ghost means = { λ s. record { octets = s.first.now; honest = false; failures = 0; extra = [] } };
+    ghost means = { λ s. record { octets = s.first.now; honest = false; failures = 0; last = None; extra = [] } };
 
     ghost asked = { λ _. 0 };
 
@@ -93,7 +100,7 @@ impl<'a> Source for ShiftingSource<'a> {
 
     fn read_at(&mut self, at: u64, into: &mut [u8]) -> Result<(), ReadFault>
         requires { at + length into.old ≤ length (⟦<ShiftingSource<'a> as Source>⟧.means self.old).octets }
-        ensures reads { OnlyReads (is_err result) (⟦<ShiftingSource<'a> as Source>⟧.means self.old)
+        ensures reads { OnlyReads (result_err result) (⟦<ShiftingSource<'a> as Source>⟧.means self.old)
             (⟦<ShiftingSource<'a> as Source>⟧.means self.new) }
         ensures filled { OnOk result (IsTrue (⟦<ShiftingSource<'a> as Source>⟧.means self.old).honest
             → into.new ≡ part (⟦<ShiftingSource<'a> as Source>⟧.means self.old).octets at (length into.old)) }

@@ -43,7 +43,8 @@ impl Stream for File {
 impl FileSource {
     /// Opens the file at `path` for reading, and reads its length once. No read has failed yet.
     pub fn open<R: Files<File = File>>(rt: &R, path: &str) -> Result<FileSource, OpenFault>
-        ensures { IfOk result (λ source. (⟦<FileSource as Source>⟧.means source).failures ≡ 0) }
+        ensures { IfOk result (λ source. ((⟦<FileSource as Source>⟧.means source).failures ≡ 0)
+            × ((⟦<FileSource as Source>⟧.means source).last ≡ None)) }
     {
         let file = File::open(rt, path).map_err(|_| OpenFault)?;
         SeekSource::new(file).map_err(|_| OpenFault)

@@ -3,7 +3,8 @@
 //! A reader that alternates between a few places, such as the offset table, an object and its keys, would refill a
 //! single window each time.
 
-ghost use Rattle.std.specs.Prelude.{◌≡◌, ℕ, ◌+◌, ◌/◌, ◌%◌, ◌<◌, ◌≤◌, All, IsTrue, length, max, OnOk, is_err};
+ghost use Rattle.std.specs.Prelude.{◌≡◌, ℕ, ◌+◌, ◌/◌, ◌%◌, ◌<◌, ◌≤◌, All, IsTrue, length, max, OnOk};
+ghost use Rattle.std.specs.Result.{result_err};
 ghost use Rattle.bplist_octets.specs.Octets.{part};
 ghost use Rattle.bplist_octets.specs.Meaning.{OnlyReads};
 ghost use Rattle.bplist_octets.specs.Panes.{IsEmptyPane, IsPane, borrowed};
@@ -97,7 +98,7 @@ fn hold<S: Source>(
     requires has { at + count ≤ span.start + span.room }
     requires fits { span.room ≤ 16384 }
     requires pane { IsPane (S.means source.old).octets (S.means source.old).honest pane.old }
-    ensures reads { OnlyReads (is_err result) (S.means source.old) (S.means source.new) }
+    ensures reads { OnlyReads (result_err result) (S.means source.old) (S.means source.new) }
     ensures asks { S.asked source.new ≤ S.asked source.old + 16384 }
     ensures pane { IsPane (S.means source.old).octets (S.means source.old).honest pane.new }
     ensures start { OnOk result (pane.new.start ≤ at) }
@@ -167,8 +168,8 @@ fn empty_all(panes: &mut [Pane])
     }
 }
 
-/// A source over a borrowed source, with borrowed panes. It has the bytes, the honesty and the count of failed reads of
-/// that source.
+/// A source over a borrowed source, with borrowed panes. It has the bytes, the honesty, the count of failed reads and the
+/// last fault of that source.
 ///
 /// If one pane has all bytes of a request, nothing is read. Otherwise the pane that was used longest ago moves there.
 /// After a jump it reads the block of 1,024 bytes with that place, and more if the request ends after the block. If the
@@ -219,7 +220,7 @@ impl<'a, S: Source> Panes<'a, S> {
         requires inside { at + length into.old ≤ length (S.means self.old.source.now).octets }
         requires fits { length into.old ≤ 8192 }
         ensures same_source { self.new.source.ghost_name ≡ self.old.source.ghost_name }
-        ensures reads { OnlyReads (is_err result) (S.means self.old.source.now) (S.means self.new.source.now) }
+        ensures reads { OnlyReads (result_err result) (S.means self.old.source.now) (S.means self.new.source.now) }
         ensures asks { S.asked self.new.source.now ≤ S.asked self.old.source.now + 16384 }
         ensures filled { OnOk result (IsTrue (S.means self.old.source.now).honest
             → into.new ≡ part (S.means self.old.source.now).octets at (length into.old)) }
@@ -252,7 +253,7 @@ impl<S: Source> Source for Panes<'_, S> {
     #[inline(always)]
     fn read_at(&mut self, at: u64, into: &mut [u8]) -> Result<(), ReadFault>
         requires { at + length into.old ≤ length (S.means self.old.source.now).octets }
-        ensures reads { OnlyReads (is_err result) (borrowed self.old.source.ghost_name (S.means self.old.source.now))
+        ensures reads { OnlyReads (result_err result) (borrowed self.old.source.ghost_name (S.means self.old.source.now))
             (borrowed self.new.source.ghost_name (S.means self.new.source.now)) }
         ensures filled { OnOk result (IsTrue (S.means self.old.source.now).honest
             → into.new ≡ part (S.means self.old.source.now).octets at (length into.old)) }

@@ -1,6 +1,6 @@
 //! A source over a stream, and the loop that fills a buffer from a stream.
 
-ghost use Rattle.std.specs.Prelude.{◌≡◌, length, [], true, IfOk, IfSome, MatchResult};
+ghost use Rattle.std.specs.Prelude.{◌≡◌, length, [], true, None, IfOk, IfSome, MatchResult};
 ghost use Rattle.bplist_octets.specs.Streams.{FillFailed, Fills, IsLength, meaning_of_stream};
 
 use crate::source::{ReadFault, Source};
@@ -15,6 +15,8 @@ pub struct SeekSource<F: Stream> {
     stream: F,
     length: u64,
     failures: u64,
+    /// The fault of the last read that failed.
+    last: Option<ReadFault>,
     ghost whole: { IsLength (F.bytes stream) length },
 }
 
@@ -70,20 +72,22 @@ impl<F: Stream> SeekSource<F> {
     where
         F: Drop,
         ensures known { IfOk result (λ source. IfSome (F.bytes stream)
-            (λ xs. ⟦<SeekSource<F> as Source>⟧.means source ≡ record { octets = xs; honest = true; failures = 0; extra = [] })) }
-        ensures counts { IfOk result (λ source. (⟦<SeekSource<F> as Source>⟧.means source).failures ≡ 0) }
+            (λ xs. ⟦<SeekSource<F> as Source>⟧.means source ≡ record { octets = xs; honest = true; failures = 0; last = None; extra = [] })) }
+        ensures counts { IfOk result (λ source. ((⟦<SeekSource<F> as Source>⟧.means source).failures ≡ 0)
+            × ((⟦<SeekSource<F> as Source>⟧.means source).last ≡ None)) }
     {
         let length = stream.stream_len()?;
         Ok(SeekSource {
             stream,
             length,
             failures: 0,
+            last: None,
         })
     }
 }
 
 impl<F: Stream> Source for SeekSource<F> {
-    ghost means = { λ s. meaning_of_stream (F.bytes s.stream) s.length s.failures };
+    ghost means = { λ s. meaning_of_stream (F.bytes s.stream) s.length s.failures s.last };
 
     ghost asked = { λ _. 0 };
 
@@ -94,8 +98,9 @@ impl<F: Stream> Source for SeekSource<F> {
     /// Seeks to `at`, and fills `into` as `fill_from` does. A failed seek is `Device`.
     fn read_at(&mut self, at: u64, into: &mut [u8]) -> Result<(), ReadFault> {
         let result = fill_at(&mut self.stream, at, into);
-        if result.is_err() {
+        if let Err(fault) = result {
             self.failures = self.failures.saturating_add(1);
+            self.last = Some(fault);
         }
         result
     }

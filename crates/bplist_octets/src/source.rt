@@ -3,7 +3,8 @@
 //! All readers of the crate and of its callers take any [`Source`]. A [`SliceSource`] is the simplest one: its bytes
 //! are in memory, so its reads never fail, and it can also lend bytes without a copy.
 
-ghost use Rattle.std.specs.Prelude.{◌≡◌, ℕ, ◌+◌, ◌≤◌, length, IsTrue, OnOk, is_err};
+ghost use Rattle.std.specs.Prelude.{◌≡◌, ℕ, ◌+◌, ◌≤◌, length, IsTrue, OnOk};
+ghost use Rattle.std.specs.Result.{result_err};
 ghost use Rattle.bplist_octets.specs.Octets.{part};
 ghost use Rattle.bplist_octets.specs.Meaning.{Meaning, OnlyReads};
 ghost use Rattle.bplist_octets.specs.Slices.{StandsAt, source_over};
@@ -21,14 +22,14 @@ pub enum ReadFault {
 
 /// Bytes that are read by place.
 ///
-/// A source has a fixed list of `len()` bytes, is honest or not, and counts its failed reads. Bytes, length and honesty
-/// never change. The count stops at 18446744073709551615.
+/// A source has a fixed list of `len()` bytes, is honest or not, counts its failed reads, and knows the fault of the
+/// last one. Bytes, length and honesty never change. The count stops at 18446744073709551615.
 ///
 /// The trait lets a caller read a file that is larger than memory, and lets one proof serve slices, files and the
 /// sources for tests. A buffered reader of std does not fit: its position would be part of each contract, and it does
 /// not say whether it is honest.
 pub trait Source {
-    /// The bytes, the honesty and the count of failed reads.
+    /// The bytes, the honesty, the count of failed reads and the fault of the last one.
     ghost means: { Self → Meaning };
 
     /// A count of what it was asked for: no read raises it by more than the length of its buffer. A source that does not
@@ -43,10 +44,11 @@ pub trait Source {
     /// Fills `into` with the bytes from place `at` on. All of them must be inside the source.
     ///
     /// After Ok the count of failed reads is unchanged, and if the source is honest `into` holds the source's bytes.
-    /// After an error the count is higher, unless it has stopped, and `into` may hold anything.
+    /// After an error the count is higher, unless it has stopped, and the error is the fault of the last failed read.
+    /// `into` may then hold anything.
     fn read_at(&mut self, at: u64, into: &mut [u8]) -> Result<(), ReadFault>
         requires { at + length into.old ≤ length (means self.old).octets }
-        ensures reads { OnlyReads (is_err result) (means self.old) (means self.new) }
+        ensures reads { OnlyReads (result_err result) (means self.old) (means self.new) }
         ensures filled { OnOk result (IsTrue (means self.old).honest
             → into.new ≡ part (means self.old).octets at (length into.old)) }
         ensures asks { asked self.new ≤ asked self.old + length into.old };
@@ -69,7 +71,7 @@ impl<'a> Source for SliceSource<'a> {
 
     fn read_at(&mut self, at: u64, into: &mut [u8]) -> Result<(), ReadFault>
         requires { at + length into.old ≤ length (⟦<SliceSource<'a> as Source>⟧.means self.old).octets }
-        ensures reads { OnlyReads (is_err result) (⟦<SliceSource<'a> as Source>⟧.means self.old)
+        ensures reads { OnlyReads (result_err result) (⟦<SliceSource<'a> as Source>⟧.means self.old)
             (⟦<SliceSource<'a> as Source>⟧.means self.new) }
         ensures filled { OnOk result (IsTrue (⟦<SliceSource<'a> as Source>⟧.means self.old).honest
             → into.new ≡ part (⟦<SliceSource<'a> as Source>⟧.means self.old).octets at (length into.old)) }

@@ -1,7 +1,7 @@
 //! A source over another source, with one buffer of bytes that it has read.
 
 ghost use Rattle.std.specs.Prelude.{◌≡◌, ◌↔◌, ◌+◌, ◌-◌, ◌/◌, ◌≤◌, length, take, min, max, IsTrue, MatchOption, OnOk, OnErr};
-ghost use Rattle.std.specs.Prelude.{is_err};
+ghost use Rattle.std.specs.Result.{result_err};
 ghost use Rattle.bplist_octets.specs.Octets.{part};
 ghost use Rattle.bplist_octets.specs.Meaning.{OnlyReads};
 
@@ -13,8 +13,8 @@ const WINDOW: usize = 4096;
 /// The number of bytes read after a jump, if the request is no longer: the reader may not go on from there.
 pub(crate) const JUMP: usize = 1024;
 
-/// A source over another source, with a window of 4,096 bytes. It has the bytes, the honesty and the count of failed
-/// reads of that source.
+/// A source over another source, with a window of 4,096 bytes. It has the bytes, the honesty, the count of failed reads
+/// and the last fault of that source.
 ///
 /// If the window has all bytes of a request, nothing is read. Otherwise the window moves to the place of the request.
 /// It reads 4,096 bytes if that place is in the old window or up to 1,024 bytes after it, and otherwise 1,024 bytes or
@@ -66,7 +66,7 @@ fn read_front<S: Source>(
 ) -> Result<(), ReadFault>
     requires room { count ≤ length into.old }
     requires inside { at + count ≤ length (S.means source.old).octets }
-    ensures reads { OnlyReads (is_err result) (S.means source.old) (S.means source.new) }
+    ensures reads { OnlyReads (result_err result) (S.means source.old) (S.means source.new) }
     ensures asks { S.asked source.new ≤ S.asked source.old + count }
     ensures filled { OnOk result (IsTrue (S.means source.old).honest →
         take count into.new ≡ part (S.means source.old).octets at count) }
@@ -101,7 +101,7 @@ impl<S: Source> Window<S> {
     fn refill(&mut self, at: u64, room: usize) -> Result<(), ReadFault>
         requires inside { at ≤ length (S.means self.old.source).octets }
         requires fits { room ≤ 4096 }
-        ensures reads { OnlyReads (is_err result) (S.means self.old.source) (S.means self.new.source) }
+        ensures reads { OnlyReads (result_err result) (S.means self.old.source) (S.means self.new.source) }
         ensures asks { S.asked self.new.source ≤ S.asked self.old.source + room }
         ensures start { self.new.start ≡ at }
         ensures filled { OnOk result
@@ -119,7 +119,7 @@ impl<S: Source> Window<S> {
     /// Reads straight from the source. After a failed read the window is empty.
     fn read_past(&mut self, at: u64, into: &mut [u8]) -> Result<(), ReadFault>
         requires { at + length into.old ≤ length (S.means self.old.source).octets }
-        ensures reads { OnlyReads (is_err result) (S.means self.old.source) (S.means self.new.source) }
+        ensures reads { OnlyReads (result_err result) (S.means self.old.source) (S.means self.new.source) }
         ensures asks { S.asked self.new.source ≤ S.asked self.old.source + length into.old }
         ensures filled { OnOk result (IsTrue (S.means self.old.source).honest →
             into.new ≡ part (S.means self.old.source).octets at (length into.old)) }
@@ -145,7 +145,7 @@ impl<S: Source> Source for Window<S> {
 
     fn read_at(&mut self, at: u64, into: &mut [u8]) -> Result<(), ReadFault>
         requires { at + length into.old ≤ length (S.means self.old.source).octets }
-        ensures reads { OnlyReads (is_err result) (S.means self.old.source) (S.means self.new.source) }
+        ensures reads { OnlyReads (result_err result) (S.means self.old.source) (S.means self.new.source) }
         ensures filled { OnOk result (IsTrue (S.means self.old.source).honest →
             into.new ≡ part (S.means self.old.source).octets at (length into.old)) }
         ensures asks { S.asked self.new.source / 4096 ≤ S.asked self.old.source / 4096 + length into.old }

@@ -1,6 +1,6 @@
 //! A source with one read that fails.
 
-ghost use Rattle.std.specs.Prelude.{◌≡◌};
+ghost use Rattle.std.specs.Prelude.{◌≡◌, option_map};
 
 use bplist_octets::{FaultySource, ReadFault, Source};
 
@@ -38,7 +38,7 @@ pub const READ_FAULTS: &[ReadFault] = &[
     ReadFault::TooManyTurns,
 ];
 
-/// A source over a slice with one read that fails. In contracts it is what a `FaultySource` is.
+/// A source over a slice with one read that fails. In contracts it is what a `FaultySource` is, but for the fault.
 #[derive(Drop)]
 pub struct FailingSource<'a> {
     source: FaultySource<'a>,
@@ -46,7 +46,7 @@ pub struct FailingSource<'a> {
 }
 
 impl<'a> Source for FailingSource<'a> {
-    ghost means = { λ s. ⟦<FaultySource<'a> as Source>⟧.means s.source };
+    ghost means = { λ s. let m = ⟦<FaultySource<'a> as Source>⟧.means s.source in record m { last = option_map (λ _. s.fault) m.last } };
 
     ghost asked = { λ _. 0 };
 
