@@ -49,5 +49,5 @@ stays None old new e =
     let extra = b.0 in
     (λ i. record { octets = octets i; honest = honest i; failures = failures i; last = last i; extra = extra i }, b.1, b.2)
 stays (Some fault) old new e =
-    let b = extra_same old new e.same.1.1 in
-    (record { same = (e.same.0, e.same.1.0, b.0); rises = e.rises; stays_only_at_last = e.stays_only_at_last; last = e.last }, b.1, b.2)
+    let b = extra_same old new e.same.2 in
+    (record { same = (e.same.0, e.same.1, b.0); rises = e.rises; stays_only_at_last = e.stays_only_at_last; last = e.last }, b.1, b.2)
