@@ -17,7 +17,7 @@ use crate::unread::Unread;
 use std::alloc::Global;
 use std::fs::{File, Files};
 
-/// LintsNames each file that the line names. Returns the greatest exit status. Prints the counts at the end if they are
+/// Lints each file that the line names. Returns the greatest exit status. Prints the counts at the end if they are
 /// asked for, or with `--recursive` if standard error is a terminal.
 ///
 /// Each FILE counts one step: an answer, or with `--skip-other` a file of another form. With `--recursive` a folder
@@ -48,7 +48,7 @@ struct Linter<'a, R> {
 }
 
 impl<'a, R: Files<File = File> + Folders + Input + Print + Eprint> Linter<'a, R> {
-    /// LintsNames the FILEs with these names.
+    /// Lints the FILEs with these names.
     fn lint_named(&self, findings: &mut Findings<'_, R>, names: &[&str])
         ensures { (steps : List Step)
             × LintsNames (R.disk self.now.rt.now) self.now.lint.now.choice findings.old.tally.closed
@@ -60,7 +60,7 @@ impl<'a, R: Files<File = File> + Folders + Input + Print + Eprint> Linter<'a, R>
         }
     }
 
-    /// LintsNames the FILEs of the list, if there is one.
+    /// Lints the FILEs of the list, if there is one.
     fn lint_list(&self, findings: &mut Findings<'_, R>)
         ensures { (steps : List Step)
             × MatchOption self.now.lint.now.list (steps ≡ [])
@@ -72,7 +72,7 @@ impl<'a, R: Files<File = File> + Folders + Input + Print + Eprint> Linter<'a, R>
         }
     }
 
-    /// LintsNames the FILEs of this list.
+    /// Lints the FILEs of this list.
     fn lint_listed(&self, findings: &mut Findings<'_, R>, list: &str)
         ensures { (steps : List Step)
             × LintsList (R.disk self.now.rt.now) self.now.lint.now.choice findings.old.tally.closed steps
@@ -87,7 +87,7 @@ impl<'a, R: Files<File = File> + Folders + Input + Print + Eprint> Linter<'a, R>
         }
     }
 
-    /// LintsNames the FILEs with these names, each of which ends with a line feed or, with `-0`, with a zero byte.
+    /// Lints the FILEs with these names, each of which ends with a line feed or, with `-0`, with a zero byte.
     fn lint_names(&self, findings: &mut Findings<'_, R>, names: &[u8])
         ensures { (listed : List (List ℕ)) × (steps : List Step)
             × LintsNames (R.disk self.now.rt.now) self.now.lint.now.choice findings.old.tally.closed listed steps
@@ -115,7 +115,7 @@ impl<'a, R: Files<File = File> + Folders + Input + Print + Eprint> Linter<'a, R>
         names.len()
     }
 
-    /// LintsNames the FILE with a name of a list. Nothing is no name.
+    /// Lints the FILE with a name of a list. Nothing is no name.
     fn lint_name(&self, findings: &mut Findings<'_, R>, name: &[u8])
         ensures { ((name.now ≡ []) × (findings.new.tally ≡ findings.old.tally))
             ⊎ ((steps : List Step)
@@ -132,7 +132,7 @@ impl<'a, R: Files<File = File> + Folders + Input + Print + Eprint> Linter<'a, R>
         }
     }
 
-    /// LintsNames a FILE. If it is a folder and `--recursive` is given, lints the files below it.
+    /// Lints a FILE. If it is a folder and `--recursive` is given, lints the files below it.
     fn lint_operand(&self, findings: &mut Findings<'_, R>, name: &str)
         ensures { (steps : List Step)
             × LintsName (R.disk self.now.rt.now) self.now.lint.now.choice findings.old.tally.closed name.now steps
@@ -155,7 +155,7 @@ impl<'a, R: Files<File = File> + Folders + Input + Print + Eprint> Linter<'a, R>
         self.lint.choice.recursive && name != "-" && self.rt.is_folder(name)
     }
 
-    /// LintsNames the files below a folder, in the order of their names.
+    /// Lints the files below a folder, in the order of their names.
     fn lint_folder(&self, findings: &mut Findings<'_, R>, folder: &str)
         requires { findings.old.tally.closed ≡ false }
         ensures { (steps : List Step) × WalksFolder (R.disk self.now.rt.now) folder.now steps
@@ -167,7 +167,7 @@ impl<'a, R: Files<File = File> + Folders + Input + Print + Eprint> Linter<'a, R>
         }
     }
 
-    /// LintsNames the files that are pending, and those below the folders that are.
+    /// Lints the files that are pending, and those below the folders that are.
     fn lint_pending(&self, findings: &mut Findings<'_, R>, pending: &mut Vec<Vec<u8>>)
         requires { findings.old.tally.closed ≡ false }
         ensures { (steps : List Step) × WalksAll (R.disk self.now.rt.now) (bytes_of pending.old.items) steps
@@ -218,7 +218,7 @@ impl<'a, R: Files<File = File> + Folders + Input + Print + Eprint> Linter<'a, R>
         Ok(())
     }
 
-    /// LintsNames a pending path, or enters it if it is a folder.
+    /// Lints a pending path, or enters it if it is a folder.
     fn look_at(&self, findings: &mut Findings<'_, R>, path: &[u8], pending: &mut Vec<Vec<u8>>)
         ensures { Moves (R.disk self.now.rt.now) path.now (bytes_of pending.old.items) (bytes_of pending.new.items)
             findings.old.tally findings.new.tally }
@@ -236,7 +236,7 @@ impl<'a, R: Files<File = File> + Folders + Input + Print + Eprint> Linter<'a, R>
         }
     }
 
-    /// LintsNames a file, unless it has another form or is passed over. `found` says that it was found in a folder.
+    /// Lints a file, unless it has another form or is passed over. `found` says that it was found in a folder.
     fn lint_file(&self, findings: &mut Findings<'_, R>, name: &str, found: bool)
         ensures { CountsOne (λ step. found ≡ false → self.now.lint.now.choice.skip_other ≡ false → IsAnswer step)
             findings.old.tally findings.new.tally }
