@@ -5,7 +5,10 @@ pub mod Groups
 pub mod GroupParts
 pub mod TextOctets
 pub mod TextUnits
+pub mod Folds
+pub mod ListedPrints
 pub mod Listed
 pub mod RankLaws
+pub mod ClassRuns
 pub mod LookUps
 pub mod RunSteps

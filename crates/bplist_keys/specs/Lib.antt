@@ -3,6 +3,7 @@ pub mod Texts
 pub mod Runs
 pub mod Groups
 pub mod Pivot
+pub mod Fingerprints
 pub mod Ranks
 pub mod Classes
 pub mod Prelude

@@ -25,6 +25,8 @@
 #![tactic(auto)]
 
 mod class_table;
+mod classes;
+mod fingerprints;
 mod grouping;
 mod named_keys;
 mod pivot;
@@ -33,7 +35,8 @@ mod run_cache;
 mod text;
 
 pub use class_table::{ClassTable, KeyDefect};
+pub use classes::classes_of;
 pub use named_keys::{NamedKeys, count_marked, name_keys, numbers_of};
-pub use ranks::{KeyNumbers, classes_of, ranks_of};
+pub use ranks::{KeyNumbers, ranks_of};
 pub use run_cache::RunCache;
 pub use text::{object_text, text_head, text_order};
