@@ -10,7 +10,7 @@
 //! let same = classes.table[a] == classes.table[b];         // true if and only if the units are the same
 //! ```
 //!
-//! A text is read as far as others begin with the same units. A key that is not a text has number 0.
+//! A key that is not a text has number 0.
 //!
 //! The modules, in the order in which to read them:
 //!
@@ -18,9 +18,12 @@
 //! |---|---|
 //! | named_keys | [`NamedKeys`], a mark for each object that is named as a key; [`name_keys`], which sets them; [`count_marked`], [`numbers_of`] |
 //! | text | [`object_text`] and [`text_head`], the head of a key; [`text_order`], the order of two texts |
-//! | ranks | [`KeyNumbers`], a number for each key: [`ranks_of`], in the order of the units; [`classes_of`], the same for callers that ask for equality only |
+//! | ranks | [`KeyNumbers`], a number for each key; [`ranks_of`], which gives them in the order of the units |
+//! | classes | [`classes_of`], for callers that compare only for equality: most texts are read once |
 //! | class_table | [`ClassTable`], which finds a dictionary's first [`KeyDefect`], a key that is wrong by rule 21 or 22 |
-//! | grouping | the order of texts: groups that share their first units, split by the next three until each is settled |
+//! | fingerprints | numbers computed from all units, by which `classes_of` sorts texts |
+//! | grouping | the order of texts: groups that share their first units, split until each is settled |
+//! | pivot | how the texts of a group compare with one of them, as numbers that are sorted in memory |
 //! | run_cache | [`RunCache`], what earlier comparisons found of texts that overlap, so that shared units are not read again |
 #![tactic(auto)]
 
