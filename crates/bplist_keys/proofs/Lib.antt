@@ -3,7 +3,6 @@ pub mod Digits
 pub mod PivotWeights
 pub mod Groups
 pub mod GroupParts
-pub mod TextOctets
 pub mod TextUnits
 pub mod Folds
 pub mod ListedPrints
