@@ -52,6 +52,9 @@ EACH_OF = {
     "keys_of_one_fingerprint": {"check FILE, version 2": 140, "get FILE": 140},
     "keys_of_our_fingerprint": {"check FILE, version 2": 140, "get FILE": 140},
     "keys_over_keys_vouched": {"check FILE, version 1": 40, "check FILE, version 2": 40},
+    # A split parts one key from all others, and each visit of a key reads its head and its next units: two jumps.
+    "keys_that_peel": {"certify --sorted FILE": 350},
+    "keys_of_one_length_that_peel": {"lint FILE": 200, "check FILE, version 1": 200, "certify --sorted FILE": 400},
     # To get its rank, a long key is compared with up to thirteen others, and each comparison reads both.
     "pairs_of_keys": {"check-2": 20},
 }
