@@ -4,7 +4,6 @@ pub mod PivotWeights
 pub mod Groups
 pub mod GroupParts
 pub mod TextUnits
-pub mod Folds
 pub mod ListedPrints
 pub mod Listed
 pub mod RankLaws

@@ -1,5 +1,5 @@
 -- Fingerprints of texts: numbers that are compared before the units. Source: profile.
-use Rattle.std.specs.Prelude.{◌≡◌, ◌⊎◌, ◌↔◌, ℕ, ◌+◌, ◌*◌, ◌^◌, ◌%◌, ◌<◌, ◌≤◌, max, List, length, fold, slice_index}
+use Rattle.std.specs.Prelude.{◌≡◌, ◌⊎◌, ◌↔◌, ℕ, ◌+◌, ◌*◌, ◌^◌, ◌%◌, ◌<◌, ◌≤◌, max, List, length, fold, slice_index, take}
 use Rattle.bplist_objects.specs.declared.frame.Frame.{Frame}
 use Rattle.bplist_keys.specs.Texts.{HasTextShape, text_units}
 
@@ -7,9 +7,9 @@ use Rattle.bplist_keys.specs.Texts.{HasTextShape, text_units}
 abbrev pub mix : ℕ → ℕ → ℕ
 mix x u = (x * 16777619 % 2 ^ 32 + u) % 2 ^ 32
 
--- the fingerprint of units: their number, with each of them added
+-- the fingerprint of units: their number, with each of the first 128 added
 abbrev pub fingerprint : List ℕ → ℕ
-fingerprint us = fold mix (length us % 2 ^ 32) us
+fingerprint us = fold mix (length us % 2 ^ 32) (take 128 us)
 
 -- the fingerprint by which a text is compared, which is never 0
 abbrev pub print : List ℕ → ℕ
