@@ -226,8 +226,8 @@ fn check_named<P: Offsets>(
     Ok(())
 }
 
-/// Checks that the keys of the vouched dictionaries seen so far are texts that differ. The first units of each named text
-/// are read once for its class, and the text is read further only if another has the same fingerprint.
+/// Checks that the keys of the vouched dictionaries seen so far are texts that differ. The first units of each named
+/// text are read once for its class, and the text is read further only if another has the same fingerprint.
 ///
 /// Without keys there is nothing to check, so neither classes nor places are read. With few keys, places are read when
 /// they are needed, and not kept in a table.

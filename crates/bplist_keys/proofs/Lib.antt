@@ -4,9 +4,8 @@ pub mod PivotWeights
 pub mod Groups
 pub mod GroupParts
 pub mod TextUnits
-pub mod ListedPrints
 pub mod Listed
 pub mod RankLaws
-pub mod ClassRuns
+pub mod Singles
 pub mod LookUps
 pub mod RunSteps
