@@ -19,9 +19,8 @@
 //! | named_keys | [`NamedKeys`], a mark for each object that is named as a key; [`name_keys`], which sets them; [`count_marked`], [`numbers_of`] |
 //! | text | [`object_text`] and [`text_head`], the head of a key; [`text_order`], the order of two texts |
 //! | ranks | [`KeyNumbers`], a number for each key; [`ranks_of`], which gives them in the order of the units |
-//! | classes | [`classes_of`], for callers that compare only for equality: most texts are read no further than their first units |
+//! | classes | [`classes_of`], for callers that compare only for equality: by fingerprints, so that most texts are read no further than their first units |
 //! | class_table | [`ClassTable`], which finds a dictionary's first [`KeyDefect`], a key that is wrong by rule 21 or 22 |
-//! | fingerprints | numbers computed from the first units, by which `classes_of` finds texts that differ from all others |
 //! | grouping | the order of texts: groups that share their first units, split until each is settled |
 //! | pivot | how the texts of a group compare with one of them, as numbers that are sorted in memory |
 //! | run_cache | [`RunCache`], what earlier comparisons found of texts that overlap, so that shared units are not read again |
@@ -29,7 +28,6 @@
 
 mod class_table;
 mod classes;
-mod fingerprints;
 mod grouping;
 mod named_keys;
 mod pivot;
