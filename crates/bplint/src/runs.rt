@@ -219,58 +219,52 @@ fn try_answer<W: Write>(
 ) -> Result<Ending, InputFault> {
     let Inputs { file, cert } = inputs;
     match file {
-        Operand::Whole(file) => answer_on(alloc, request, SliceSource::new(&file), cert, out),
+        Operand::Whole(file) => answer_on(alloc, request, &mut SliceSource::new(&file), cert, out),
         Operand::File(file) => {
             let mut file = Window::new(file);
             let mut panes = vec![in alloc; Pane::EMPTY; PANES].map_err(|_| InputFault::Memory)?;
-            let src = Panes::new(&mut file, &mut panes);
-            answer_on(alloc, request, src, cert, out)
+            let mut src = Panes::new(&mut file, &mut panes);
+            answer_on(alloc, request, &mut src, cert, out)
         }
     }
 }
 
 /// Answers a request about a source.
-fn answer_on<S: Source + Drop, W: Write>(
+fn answer_on<S: Source, W: Write>(
     alloc: Global,
     request: &Request<'_>,
-    src: S,
+    src: &mut S,
     cert: Operand,
     out: &mut W,
 ) -> Result<Ending, InputFault> {
     let mut cert = cert;
-    let (answer, mut src) = do_task(alloc, &request.task, src, &mut cert, out)?;
+    let answer = do_task(alloc, &request.task, src, &mut cert, out)?;
     let under = match &answer {
         Err(RawFault::Run(fault)) if request.explain => {
-            under_fault(alloc, request, &mut src, cert, fault)
+            under_fault(alloc, request, src, cert, fault)
         }
         _ => String::new(alloc),
     };
     Ok(Ending::over(answer, under))
 }
 
-/// Does a task over a source. Returns the source too.
-fn do_task<S: Source + Drop, W: Write>(
+/// Does a task over a source.
+fn do_task<S: Source, W: Write>(
     alloc: Global,
     task: &Task<'_>,
-    src: S,
+    src: &mut S,
     cert: &mut Operand,
     out: &mut W,
-) -> Result<(Result<Said, RawFault>, S), InputFault> {
+) -> Result<Result<Said, RawFault>, InputFault> {
     match task {
         Task::Command(job) => {
             let decoded = cert.decode(alloc)?;
-            let (answer, src) = run_certified(alloc, &job.command, src, decoded, out);
-            Ok((answer.map_err(RawFault::Run), src))
+            let (answer, _src) = run_certified(alloc, &job.command, src, decoded, out);
+            Ok(answer.map_err(RawFault::Run))
         }
-        Task::Show(shown) => {
-            let (answer, src) = shown_on(alloc, shown, src, out);
-            Ok((answer.map_err(RawFault::Run), src))
-        }
+        Task::Show(shown) => Ok(shown_on(alloc, shown, src, out).map_err(RawFault::Run)),
         Task::Raw(path) => Ok(show_raw_on(alloc, src, path, out)),
-        Task::Rows(listed) => {
-            let (answer, src) = list_rows_on(alloc, src, listed, out);
-            Ok((answer.map_err(RawFault::Run), src))
-        }
+        Task::Rows(listed) => Ok(list_rows_on(alloc, src, listed, out).map_err(RawFault::Run)),
     }
 }
 
@@ -304,15 +298,15 @@ fn try_under<S: Source>(
     Ok(text)
 }
 
-/// Writes what is to be shown of a source. Returns the source too.
-fn shown_on<S: Source + Drop, W: Write>(
+/// Writes what is to be shown of a source.
+fn shown_on<S: Source, W: Write>(
     alloc: Global,
     shown: &Shown<'_>,
-    src: S,
+    src: &mut S,
     out: &mut W,
-) -> (Result<Said, RunFault>, S)
-    ensures { IsTrue (S.means src).honest
-        → LeavesShown (S.means src).octets shown.now (W.contents out.old) (W.contents out.new) result.0 }
+) -> Result<Said, RunFault>
+    ensures { IsTrue (S.means src.old).honest
+        → LeavesShown (S.means src.old).octets shown.now (W.contents out.old) (W.contents out.new) result }
 {
     match shown {
         Shown::Values { paths, style } => show_on(alloc, src, paths, *style, out),
@@ -326,16 +320,8 @@ fn shown_on<S: Source + Drop, W: Write>(
             };
             list_all_on(alloc, src, &branch, out)
         }
-        Shown::Map => {
-            let mut src = src;
-            let answer = map_on(alloc, &mut src, out);
-            (answer, src)
-        }
-        Shown::MapPaths => {
-            let mut src = src;
-            let answer = map_paths_on(alloc, &mut src, out);
-            (answer, src)
-        }
+        Shown::Map => map_on(alloc, src, out),
+        Shown::MapPaths => map_paths_on(alloc, src, out),
     }
 }
 

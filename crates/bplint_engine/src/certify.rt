@@ -14,21 +14,21 @@ use bplist_objects::{Frame, ObjectFault, trailer_of};
 use bplist_octets::Source;
 use std::alloc::{AllocError, Global};
 
-/// Returns the bytes of a certificate of the file, and the source.
+/// Returns the bytes of a certificate of the file.
 pub(crate) fn certify_output<S: Source>(
     alloc: Global,
-    src: S,
+    src: &mut S,
     sorted: bool,
     hex: bool,
-) -> (Result<Output, RunFault>, S)
-    ensures source { OnlyReads (read_failed result.0) (S.means src) (S.means result.1) }
-    ensures exact { IsTrue (S.means src).honest → Answers (CertifySays sorted hex (S.means src).octets) result.0 }
+) -> Result<Output, RunFault>
+    ensures source { OnlyReads (read_failed result) (S.means src.old) (S.means src.new) }
+    ensures exact { IsTrue (S.means src.old).honest → Answers (CertifySays sorted hex (S.means src.old).octets) result }
 {
     if sorted {
-        return sorted_output(alloc, src, hex);
+        sorted_output(alloc, src, hex)
+    } else {
+        least_output(alloc, src, hex)
     }
-    let mut src = src;
-    (least_output(alloc, &mut src, hex), src)
 }
 
 /// Returns the bytes of the certificate of the least heights.
@@ -40,18 +40,15 @@ fn least_output<S: Source>(alloc: Global, src: &mut S, hex: bool) -> Result<Outp
     Ok(output_of(alloc, &found.certificate, hex)?)
 }
 
-/// Returns the bytes of the certificate of the least heights with key lists, and the source. Lists are made from what the
-/// linter vouches for, so its certificate is not checked.
-fn sorted_output<S: Source>(alloc: Global, src: S, hex: bool) -> (Result<Output, RunFault>, S)
-    ensures source { OnlyReads (read_failed result.0) (S.means src) (S.means result.1) }
-    ensures exact { IsTrue (S.means src).honest → Answers (CertifySays true hex (S.means src).octets) result.0 }
+/// Returns the bytes of the certificate of the least heights with key lists. Lists are made from what the linter vouches
+/// for, so its certificate is not checked.
+fn sorted_output<S: Source>(alloc: Global, src: &mut S, hex: bool) -> Result<Output, RunFault>
+    ensures source { OnlyReads (read_failed result) (S.means src.old) (S.means src.new) }
+    ensures exact { IsTrue (S.means src.old).honest → Answers (CertifySays true hex (S.means src.old).octets) result }
 {
     match checked_by_lint(alloc, src) {
-        Ok(mut checked) => {
-            let made = output_with_keys(alloc, &mut checked, hex);
-            (made, checked.into_parts().0)
-        }
-        Err((fault, src)) => (Err(fault), src),
+        Ok(mut checked) => output_with_keys(alloc, &mut checked, hex),
+        Err((fault, _src)) => Err(fault),
     }
 }
 

@@ -10,22 +10,19 @@ use bplist_cert::{CertRefusal, Certificate, Checked};
 use bplist_octets::Source;
 use std::alloc::Global;
 
-/// Returns the line of `check`, and the source.
+/// Returns the line of `check`.
 pub(crate) fn check_output<S: Source>(
     alloc: Global,
-    src: S,
+    src: &mut S,
     decoded: Result<Certificate, CertRefusal>,
-) -> (Result<Output, RunFault>, S)
-    ensures source { OnlyReads (read_failed result.0) (S.means src) (S.means result.1) }
-    ensures exact { IsTrue (S.means src).honest → (cert : List ℕ) → IsDecoded cert decoded
-        → Answers (CheckSays (S.means src).octets cert) result.0 }
+) -> Result<Output, RunFault>
+    ensures source { OnlyReads (read_failed result) (S.means src.old) (S.means src.new) }
+    ensures exact { IsTrue (S.means src.old).honest → (cert : List ℕ) → IsDecoded cert decoded
+        → Answers (CheckSays (S.means src.old).octets cert) result }
 {
     match check_decoded(alloc, src, decoded) {
-        Ok(checked) => {
-            let made = yes_of(alloc, &checked);
-            (made, checked.into_parts().0)
-        }
-        Err((fault, src)) => (Err(fault), src),
+        Ok(checked) => yes_of(alloc, &checked),
+        Err((fault, _src)) => Err(fault),
     }
 }
 

@@ -16,28 +16,22 @@ use bplist_cursor::{AnswerFault, Path, Query, Reply, answer_all, answer_certifie
 use bplist_octets::Source;
 use std::alloc::{AllocError, Global};
 
-/// Returns the lines of `get`, one for each path text, and the source.
+/// Returns the lines of `get`, one for each path text.
 pub(crate) fn get_output<S: Source>(
     alloc: Global,
-    src: S,
+    src: &mut S,
     decoded: Result<Certificate, CertRefusal>,
     texts: &[String],
-) -> (Result<Output, RunFault>, S)
-    ensures source { OnlyReads (read_failed result.0) (S.means src) (S.means result.1) }
-    ensures exact { IsTrue (S.means src).honest → (cert : List ℕ) → IsDecoded cert decoded
-        → ∥ Answers (LinesSay (found_line Style.OldStyle) (CheckSays (S.means src).octets cert) (S.means src).octets
-        (map (λ text. string_bytes text) texts.now)) result.0 ∥₁ }
+) -> Result<Output, RunFault>
+    ensures source { OnlyReads (read_failed result) (S.means src.old) (S.means src.new) }
+    ensures exact { IsTrue (S.means src.old).honest → (cert : List ℕ) → IsDecoded cert decoded
+        → ∥ Answers (LinesSay (found_line Style.OldStyle) (CheckSays (S.means src.old).octets cert) (S.means src.old).octets
+        (map (λ text. string_bytes text) texts.now)) result ∥₁ }
 {
-    let queries = match queries_of(alloc, texts) {
-        Ok(queries) => queries,
-        Err(fault) => return (Err(fault), src),
-    };
-    let certificate = match decoded {
-        Ok(certificate) => certificate,
-        Err(refusal) => return (Err(RunFault::from(refusal)), src),
-    };
-    let (told, src, _certificate) = answer_certified(alloc, src, certificate, &queries);
-    (lines_told(alloc, told), src)
+    let queries = queries_of(alloc, texts)?;
+    let certificate = decoded?;
+    let (told, _src, _certificate) = answer_certified(alloc, src, certificate, &queries);
+    lines_told(alloc, told)
 }
 
 /// Turns the replies into lines, or the cursor's fault into that of the run.

@@ -10,19 +10,9 @@ use bplist_objects::Kind;
 use bplist_octets::Source;
 use std::alloc::{AllocError, Global};
 
-/// Returns the line of `lint`, and the source.
-pub(crate) fn lint_output<S: Source>(alloc: Global, src: S) -> (Result<Output, RunFault>, S)
-    ensures source { OnlyReads (read_failed result.0) (S.means src) (S.means result.1) }
-    ensures exact { IsTrue (S.means src).honest → Answers (LintSays (S.means src).octets) result.0 }
-{
-    let mut src = src;
-    let made = line_of(alloc, &mut src);
-    (made, src)
-}
-
 /// Returns the line of `lint`.
-fn line_of<S: Source>(alloc: Global, src: &mut S) -> Result<Output, RunFault>
-    ensures reads { OnlyReads (read_failed result) (S.means src.old) (S.means src.new) }
+pub(crate) fn lint_output<S: Source>(alloc: Global, src: &mut S) -> Result<Output, RunFault>
+    ensures source { OnlyReads (read_failed result) (S.means src.old) (S.means src.new) }
     ensures exact { IsTrue (S.means src.old).honest → Answers (LintSays (S.means src.old).octets) result }
 {
     let (found, top) = lint_with_kind(alloc, src)?;

@@ -11,7 +11,7 @@ ghost use Rattle.bplint_engine.specs.Prelude.{IsHeadFor, first_lines, item_name,
 use crate::certify::checked_by_lint;
 use crate::get::path_in;
 use crate::members::{Members, member_face, member_text, members_of};
-use crate::output::{Output, send_made};
+use crate::output::{Output, send_output};
 use crate::print::missing_output;
 use bplint_lines::{
     Pair, RunFault, Said, Style, add_face, add_index, add_index_name, add_key_name,
@@ -39,7 +39,7 @@ pub(crate) struct Container<'a> {
 }
 
 /// Lists the value under a path: writes one line for each member of an array or set, one for each pair of a dictionary,
-/// or one for a leaf itself. Returns the source too.
+/// or one for a leaf itself.
 ///
 /// A line has the member's own path text, a tab, and the line of `Get` for the member, with texts in this style. If the
 /// member has no path text that can be shown, its index in brackets, counted from 0, replaces the path text. In UTF-8
@@ -57,40 +57,34 @@ pub(crate) struct Container<'a> {
 /// as `Lint` returns it. `Read`, `Memory`, `Write` and `Changed` mean the same as in [`crate::run_on`].
 pub fn list_on<S: Source, W: Write>(
     alloc: Global,
-    src: S,
+    src: &mut S,
     path: &str,
     style: Style,
     out: &mut W,
-) -> (Result<Said, RunFault>, S)
-    ensures source { OnlyReads (read_failed result.0) (S.means src) (S.means result.1) }
-    ensures exact { IsTrue (S.means src).honest
-        → Leaves (LinesSay (listed style path.now) (LintSays (S.means src).octets) (S.means src).octets (path.now ∷ [])) 0
-        (W.contents out.old) (W.contents out.new) result.0 }
+) -> Result<Said, RunFault>
+    ensures source { OnlyReads (read_failed result) (S.means src.old) (S.means src.new) }
+    ensures exact { IsTrue (S.means src.old).honest
+        → Leaves (LinesSay (listed style path.now) (LintSays (S.means src.old).octets) (S.means src.old).octets (path.now ∷ [])) 0
+        (W.contents out.old) (W.contents out.new) result }
 {
-    send_made(list_output(alloc, src, path, style), out)
+    send_output(list_output(alloc, src, path, style), out)
 }
 
-/// Returns the lines of `ls`, and the source.
+/// Returns the lines of `ls`.
 fn list_output<S: Source>(
     alloc: Global,
-    src: S,
+    src: &mut S,
     text: &str,
     style: Style,
-) -> (Result<Output, RunFault>, S)
-    ensures source { OnlyReads (read_failed result.0) (S.means src) (S.means result.1) }
-    ensures exact { IsTrue (S.means src).honest
-        → Answers (LinesSay (listed style text.now) (LintSays (S.means src).octets) (S.means src).octets (text.now ∷ [])) result.0 }
+) -> Result<Output, RunFault>
+    ensures source { OnlyReads (read_failed result) (S.means src.old) (S.means src.new) }
+    ensures exact { IsTrue (S.means src.old).honest
+        → Answers (LinesSay (listed style text.now) (LintSays (S.means src.old).octets) (S.means src.old).octets (text.now ∷ [])) result }
 {
-    let path = match path_in(alloc, text) {
-        Ok(path) => path,
-        Err(fault) => return (Err(fault), src),
-    };
+    let path = path_in(alloc, text)?;
     match checked_by_lint(alloc, src) {
-        Ok(mut checked) => {
-            let made = list_path(alloc, &mut checked, &path, text, style);
-            (made, checked.into_parts().0)
-        }
-        Err((fault, src)) => (Err(fault), src),
+        Ok(mut checked) => list_path(alloc, &mut checked, &path, text, style),
+        Err((fault, _src)) => Err(fault),
     }
 }
 

@@ -6,7 +6,7 @@ ghost use Rattle.std.specs.Io.KnownBytes.{Appends};
 ghost use Rattle.bplint_engine.specs.Prelude.{SendsPart, read_failed, Sends};
 
 use bplint_lines::{RunFault, Said};
-use bplist_octets::{Sink, Source, WriteFault};
+use bplist_octets::{Sink, WriteFault};
 use std::io::Write;
 
 /// The bytes of an answer, and whether each path led to a value.
@@ -16,19 +16,6 @@ pub(crate) struct Output {
     pub said: Said,
     /// All bytes of the answer, with line feeds.
     pub bytes: Vec<u8>,
-}
-
-/// Writes the output if there is one, and passes the source on.
-pub(crate) fn send_made<S: Source, W: Write>(
-    made: (Result<Output, RunFault>, S),
-    out: &mut W,
-) -> (Result<Said, RunFault>, S)
-    ensures sent { Sends (W.contents out.old) (W.contents out.new) made.0 result.0 }
-    ensures reads { read_failed result.0 ≡ read_failed made.0 }
-    ensures source { S.means result.1 ≡ S.means made.1 }
-{
-    let (made, src) = made;
-    (send_output(made, out), src)
 }
 
 /// Writes the output if there is one, or passes its fault on.

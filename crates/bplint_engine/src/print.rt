@@ -17,53 +17,31 @@ use bplist_octets::{Sink, Source, WriteFault};
 use std::alloc::Global;
 use std::io::Write;
 
-/// Writes the text of the value under a path and a line feed, or the line for a path that leads nowhere. Returns the
-/// source too. It has six parameters because `print` needs all of them.
+/// Writes the text of the value under a path and a line feed, or the line for a path that leads nowhere. It has six
+/// parameters because `print` needs all of them.
 pub(crate) fn print_answer<S: Source, W: Write>(
     alloc: Global,
-    src: S,
+    src: &mut S,
     decoded: Result<Certificate, CertRefusal>,
     texts: &[String],
     limit: u64,
     out: &mut W,
-) -> (Result<Said, RunFault>, S)
+) -> Result<Said, RunFault>
     requires { length texts.now ≡ 1 }
-    ensures source { OnlyReads (read_failed result.0) (S.means src) (S.means result.1) }
-    ensures exact { IsTrue (S.means src).honest → (cert : List ℕ) → IsDecoded cert decoded
-        → Leaves (PrintSays limit (CheckSays (S.means src).octets cert) (S.means src).octets
-        (map (λ text. string_bytes text) texts.now)) limit (W.contents out.old) (W.contents out.new) result.0 }
+    ensures source { OnlyReads (read_failed result) (S.means src.old) (S.means src.new) }
+    ensures exact { IsTrue (S.means src.old).honest → (cert : List ℕ) → IsDecoded cert decoded
+        → Leaves (PrintSays limit (CheckSays (S.means src.old).octets cert) (S.means src.old).octets
+        (map (λ text. string_bytes text) texts.now)) limit (W.contents out.old) (W.contents out.new) result }
 {
-    let path = match path_in(alloc, texts[0].as_str()) {
-        Ok(path) => path,
-        Err(fault) => return (Err(fault), src),
-    };
+    let path = path_in(alloc, texts[0].as_str())?;
     match check_decoded(alloc, src, decoded) {
-        Ok(checked) => print_checked(alloc, checked, &path, limit, out),
-        Err((fault, src)) => (Err(fault), src),
+        Ok(mut checked) => print_path(alloc, &mut checked, &path, limit, out),
+        Err((fault, _src)) => Err(fault),
     }
 }
 
-/// Writes what a checked file has under a path. Returns the source too.
-pub(crate) fn print_checked<S: Source, W: Write>(
-    alloc: Global,
-    checked: Checked<S>,
-    path: &Path,
-    limit: u64,
-    out: &mut W,
-) -> (Result<Said, RunFault>, S)
-    ensures source { OnlyReads (read_failed result.0) checked.source (S.means result.1) }
-    ensures exact { IsTrue checked.source.honest → (v : Value)
-        → Holds checked.source.octets checked.frame checked.frame.top.0 v
-        → LeavesBy (PathSays checked.source.octets checked.frame limit path.now v) limit
-        (W.contents out.old) (W.contents out.new) result.0 }
-{
-    let mut checked = checked;
-    let answer = print_path(alloc, &mut checked, path, limit, out);
-    (answer, checked.into_parts().0)
-}
-
 /// Writes what a checked file has under a path.
-fn print_path<S: Source, W: Write>(
+pub(crate) fn print_path<S: Source, W: Write>(
     alloc: Global,
     checked: &mut Checked<S>,
     path: &Path,

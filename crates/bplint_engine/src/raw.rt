@@ -18,7 +18,7 @@ use bplist_octets::Source;
 use std::alloc::Global;
 use std::io::Write;
 
-/// Writes the raw bytes of the value under a path, without a line feed. Returns the source too.
+/// Writes the raw bytes of the value under a path, without a line feed.
 ///
 /// | value | raw bytes |
 /// |---|---|
@@ -36,26 +36,20 @@ use std::io::Write;
 /// bytes may have been written.
 pub fn show_raw_on<S: Source, W: Write>(
     alloc: Global,
-    src: S,
+    src: &mut S,
     path: &str,
     out: &mut W,
-) -> (Result<Said, RawFault>, S)
-    ensures source { OnlyReads (raw_read_failed result.0) (S.means src) (S.means result.1) }
-    ensures exact { IsTrue (S.means src).honest
-        → ∥ LeavesRawBy (ShowsRaw (LintSays (S.means src).octets) (S.means src).octets path.now)
-        (IsRawless (LintSays (S.means src).octets) (S.means src).octets path.now)
-        (W.contents out.old) (W.contents out.new) result.0 ∥₁ }
+) -> Result<Said, RawFault>
+    ensures source { OnlyReads (raw_read_failed result) (S.means src.old) (S.means src.new) }
+    ensures exact { IsTrue (S.means src.old).honest
+        → ∥ LeavesRawBy (ShowsRaw (LintSays (S.means src.old).octets) (S.means src.old).octets path.now)
+        (IsRawless (LintSays (S.means src.old).octets) (S.means src.old).octets path.now)
+        (W.contents out.old) (W.contents out.new) result ∥₁ }
 {
-    let path = match path_in(alloc, path) {
-        Ok(path) => path,
-        Err(fault) => return (Err(RawFault::Run(fault)), src),
-    };
+    let path = path_in(alloc, path)?;
     match checked_by_lint(alloc, src) {
-        Ok(mut checked) => {
-            let answer = raw_path(alloc, &mut checked, &path, out);
-            (answer, checked.into_parts().0)
-        }
-        Err((fault, src)) => (Err(RawFault::Run(fault)), src),
+        Ok(mut checked) => raw_path(alloc, &mut checked, &path, out),
+        Err((fault, _src)) => Err(RawFault::Run(fault)),
     }
 }
 

@@ -10,7 +10,7 @@ use crate::certify::certify_output;
 use crate::check::check_output;
 use crate::get::get_output;
 use crate::lint::lint_output;
-use crate::output::send_made;
+use crate::output::send_output;
 use crate::print::print_answer;
 use bplint_lines::{RunFault, Said};
 use bplist_cert::{CertRefusal, Certificate};
@@ -95,11 +95,30 @@ pub fn run_certified<S: Source, W: Write>(
         → Leaves (Says command.now (S.means src).octets cert) (most command.now)
         (W.contents out.old) (W.contents out.new) result.0 }
 {
+    let mut src = src;
+    let answer = answer_command(alloc, command, &mut src, decoded, out);
+    (answer, src)
+}
+
+/// Does what [`run_certified`] says over a borrowed source.
+fn answer_command<S: Source, W: Write>(
+    alloc: Global,
+    command: &Command,
+    src: &mut S,
+    decoded: Result<Certificate, CertRefusal>,
+    out: &mut W,
+) -> Result<Said, RunFault>
+    requires { PrintsOnePath command.now }
+    ensures source { OnlyReads (read_failed result) (S.means src.old) (S.means src.new) }
+    ensures exact { IsTrue (S.means src.old).honest → (cert : List ℕ) → IsDecoded cert decoded
+        → Leaves (Says command.now (S.means src.old).octets cert) (most command.now)
+        (W.contents out.old) (W.contents out.new) result }
+{
     match command.verb {
-        Verb::Lint => send_made(lint_output(alloc, src), out),
-        Verb::Check => send_made(check_output(alloc, src, decoded), out),
-        Verb::Get => send_made(get_output(alloc, src, decoded, &command.paths), out),
-        Verb::Certify => send_made(certify_output(alloc, src, command.sorted, command.hex), out),
+        Verb::Lint => send_output(lint_output(alloc, src), out),
+        Verb::Check => send_output(check_output(alloc, src, decoded), out),
+        Verb::Get => send_output(get_output(alloc, src, decoded, &command.paths), out),
+        Verb::Certify => send_output(certify_output(alloc, src, command.sorted, command.hex), out),
         Verb::Print => print_answer(alloc, src, decoded, &command.paths, command.limit, out),
     }
 }

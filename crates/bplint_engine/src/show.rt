@@ -7,8 +7,8 @@ ghost use Rattle.bplint_lines.specs.Faults.{IsExcused};
 
 use crate::certify::checked_by_lint;
 use crate::get::{lines_for, path_in, queries_of};
-use crate::output::{Output, send_made};
-use crate::print::print_checked;
+use crate::output::{Output, send_output};
+use crate::print::print_path;
 use bplint_lines::{RunFault, Said, Style};
 use bplist_cert::Checked;
 use bplist_lint::upgrade;
@@ -20,47 +20,41 @@ use std::io::Write;
 const MANY: usize = 16;
 
 /// Writes what `Get` writes for these path texts, with the certificate of the least heights, and with texts in this
-/// style. Returns the source too.
+/// style.
 ///
 /// These errors come before anything is written, in this order: `Path` for the first wrong path text, then `Fault` or
 /// `Circle` as `Lint` returns it. `Read`, `Memory`, `Write` and `Changed` mean the same as in [`crate::run_on`].
 pub fn show_on<S: Source, W: Write>(
     alloc: Global,
-    src: S,
+    src: &mut S,
     paths: &[String],
     style: Style,
     out: &mut W,
-) -> (Result<Said, RunFault>, S)
-    ensures source { OnlyReads (read_failed result.0) (S.means src) (S.means result.1) }
-    ensures exact { IsTrue (S.means src).honest
-        → Leaves (LinesSay (found_line style) (LintSays (S.means src).octets) (S.means src).octets
-        (map (λ text. string_bytes text) paths.now)) 0 (W.contents out.old) (W.contents out.new) result.0 }
+) -> Result<Said, RunFault>
+    ensures source { OnlyReads (read_failed result) (S.means src.old) (S.means src.new) }
+    ensures exact { IsTrue (S.means src.old).honest
+        → Leaves (LinesSay (found_line style) (LintSays (S.means src.old).octets) (S.means src.old).octets
+        (map (λ text. string_bytes text) paths.now)) 0 (W.contents out.old) (W.contents out.new) result }
 {
-    send_made(show_output(alloc, src, paths, style), out)
+    send_output(show_output(alloc, src, paths, style), out)
 }
 
-/// Returns the lines of `show`, one for each path text, and the source.
+/// Returns the lines of `show`, one for each path text.
 fn show_output<S: Source>(
     alloc: Global,
-    src: S,
+    src: &mut S,
     texts: &[String],
     style: Style,
-) -> (Result<Output, RunFault>, S)
-    ensures source { OnlyReads (read_failed result.0) (S.means src) (S.means result.1) }
-    ensures exact { IsTrue (S.means src).honest
-        → ∥ Answers (LinesSay (found_line style) (LintSays (S.means src).octets) (S.means src).octets
-        (map (λ text. string_bytes text) texts.now)) result.0 ∥₁ }
+) -> Result<Output, RunFault>
+    ensures source { OnlyReads (read_failed result) (S.means src.old) (S.means src.new) }
+    ensures exact { IsTrue (S.means src.old).honest
+        → ∥ Answers (LinesSay (found_line style) (LintSays (S.means src.old).octets) (S.means src.old).octets
+        (map (λ text. string_bytes text) texts.now)) result ∥₁ }
 {
-    let queries = match queries_of(alloc, texts) {
-        Ok(queries) => queries,
-        Err(fault) => return (Err(fault), src),
-    };
+    let queries = queries_of(alloc, texts)?;
     match checked_for(alloc, src, queries.len()) {
-        Ok(mut checked) => {
-            let made = lines_for(alloc, style, &mut checked, &queries);
-            (made, checked.into_parts().0)
-        }
-        Err((fault, src)) => (Err(fault), src),
+        Ok(mut checked) => lines_for(alloc, style, &mut checked, &queries),
+        Err((fault, _src)) => Err(fault),
     }
 }
 
@@ -99,30 +93,26 @@ fn with_key_lists<S: Source>(
     }
 }
 
-/// Writes what `Print` writes for this path text and limit, with the certificate of the least heights. Returns the
-/// source too.
+/// Writes what `Print` writes for this path text and limit, with the certificate of the least heights.
 ///
 /// These errors come before anything is written, in this order: `Path` for a wrong path text; `Fault` or `Circle` as
 /// `Lint` returns it; `NoAsciiForm`; `TooLong`. `Read`, `Memory`, `Write` and `Changed` mean the same as in
 /// [`crate::run_on`] with `Print`.
 pub fn show_text_on<S: Source, W: Write>(
     alloc: Global,
-    src: S,
+    src: &mut S,
     path: &str,
     limit: u64,
     out: &mut W,
-) -> (Result<Said, RunFault>, S)
-    ensures source { OnlyReads (read_failed result.0) (S.means src) (S.means result.1) }
-    ensures exact { IsTrue (S.means src).honest
-        → Leaves (PrintSays limit (LintSays (S.means src).octets) (S.means src).octets (path.now ∷ [])) limit
-        (W.contents out.old) (W.contents out.new) result.0 }
+) -> Result<Said, RunFault>
+    ensures source { OnlyReads (read_failed result) (S.means src.old) (S.means src.new) }
+    ensures exact { IsTrue (S.means src.old).honest
+        → Leaves (PrintSays limit (LintSays (S.means src.old).octets) (S.means src.old).octets (path.now ∷ [])) limit
+        (W.contents out.old) (W.contents out.new) result }
 {
-    let path = match path_in(alloc, path) {
-        Ok(path) => path,
-        Err(fault) => return (Err(fault), src),
-    };
+    let path = path_in(alloc, path)?;
     match checked_by_lint(alloc, src) {
-        Ok(checked) => print_checked(alloc, checked, &path, limit, out),
-        Err((fault, src)) => (Err(fault), src),
+        Ok(mut checked) => print_path(alloc, &mut checked, &path, limit, out),
+        Err((fault, _src)) => Err(fault),
     }
 }

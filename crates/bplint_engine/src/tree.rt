@@ -29,7 +29,7 @@ pub struct Branch<'a> {
     pub style: Style,
 }
 
-/// Lists the value under a path, and every value inside it. Returns the source too.
+/// Lists the value under a path, and every value inside it.
 ///
 /// The value's own line comes first: the path text, a tab, and the line of `Get` for it, with texts in
 /// the style. The line of a container is
@@ -47,26 +47,20 @@ pub struct Branch<'a> {
 /// lines may have been written.
 pub fn list_all_on<S: Source, W: Write>(
     alloc: Global,
-    src: S,
+    src: &mut S,
     branch: &Branch<'_>,
     out: &mut W,
-) -> (Result<Said, RunFault>, S)
-    ensures source { OnlyReads (read_failed result.0) (S.means src) (S.means result.1) }
-    ensures exact { IsTrue (S.means src).honest
-        → ∥ LeavesSomeBy (ListsAll branch.now.style branch.now.limit (LintSays (S.means src).octets) (S.means src).octets
+) -> Result<Said, RunFault>
+    ensures source { OnlyReads (read_failed result) (S.means src.old) (S.means src.new) }
+    ensures exact { IsTrue (S.means src.old).honest
+        → ∥ LeavesSomeBy (ListsAll branch.now.style branch.now.limit (LintSays (S.means src.old).octets) (S.means src.old).octets
         branch.now.path.now)
-        (W.contents out.old) (W.contents out.new) result.0 ∥₁ }
+        (W.contents out.old) (W.contents out.new) result ∥₁ }
 {
-    let steps = match path_in(alloc, branch.path) {
-        Ok(steps) => steps,
-        Err(fault) => return (Err(fault), src),
-    };
+    let steps = path_in(alloc, branch.path)?;
     match checked_by_lint(alloc, src) {
-        Ok(mut checked) => {
-            let answer = tree_path(alloc, &mut checked, &steps, branch, out);
-            (answer, checked.into_parts().0)
-        }
-        Err((fault, src)) => (Err(fault), src),
+        Ok(mut checked) => tree_path(alloc, &mut checked, &steps, branch, out),
+        Err((fault, _src)) => Err(fault),
     }
 }
 

@@ -42,35 +42,30 @@ fn shown<S: Source + Drop>(
     path: &str,
     source: S,
 ) -> Result<String, Fail> {
+    let mut source = source;
     let mut out = Vec::new(alloc);
     let style = Style::Utf8;
     let answer = match call {
         Show::Value => {
             let paths = vec![in alloc; String::from_str(alloc, path)?]?;
-            show_on(alloc, source, &paths, style, &mut out).0
+            show_on(alloc, &mut source, &paths, style, &mut out)
         }
-        Show::Text => show_text_on(alloc, source, path, 100, &mut out).0,
-        Show::Raw => {
-            let (answer, _source) = show_raw_on(alloc, source, path, &mut out);
-            match answer {
-                Ok(said) => Ok(said),
-                Err(RawFault::Run(fault)) => Err(fault),
-                Err(fault) => return Ok(fault.line(alloc)?),
-            }
-        }
-        Show::Members => list_on(alloc, source, path, style, &mut out).0,
+        Show::Text => show_text_on(alloc, &mut source, path, 100, &mut out),
+        Show::Raw => match show_raw_on(alloc, &mut source, path, &mut out) {
+            Ok(said) => Ok(said),
+            Err(RawFault::Run(fault)) => Err(fault),
+            Err(fault) => return Ok(fault.line(alloc)?),
+        },
+        Show::Members => list_on(alloc, &mut source, path, style, &mut out),
         Show::All => {
             let branch = Branch {
                 path,
                 limit: 100,
                 style,
             };
-            list_all_on(alloc, source, &branch, &mut out).0
+            list_all_on(alloc, &mut source, &branch, &mut out)
         }
-        Show::Map => {
-            let mut source = source;
-            map_on(alloc, &mut source, &mut out)
-        }
+        Show::Map => map_on(alloc, &mut source, &mut out),
     };
     outcome(alloc, answer, &out)
 }

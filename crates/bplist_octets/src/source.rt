@@ -6,6 +6,7 @@
 ghost use Rattle.std.specs.Prelude.{◌≡◌, ℕ, ◌+◌, ◌≤◌, length, IsTrue, OnOk, is_err};
 ghost use Rattle.bplist_octets.specs.Octets.{part};
 ghost use Rattle.bplist_octets.specs.Meaning.{Meaning, OnlyReads};
+ghost use Rattle.bplist_octets.specs.Panes.{borrowed};
 ghost use Rattle.bplist_octets.specs.Slices.{StandsAt, source_over};
 
 /// Why a read failed.
@@ -50,6 +51,21 @@ pub trait Source {
         ensures filled { OnOk result (IsTrue (means self.old).honest
             → into.new ≡ part (means self.old).octets at (length into.old)) }
         ensures asks { asked self.new ≤ asked self.old + length into.old };
+}
+
+/// A borrowed source is a source, so that a call that takes a source need not hand it back.
+impl<S: Source> Source for &mut S {
+    ghost means = { λ r. borrowed r.ghost_name (S.means r.now) };
+
+    ghost asked = { λ r. S.asked r.now };
+
+    fn len(&self) -> u64 {
+        (**self).len()
+    }
+
+    fn read_at(&mut self, at: u64, into: &mut [u8]) -> Result<(), ReadFault> {
+        (**self).read_at(at, into)
+    }
 }
 
 /// A source over a slice. It is honest, its reads never fail, and its count of failed reads is 0.

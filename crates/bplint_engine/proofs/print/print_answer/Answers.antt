@@ -13,8 +13,8 @@ use Rattle.bplint_engine.proofs.print.print_answer.Goals as goal
 
 pub returns-in-Ok-check_decoded-clause-exact : goal.returns-in-Ok-check_decoded-clause-exact
 returns-in-Ok-check_decoded-clause-exact g c =
-    λ honest cert made. let f = (g.S.Source.means c.args.src).octets in
-    let left = rw c.in-Ok-check_decoded.ensures.handed at c.print_checked.ensures.exact in
+    λ honest cert made. let f = (g.S.Source.means c.args.src.now).octets in
+    let left = rw c.in-Ok-check_decoded.ensures.handed at c.print_path.ensures.exact in
     let vouched = c.in-Ok-check_decoded.ensures.exact honest cert made in
     let only = only_text c.args.texts.now c.index-texts-0.result c.requires c.index-texts-0.is in
     let path = subst (λ texts. AllZip IsPathOf texts (c.in-Ok.path ∷ [])) only (rw c.as_str.ensures.value at c.in-Ok.ensures) in
@@ -22,7 +22,7 @@ returns-in-Ok-check_decoded-clause-exact g c =
 
 pub returns-in-Err-clause-exact : goal.returns-in-Err-clause-exact
 returns-in-Err-clause-exact g c =
-    λ honest cert made. let f = (g.S.Source.means c.args.src).octets in
+    λ honest cert made. let f = (g.S.Source.means c.args.src.now).octets in
     let texts = bytes_of c.args.texts.now in
     let only = only_text c.args.texts.now c.index-texts-0.result c.requires c.index-texts-0.is in
     let wrong = subst (λ texts. OnPath (IsWrongAmong texts) c.in-Err.fault) only (rw c.as_str.ensures.value at c.in-Err.ensures) in
@@ -30,7 +30,7 @@ returns-in-Err-clause-exact g c =
 
 pub returns-clause-exact : goal.returns-clause-exact
 returns-clause-exact g c =
-    λ honest cert made. let f = (g.S.Source.means c.args.src).octets in
+    λ honest cert made. let f = (g.S.Source.means c.args.src.now).octets in
     let texts = bytes_of c.args.texts.now in
     let only = only_text c.args.texts.now c.index-texts-0.result c.requires c.index-texts-0.is in
     let path = subst (λ texts. AllZip IsPathOf texts (c.in-Ok.path ∷ [])) only (rw c.as_str.ensures.value at c.in-Ok.ensures) in

@@ -15,21 +15,21 @@ IsShown paths v answer = (steps : List (List ℕ)) × (paths ≡ steps ∷ []) �
 
 pub returns-in-Err-clause-exact : goal.returns-in-Err-clause-exact
 returns-in-Err-clause-exact g c = λ honest.
-    let f = (g.S.Source.means c.args.src).octets in
+    let f = (g.S.Source.means c.args.src.now).octets in
     let path = c.args.path.now in
     let old = g.W.Write.contents c.args.out.now in
     merely (refused_within (ShowsRaw (LintSays f) f path) None old old c.in-Err.fault (path_refused (LintSays f) f (path ∷ []) IsShown _ c.in-Err.ensures) (kept_self old))
 
 pub returns-in-Ok-checked_by_lint-clause-exact : goal.returns-in-Ok-checked_by_lint-clause-exact
 returns-in-Ok-checked_by_lint-clause-exact g c = λ honest.
-    let f = (g.S.Source.means c.args.src).octets in
-    let left = rw c.in-Ok-checked_by_lint.ensures.handed at c.raw_path-answer.ensures.exact in
+    let f = (g.S.Source.means c.args.src.now).octets in
+    let left = rw c.in-Ok-checked_by_lint.ensures.handed at c.raw_path.ensures.exact in
     let least = c.in-Ok-checked_by_lint.ensures.exact honest in
     merely (raw_says (LintSays f) f c.args.path.now _ _ _ _ _ c.in-Ok.ensures (lint_yes f _ _ least) (lint_there f _ _ least) (left honest))
 
 pub returns-clause-exact : goal.returns-clause-exact
 returns-clause-exact g c = λ honest.
-    let f = (g.S.Source.means c.args.src).octets in
+    let f = (g.S.Source.means c.args.src.now).octets in
     let path = c.args.path.now in
     let old = g.W.Write.contents c.args.out.now in
     merely (refused_within (ShowsRaw (LintSays f) f path) None old old c.in-Err-checked_by_lint.fault

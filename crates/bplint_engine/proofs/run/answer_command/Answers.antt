@@ -9,7 +9,7 @@ use Rattle.bplint_engine.specs.Get.{LinesSay, found_line}
 use Rattle.bplint_lines.specs.declared.texts.Style.TheVariants.{OldStyle}
 use Rattle.bplint_engine.specs.Said.{Says, most}
 use Rattle.bplint_engine.proofs.LeftBytes.{sent}
-use Rattle.bplint_engine.proofs.run.run_certified.Goals as goal
+use Rattle.bplint_engine.proofs.run.answer_command.Goals as goal
 
 pub returns-in-Get-clause-exact : goal.returns-in-Get-clause-exact
 returns-in-Get-clause-exact g c =
@@ -17,23 +17,23 @@ returns-in-Get-clause-exact g c =
     let view = c.command.view_is in
     let lent = c.deref.ensures.value in
     let made = rw lent at (c.get_output.ensures.exact honest cert decoded) in
-    let f = (g.S.Source.means c.args.src).octets in
-    rw (← view) (rw is (∥∥₁_map made (λ m. sent (LinesSay (found_line OldStyle) (CheckSays f cert) f _) 0 _ _ _ _ m c.send_made-in-Get.ensures.sent)))
+    let f = (g.S.Source.means c.args.src.now).octets in
+    rw (← view) (rw is (∥∥₁_map made (λ m. sent (LinesSay (found_line OldStyle) (CheckSays f cert) f _) 0 _ _ _ _ m c.send_output-in-Get.ensures.sent)))
 
 pub returns-in-Print-clause-exact : goal.returns-in-Print-clause-exact
 returns-in-Print-clause-exact g c =
     λ honest cert decoded. let is = c.in-Print.is in
     let lent = c.deref-in-Print.ensures.value in
     let left = rw lent at (c.print_answer.ensures.exact honest cert decoded) in
-    subst (λ (x : Asked). Leaves (Says x (g.S.Source.means c.args.src).octets cert) (most x)
-    (g.W.Write.contents c.args.out.now) (g.W.Write.contents c.print_answer.new.out) c.print_answer.result.0) c.command.view_is (rw is left)
+    subst (λ (x : Asked). Leaves (Says x (g.S.Source.means c.args.src.now).octets cert) (most x)
+    (g.W.Write.contents c.args.out.now) (g.W.Write.contents c.print_answer.new.out) c.print_answer.result) c.command.view_is (rw is left)
 
 pub returns-in-Certify-clause-exact : goal.returns-in-Certify-clause-exact
 returns-in-Certify-clause-exact g c =
     λ honest cert decoded. let is = c.in-Certify.is in
     let view = c.command.view_is in
     let made = c.certify_output.ensures.exact honest in
-    rw (← view) (rw is (merely (sent (CertifySays _ _ (g.S.Source.means c.args.src).octets) 0 _ _ _ _ made c.send_made-in-Certify.ensures.sent)))
+    rw (← view) (rw is (merely (sent (CertifySays _ _ (g.S.Source.means c.args.src.now).octets) 0 _ _ _ _ made c.send_output-in-Certify.ensures.sent)))
 
 pub print_answer-requires : goal.print_answer-requires
 print_answer-requires g c = grind (arith, common_steps)
