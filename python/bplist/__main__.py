@@ -184,9 +184,30 @@ def show(line: argparse.Namespace) -> int:
     return 0 if all(is_found for _, is_found in said) else 1
 
 
+class Version(argparse.Action):
+    """Writes the version, and ends the run."""
+
+    def __call__(
+        self,
+        parser: argparse.ArgumentParser,
+        namespace: argparse.Namespace,
+        values: object,
+        option_string: str | None = None,
+    ) -> None:
+        put(f"bplist {bplist.__version__}\n".encode())
+        parser.exit()
+
+
+class Parser(argparse.ArgumentParser):
+    """Writes help as an answer is written: if that fails, the status is 3. argparse's own help says 0."""
+
+    def print_help(self, file: object = None) -> None:
+        put(self.format_help().encode())
+
+
 def reader() -> argparse.ArgumentParser:
-    parser = argparse.ArgumentParser(prog="python -m bplist", description=__doc__, allow_abbrev=False)
-    parser.add_argument("-V", "--version", action="version", version=f"bplist {bplist.__version__}")
+    parser = Parser(prog="python -m bplist", description=__doc__, allow_abbrev=False)
+    parser.add_argument("-V", "--version", action=Version, nargs=0, help="print the version")
     verbs = parser.add_subparsers(required=True, metavar="lint|ls|show")
     verb = verbs.add_parser("lint", help=lint.__doc__, allow_abbrev=False)
     verb.add_argument("-q", "--quiet", action="store_true", help="print nothing for a sound file")
@@ -210,8 +231,8 @@ def main(words: collections.abc.Sequence[str] | None = None) -> int:
         # It is closed, and argparse would write to standard output.
         sys.stderr = open(os.devnull, "w")
     parser = reader()
-    line = parser.parse_args(words)
     try:
+        line = parser.parse_args(words)
         for path in [getattr(line, "path", ""), *getattr(line, "paths", [])]:
             check_path(path)
         status: int = line.run(line)

@@ -114,8 +114,9 @@ class Command(unittest.TestCase):
         """A full device is a fault with status 3. So is a pipe that nobody reads, but without a word."""
         module = [sys.executable, "-m", "bplist"]
         with open("/dev/full", "wb") as full:
-            ran = subprocess.run([*module, "lint", self.path], stdout=full, stderr=subprocess.PIPE, check=False)
-        self.assertEqual((ran.returncode, ran.stderr), (3, b"write 0\n"))
+            for words in (["lint", self.path], ["--version"], ["--help"]):
+                ran = subprocess.run([*module, *words], stdout=full, stderr=subprocess.PIPE, check=False)
+                self.assertEqual((ran.returncode, ran.stderr), (3, b"write 0\n"), words)
         reading, writing = os.pipe()
         os.close(reading)
         with open(writing, "wb") as pipe:
@@ -139,6 +140,8 @@ class Command(unittest.TestCase):
             (f"lint {there}x 2>&-", 3, "", ""),
             (f"show {there} a 2>&-", 2, "", ""),
             ("show 2>&-", 2, "", ""),
+            ("--version >&-", 3, "", "write 0\n"),
+            ("ls --help >&-", 3, "", "write 0\n"),
             ("lint - <&- >&- 2>&-", 3, "", ""),
         ):
             with self.subTest(line):
