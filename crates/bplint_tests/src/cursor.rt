@@ -1,5 +1,5 @@
-//! The cursor: path texts and their steps, nodes that no certificate vouches for, what is lent, how many comparisons a look-up
-//! among a thousand keys takes and how many bytes it asks for, and how many bytes sizes ask for.
+//! The cursor: path texts and their steps, nodes that no certificate vouches for, what is lent, how many comparisons a
+//! look-up among a thousand keys takes and how many bytes it asks for, and how many bytes sizes ask for.
 
 use bplist_ascii::{PrintFault, print};
 use bplist_cert::Checked;
@@ -112,7 +112,8 @@ fn lists(rt: HostRuntime) -> Result<(), Fail> {
     Ok(())
 }
 
-/// The largest number of comparisons, and of bytes asked for: what `path_bytes` is for a step of 4 units into 1,000 keys.
+/// The largest number of comparisons, and of bytes asked for: what `path_bytes` is for a step of 4 units into 1,000
+/// keys.
 const MOST: (u64, u64) = (10, 476);
 
 /// The look-up of this key finds what it should, within `MOST`.
