@@ -8,7 +8,7 @@ use bplint_lines::{RawFault, Style};
 use bplint_map::map_on;
 use bplist_octets::{ReadFault, ShiftingSource, SliceSource, Source};
 use bplist_samples::{
-    A_TO_ONE, FailingRead, FailingSource, Parts, READ_FAULTS, Row, TWO_TRUES, small, tested_rows,
+    FailingRead, FailingSource, Parts, READ_FAULTS, Row, TWO_TRUES, small, tested_rows,
 };
 use std::alloc::Global;
 use std::process::Abort;
@@ -141,16 +141,30 @@ fn changes_noticed(
     Ok(changes)
 }
 
-/// An array whose member becomes the array's own container: a circle.
+/// An array whose place becomes one that no object may have.
 #[test]
 fn shown_files_that_change(rt: HostRuntime) -> Result<(), Fail> {
     let alloc = rt.alloc();
     let first = small(alloc, TWO_TRUES.0, TWO_TRUES.1)?;
     let second = small(alloc, TWO_TRUES.0, &[0, 11])?;
-    for call in [Show::Value, Show::Members, Show::All] {
+    for call in [Show::Value, Show::Text, Show::Members, Show::All] {
         let changes = changes_noticed(&rt, alloc, call, "", (&first, &second))?;
         assert!(rt; changes > 0, "{call:?}");
     }
+    Ok(())
+}
+
+/// An array whose second member becomes the array itself: a circle. After the linter `map` reads no reference again, so
+/// it has the map of one of both files.
+#[test]
+fn map_that_changes(rt: HostRuntime) -> Result<(), Fail> {
+    let alloc = rt.alloc();
+    let first = small(alloc, TWO_TRUES.0, TWO_TRUES.1)?;
+    let second = small(alloc, &[0xa2, 1, 0, 9], TWO_TRUES.1)?;
+    assert_eq!(rt;
+        changes_noticed(&rt, alloc, Show::Map, "", (&first, &second))?,
+        0
+    );
     Ok(())
 }
 
