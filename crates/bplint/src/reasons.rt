@@ -7,9 +7,8 @@ use crate::ending::Ending;
 use crate::folders::{shown_name, shown_octets};
 use crate::input_fault::HexFault;
 use crate::output::OutFault;
-use bplint_lines::{RawFault, RunFault};
+use bplint_lines::{RawFault, RunFault, is_about_certificates};
 use bplist_cursor::Path;
-use bplist_objects::Rule;
 use std::alloc::{AllocError, Global};
 use std::io::ErrorKind;
 
@@ -88,18 +87,6 @@ fn faulty_name<'a>(names: &Names<'a>, ending: &Ending) -> &'a str {
         Err(RawFault::Run(RunFault::Fault(fault))) if is_about_certificates(fault.rule) =>
             names.cert,
         _ => names.file,
-    }
-}
-
-/// Returns true if the place of this rule is in the certificate.
-fn is_about_certificates(rule: Rule) -> bool {
-    match rule {
-        Rule::CertMagic
-        | Rule::CertLength
-        | Rule::CertCount
-        | Rule::TopNotVouched
-        | Rule::KeyOrder => true,
-        _ => false,
     }
 }
 

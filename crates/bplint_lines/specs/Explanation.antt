@@ -1,5 +1,5 @@
 -- What the explanation of a fault says of the rule. Source: profile.
-use Rattle.std.specs.Prelude.{ℕ, List, ◌++◌, codes, Option, None, Some}
+use Rattle.std.specs.Prelude.{ℕ, Bool, true, false, List, ◌++◌, codes, Option, None, Some}
 use Rattle.std.specs.Fmt.{decimal}
 use Rattle.bplist_objects.specs.declared.rule.Rule.{Rule}
 use Rattle.bplist_objects.specs.declared.rule.Rule.TheVariants as rules
@@ -15,3 +15,14 @@ rule_line rule = codes "  rule " ++ decimal (number_of rule) ++ codes ": " ++ (t
 -- the rule that a fault is about, if it is about one
 abbrev pub rule_of : RunFault → Option Rule
 rule_of fault = elim fault [ Fault x ↦ Some x.rule | Circle _ ↦ Some rules.Circle | Path _ ↦ Some rules.PathText | _ ↦ None ]
+
+-- true if the rule is about a certificate, which then has the place of the fault
+abbrev pub is_about_certificates : Rule → Bool
+is_about_certificates rule = elim rule [
+  | rules.CertMagic ↦ true
+  | rules.CertLength ↦ true
+  | rules.CertCount ↦ true
+  | rules.TopNotVouched ↦ true
+  | rules.KeyOrder ↦ true
+  | _ ↦ false
+]

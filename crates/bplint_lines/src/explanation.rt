@@ -8,7 +8,7 @@ ghost use Rattle.bplist_octets.specs.Meaning.{OnlyReads};
 ghost use Rattle.bplist_objects.specs.Failures.{failed_to_read};
 ghost use Rattle.bplist_objects.specs.Safe.{IsSafeFrame};
 ghost use Rattle.bplint_lines.specs.Answers.{read_failed};
-ghost use Rattle.bplint_lines.specs.Explanation.{rule_line, rule_of};
+ghost use Rattle.bplint_lines.specs.Explanation.{is_about_certificates, rule_line, rule_of};
 ghost use Rattle.std.specs.Fmt.{decimal};
 ghost use Rattle.bplist_objects.specs.Words.{number_of, word_of};
 ghost use Rattle.bplist_objects.specs.declared.rule.Rule.{Rule};
@@ -112,13 +112,24 @@ fn place_line<S: Source>(
 ) -> Result<String, Failure>
     ensures reads { OnlyReads (failed_to_read result) (S.means src.old) (S.means src.new) }
 {
-    match fault.rule {
+    if is_about_certificates(fault.rule) {
+        bytes_line(alloc, &mut SliceSource::new(cert), fault.place)
+    } else {
+        bytes_line(alloc, src, fault.place)
+    }
+}
+
+/// Returns true if the place of this rule is in the certificate, and false if it is in the file or in a path text.
+pub fn is_about_certificates(rule: Rule) -> bool
+    ensures { result ≡ is_about_certificates rule }
+{
+    match rule {
         Rule::CertMagic
         | Rule::CertLength
         | Rule::CertCount
         | Rule::TopNotVouched
-        | Rule::KeyOrder => bytes_line(alloc, &mut SliceSource::new(cert), fault.place),
-        _ => bytes_line(alloc, src, fault.place),
+        | Rule::KeyOrder => true,
+        _ => false,
     }
 }
 

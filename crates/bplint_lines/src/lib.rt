@@ -41,7 +41,7 @@ mod output_lines;
 mod raw_fault;
 mod texts;
 
-pub use explanation::{explain, rule_of_word, rule_text};
+pub use explanation::{explain, is_about_certificates, rule_of_word, rule_text};
 pub use fault::{RunFault, Said};
 pub use member_names::{Pair, add_index, add_index_name, add_key_name};
 pub use object_path::{ObjectPath, ObjectPaths, path_to, paths_in};
