@@ -9,8 +9,8 @@ use Rattle.bplint_lines.specs.Answers.{Answer, gives, refuses, read_failed}
 use Rattle.bplint_engine.specs.declared.output.Output.{Output}
 
 -- the error is a failed read
-abbrev pub is_read : RunFault → Bool
-is_read fault = read_failed {X = Unit {0}} (Err fault)
+abbrev pub is_failed_read : RunFault → Bool
+is_failed_read fault = read_failed {X = Unit {0}} (Err fault)
 
 -- this fault may come before anything is written; a failed read or refused memory may always come
 abbrev pub IsRefusal : (Answer → Type 0) → RunFault → Type 0
