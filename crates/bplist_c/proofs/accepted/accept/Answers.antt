@@ -7,11 +7,11 @@ pub returns-in-Ok : goal.returns-in-Ok
 returns-in-Ok c =
     let checked = c.in-Ok.checked in
     let lint = lint_of checked.frame checked.certificate c.in-Ok.counts in
-    let yes = (rw c.new.ensures.means at c.in-Ok.ensures.exact) refl in (
+    let yes = (rw c.new.ensures.octets at c.in-Ok.ensures.exact) refl in (
       Ok lint,
       (checked.frame, yes.valid.frame, yes),
       accepts c.args.file checked (c.in-Ok.ensures.handed ∙ c.new.ensures.means) lint c.with_verdict.result refl c.with_verdict.ensures,
     )
 
 pub returns-in-Err : goal.returns-in-Err
-returns-in-Err c = (Err c.in-Err.refusal, (rw c.new.ensures.means at c.in-Err.ensures.exact) refl, c.refused.ensures)
+returns-in-Err c = (Err c.in-Err.refusal, (rw c.new.ensures.octets at c.in-Err.ensures.exact) refl, c.refused.ensures)
