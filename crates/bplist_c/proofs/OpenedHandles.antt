@@ -19,6 +19,7 @@ use Rattle.bplist_c.specs.declared.accepted.Accepted.{Accepted}
 use Rattle.bplist_c.specs.declared.handle.BplistHandle.{BplistHandle}
 use Rattle.bplist_c.specs.declared.status.Status.{Status}
 use Rattle.bplist_c.specs.declared.verdict.BplistVerdict.{BplistVerdict}
+use Rattle.bplist_c.specs.Statuses.{status_number}
 use Rattle.bplist_c.specs.Lifecycle.{Accepts, IsOpened, IsPair, KeepsHandle}
 use Rattle.bplist_c.specs.Verdicts.{ShowsLint}
 
@@ -39,6 +40,20 @@ module _ (file : Bor (List ℕ)) (sorted : Bool) (P : Lint → Type 0) (Q : Faul
   opens (Err why) (Err told) given says kept = (Err why, given, (rw (← says) kept.0, rw (← says) kept.1), kept.2)
   opens (Ok lint) (Err told) given says kept = absurd says
   opens (Err why) (Ok accepted) given says kept = absurd says
+
+-- an answer with this verdict and status
+abbrev pub Tells : BplistVerdict → ℕ → Result Accepted (Status × BplistVerdict) → Type 0
+Tells verdict status result = MatchResult result (λ a. (status ≡ 0) × (verdict ≡ a.verdict))
+    (λ told. (status ≡ status_number told.0) × (verdict ≡ told.1))
+
+-- whoever tells what was accepted, or why not, shows the linter's answer
+pub shown : (file : Bor (List ℕ)) (verdict : BplistVerdict) (status : ℕ) (answer : Result Lint LintRefusal)
+    (accepted : Result Accepted (Status × BplistVerdict)) → Accepts file answer accepted → Tells verdict status accepted
+    → ShowsLint file.now answer verdict status
+shown file verdict status (Ok lint) (Ok a) says told = rw (told.0, told.1) says.1
+shown file verdict status (Err why) (Err t) says told = (rw (← says) told.0, rw (← says) told.1)
+shown file verdict status (Ok lint) (Err t) says told = absurd says
+shown file verdict status (Err why) (Ok a) says told = absurd says
 
 module _ (file : Bor (List ℕ)) (checked : CheckedFile) (same : checked.source ≡ source_over file) where
   -- the checked file with this verdict is accepted
