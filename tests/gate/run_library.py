@@ -1,9 +1,10 @@
 #!/usr/bin/env python3
 """run_library.py [--only PREFIX] TABLE PROGRAM
 
-Gives all rows of TABLE to PROGRAM, one request on each line, and prints every answer that differs. The last line is
-`N passed, M failed`. The exit status is 1 if one failed. tests/vectors/README.md describes the columns, and the page of
-bplist_calls the form of a request.
+Gives all rows of TABLE to PROGRAM, one request on each line, and prints every answer that differs. It also lets PROGRAM
+count the bytes that each call asks its source for, and prints every count above the bound that is proved of the call. A
+last test lowers a bound below its count, and wants that to be noticed. The last line is `N passed, M failed`. The exit
+status is 1 if one failed. tests/vectors/README.md describes the columns, and the page of bplist_calls the form of a request.
 """
 import argparse
 import os
@@ -29,25 +30,47 @@ def request(vector):
     return "\t".join([*inputs, name, *operands])
 
 
-def answers(vectors, program):
+def answers(vectors, *program):
     """One answer for each vector, b"" behind the last where the program ended early, and what it says of that."""
     requests = "".join(request(vector) + "\n" for vector in vectors)
-    ran = subprocess.run([program], input=requests.encode(), capture_output=True, timeout=SECONDS, check=False)
+    ran = subprocess.run(program, input=requests.encode(), capture_output=True, timeout=SECONDS, check=False)
     told = ran.stdout.split(b"\n")[:-1]
     complaint = ran.stderr if ran.returncode or len(told) != len(vectors) else b""
     return told[: len(vectors)] + (len(vectors) - len(told)) * [b""], complaint
 
 
-def report(vectors, told, complaint):
+def excess(count):
+    """What is wrong with a count and its bound, or None. A call of which no bound is proved has `-` for both."""
+    if count == b"-":
+        return None
+    asked, _, bound = count.partition(b" ")
+    if asked.isdigit() and bound.isdigit() and int(asked) <= int(bound):
+        return None
+    return f"asks for {readable(asked)} bytes, and {readable(bound)} are proved"
+
+
+def is_lowered_bound_noticed(counts):
+    """Whether `excess` tells the first count above 0 from the bound that is one less."""
+    asked = next((int(count.split()[0]) for count in counts if count[:1].isdigit() and not count.startswith(b"0 ")), 0)
+    return asked > 0 and excess(b"%d %d" % (asked, asked)) is None and excess(b"%d %d" % (asked, asked - 1)) is not None
+
+
+def report(vectors, told, counts, complaint):
     """Prints the differences and the closing line, and answers how many failed."""
     failed = 0
-    for vector, answer in zip(vectors, told):
+    for vector, answer, count in zip(vectors, told, counts):
+        above = excess(count)
         if answer != vector.answer.encode():
-            failed += 1
             print(f"{vector.name}: {vector.call}\n    wanted {vector.answer[:SHOWN]}\n    got    {readable(answer)}")
+        if above:
+            print(f"{vector.name}: {vector.call}\n    {above}")
+        failed += answer != vector.answer.encode() or above is not None
+    if not is_lowered_bound_noticed(counts):
+        failed += 1
+        print("a bound below the count is not noticed, or no call asks for a byte")
     if complaint:
         print(f"bplist_calls says: {readable(complaint)}")
-    passed = len(vectors) - failed
+    passed = len(vectors) + 1 - failed
     if complaint and not failed:
         failed = 1
     print(f"{passed} passed, {failed} failed")
@@ -61,8 +84,10 @@ def main():
     parser.add_argument("program")
     given = parser.parse_args()
     vectors = read_calls(given.table, given.only)
-    told, complaint = answers(vectors, os.path.abspath(given.program))
-    return 1 if report(vectors, told, complaint) else 0
+    program = os.path.abspath(given.program)
+    told, complaint = answers(vectors, program)
+    counts, more = answers(vectors, program, "asked")
+    return 1 if report(vectors, told, counts, complaint + more) else 0
 
 
 if __name__ == "__main__":

@@ -7,7 +7,7 @@ use bplist_cert::{Certificate, Checked};
 use bplist_cursor::{Form, List, Measures, Node, Query, Reply, answer, bytes_of, measure, member};
 use bplist_lint::lint;
 use bplist_objects::shape_of;
-use bplist_octets::SliceSource;
+use bplist_octets::{SliceSource, Source};
 use std::alloc::Global;
 use std::fmt::Write as _;
 use std::io::Write;
@@ -19,7 +19,7 @@ pub(crate) fn answer_lines<W: Write>(alloc: Global, lines: &[String], out: &mut 
     };
     let first = words_of(first)?;
     let file = bytes_of_hex(alloc, first.file)?;
-    let mut checked = checked_of(alloc, &file, first.certificate)?;
+    let mut checked = checked_of(alloc, SliceSource::new(&file), first.certificate)?;
     answer_each(alloc, &mut checked, lines, out)
 }
 
@@ -37,16 +37,17 @@ fn answer_each<W: Write>(
     Ok(())
 }
 
-fn checked_of<'a>(
+/// Checks the source with the certificate that has these bytes in hexadecimal.
+pub(crate) fn checked_of<S: Source + Drop>(
     alloc: Global,
-    file: &'a [u8],
+    source: S,
     certificate: &str,
-) -> Result<Checked<SliceSource<'a>>> {
+) -> Result<Checked<S>> {
     let octets = bytes_of_hex(alloc, certificate)?;
     let certificate = Certificate::from_octets(alloc, &octets).map_err(|refusal| anyhow!(
         "from_octets: {refusal:?}"
     ))?;
-    accepted(alloc, SliceSource::new(file), certificate)
+    accepted(alloc, source, certificate)
 }
 
 fn answer_to(
@@ -66,7 +67,7 @@ fn answer_text(
     request: &Request,
 ) -> Result<String> {
     match request {
-        Request::Answer(query) => reply_text(alloc, checked, query),
+        Request::Answer(query, _) => reply_text(alloc, checked, query),
         Request::Nodes(n) => optional(alloc, measures.nodes(*n)),
         Request::Form(n) => form_text(alloc, measures.form(*n)),
         Request::Member(node, i) => member_text(alloc, checked, *node, *i),

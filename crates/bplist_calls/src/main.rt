@@ -15,36 +15,49 @@
 //! | `bytes_of N` | the place of the bytes, and the bytes in hexadecimal, `-` for no byte; or `none` |
 //! | `references` | how many references the linter counts |
 //!
+//! With the argument `asked`, a line of output has the number of bytes that the call asks its source for, and the most
+//! that is proved of it; or `-` if no bound is proved. For `form` the call also prints, and for `bytes_of` it reads the
+//! face.
+//!
 //! With the argument `twice`, standard input is a file, and every call is made on it twice. With `counts`, standard
 //! input is a file too, and the program counts the bytes that `lint`, `check` and `upgrade` ask for.
 //!
 //! The modules, in reading order:
 //!
 //! - `requests`, `answers`: lines of input, the calls they ask for, and the answers.
+//! - `asked`, `bounds`: what these calls ask their source for, and the bounds that are proved.
 //! - `repeated_calls`: every call twice.
 //! - `counts`: what the calls that look at a whole file ask of it, and certificates that must be accepted.
 #![tactic(auto)]
 
 mod answers;
+mod asked;
+mod bounds;
 mod counts;
 mod repeated_calls;
 mod requests;
 
 use answers::answer_lines;
 use anyhow::{Result, bail};
+use asked::write_asked;
 use counts::write_counts;
 use repeated_calls::make_twice;
 use requests::has_same_file;
 use std::alloc::Global;
 use std::io::{self, BufRead, BufReader, BufWriter, Read, Write};
 
-fn answer_requests(rt: &HostRuntime, alloc: Global) -> Result<()> {
+/// Answers the lines of standard input, or counts what their calls ask for.
+fn answer_requests(rt: &HostRuntime, alloc: Global, counts: bool) -> Result<()> {
     let lines: Vec<String> = BufReader::new(alloc, rt.reader())?
         .lines(alloc)
         .try_collect(alloc)?;
     let mut out = BufWriter::new(alloc, io::writer(rt))?;
     for same in lines.chunk_by(|_, next| has_same_file(next)) {
-        answer_lines(alloc, same, &mut out)?;
+        if counts {
+            write_asked(alloc, same, &mut out)?;
+        } else {
+            answer_lines(alloc, same, &mut out)?;
+        }
     }
     out.flush()?;
     Ok(())
@@ -54,8 +67,11 @@ fn main(rt: HostRuntime) -> Result<()> {
     let alloc = rt.alloc();
     let words: Vec<String> = std::env::args(&rt)?.collect(alloc)?;
     let Some(word) = words.get(1) else {
-        return answer_requests(&rt, alloc);
+        return answer_requests(&rt, alloc, false);
     };
+    if word.as_str() == "asked" {
+        return answer_requests(&rt, alloc, true);
+    }
     let mut file = Vec::new(alloc);
     rt.reader().read_to_end(&mut file)?;
     // Not buffered, so that each line is out before the next call begins.

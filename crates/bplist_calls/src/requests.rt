@@ -39,7 +39,8 @@ pub(crate) fn words_of(line: &str) -> Result<Line<'_>> {
 /// One call of the library.
 #[derive(Drop)]
 pub(crate) enum Request {
-    Answer(Query),
+    /// A query, and the text of its path.
+    Answer(Query, String),
     Nodes(ObjectNo),
     Form(ObjectNo),
     Member(Node, u64),
@@ -51,8 +52,14 @@ pub(crate) enum Request {
 pub(crate) fn request_of(alloc: Global, line: Line<'_>) -> Result<Request> {
     let operands = line.operands;
     match line.call {
-        "size" => Ok(Request::Answer(Query::Size(path(alloc, operands)?))),
-        "keys" => Ok(Request::Answer(Query::Keys(path(alloc, operands)?))),
+        "size" => {
+            let text = path_text(alloc, operands)?;
+            Ok(Request::Answer(Query::Size(path_of(alloc, &text)?), text))
+        }
+        "keys" => {
+            let text = path_text(alloc, operands)?;
+            Ok(Request::Answer(Query::Keys(path_of(alloc, &text)?), text))
+        }
         "nodes" => Ok(Request::Nodes(object(operands)?)),
         "form" => Ok(Request::Form(object(operands)?)),
         "member" => member(operands),
@@ -78,9 +85,15 @@ fn object(text: &str) -> Result<ObjectNo> {
     Ok(ObjectNo(text.parse().context("the number of an object")?))
 }
 
-fn path(alloc: Global, text: &str) -> Result<Path> {
-    let bytes = bytes_of_hex(alloc, text)?;
+/// Decodes the text of a path.
+fn path_text(alloc: Global, operands: &str) -> Result<String> {
+    let bytes = bytes_of_hex(alloc, operands)?;
     let text = std::str::from_utf8(&bytes).context("a path that is no text")?;
+    Ok(String::from_str(alloc, text)?)
+}
+
+/// Parses a path.
+pub(crate) fn path_of(alloc: Global, text: &str) -> Result<Path> {
     Path::parse(alloc, text).map_err(|fault| anyhow!("a path with the fault {fault:?}"))
 }
 
