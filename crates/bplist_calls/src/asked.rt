@@ -76,6 +76,13 @@ fn make<S: Source>(alloc: Global, checked: &mut Checked<S>, request: &Request) {
 fn make_text<S: Source>(alloc: Global, checked: &mut Checked<S>, n: ObjectNo) {
     if let Ok(measures) = measure(alloc, checked) {
         let mut text: Vec<u8> = Vec::new(alloc);
-        let _ = print(alloc, checked, &measures, Node { object: n }, LIMIT, &mut text);
+        let _ = print(
+            alloc,
+            checked,
+            &measures,
+            Node { object: n },
+            LIMIT,
+            &mut text,
+        );
     }
 }

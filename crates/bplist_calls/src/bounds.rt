@@ -79,11 +79,7 @@ fn units_in(step: &str) -> u64 {
 }
 
 /// Returns the head of the object to which the path with this text leads, or None if it leads to none.
-fn head_at<S: Source>(
-    alloc: Global,
-    checked: &mut Checked<S>,
-    path: &str,
-) -> Result<Option<Head>> {
+fn head_at<S: Source>(alloc: Global, checked: &mut Checked<S>, path: &str) -> Result<Option<Head>> {
     match locate(checked, &path_of(alloc, path)?).map_err(|fault| anyhow!("locate: {fault:?}"))? {
         Found::At(node) => Ok(node_head(checked, node).ok()),
         Found::Missing { .. } => Ok(None),
@@ -137,7 +133,9 @@ fn face_bytes<S: Source>(checked: &mut Checked<S>, node: Node) -> Option<u64> {
 /// `pass_bytes`
 fn pass_bytes<S: Source>(checked: &Checked<S>) -> u64 {
     let frame = checked.frame();
-    u64::from(frame.objects).saturating_mul(HEAD).saturating_add(frame.table)
+    u64::from(frame.objects)
+        .saturating_mul(HEAD)
+        .saturating_add(frame.table)
 }
 
 /// `pass_bytes` for the measures, and then `print_bytes`, or `search_bytes` if the value has no text
@@ -150,7 +148,10 @@ fn form_bytes<S: Source>(
     let frame = checked.frame();
     let printed = match measures.form(n) {
         Some(Form::Length(long)) => LIMIT.min(long).saturating_mul(40).saturating_add(36),
-        Some(Form::NoForm) => frame.table.saturating_mul(8).saturating_add(u64::from(frame.objects).saturating_mul(36)),
+        Some(Form::NoForm) => frame
+            .table
+            .saturating_mul(8)
+            .saturating_add(u64::from(frame.objects).saturating_mul(36)),
         None => return Ok(None),
     };
     Ok(Some(printed.saturating_add(pass_bytes(checked))))
