@@ -50,8 +50,11 @@ CALLS = [call for call in EACH if "FILE" not in call]
 # lie in one another are compared with each other.
 EACH_OF = {
     "keys_of_one_fingerprint": {"check FILE, version 2": 140, "get FILE": 140},
-    "keys_of_our_fingerprint": {"check-1": 24, "upgrade": 24, "check FILE, version 2": 140, "get FILE": 140},
+    "keys_of_our_fingerprint": {"check FILE, version 2": 140, "get FILE": 140},
     "keys_over_keys_vouched": {"check FILE, version 1": 40, "check FILE, version 2": 40},
+    # A split parts one key from all others, and each visit of a key reads its head and its next units: two jumps.
+    "keys_that_peel": {"certify --sorted FILE": 350},
+    "keys_of_one_length_that_peel": {"lint FILE": 200, "check FILE, version 1": 200, "certify --sorted FILE": 400},
     # To get its rank, a long key is compared with up to thirteen others, and each comparison reads both.
     "pairs_of_keys": {"check-2": 20},
 }
@@ -64,7 +67,6 @@ FREE = 4
 
 # By family. What stands here and grows no faster is said, so that it can be taken out.
 KNOWN = {
-    "keys_of_our_fingerprint": ["lint", "lint FILE", "certify --sorted FILE", "check FILE, version 1"],
     "keys_over_regions": ["check FILE, version 1", "check FILE, version 2"],
 }
 

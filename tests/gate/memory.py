@@ -2,7 +2,7 @@
 """memory.py PROGRAM
 
 Shows that `lint` takes at most 12 bytes of memory for each object and a constant, and for a faulty file a quarter of its
-length more. `lint` runs with a limit of that size on the data of its process, and has to give its answer. The files are the
+length more. Where keys were made to have one fingerprint, it takes up to 28. `lint` runs with a limit of that size on the data of its process, and has to give its answer. The files are the
 hostile families, and usual ones of some 400,000 objects: keys that share one value, keys with values, numbers, texts, and
 dictionaries. For the usual ones memory has to be refused if the limit is 6 bytes for each object. One run counts as one test.
 The last line is `N passed, M failed`.
@@ -22,6 +22,8 @@ from helpers.contents import number_at  # noqa: E402
 from helpers.families import FAMILIES, ring  # noqa: E402
 
 MOST, LESS = 12, 6
+# By family: keys of one fingerprint are put in order, with 16 bytes for each.
+MOST_OF = {"keys_of_our_fingerprint": MOST + 16}
 BESIDE = 1 << 20  # the program's own data, and what the allocator rounds up
 LENGTH = 2_000_000  # of a hostile file, about
 FAULT, REFUSED = 1, 4  # what the program's status says
@@ -53,7 +55,7 @@ def runs():
         yield name, content, LESS, REFUSED
     for family in FAMILIES:
         if family is not ring:
-            yield family.__name__, family(LENGTH), MOST, None
+            yield family.__name__, family(LENGTH), MOST_OF.get(family.__name__, MOST), None
 
 
 def main(program):

@@ -46,8 +46,7 @@ LEFT_OUT = {
     "add_hexadecimal, add_text_of_bytes",
     "larger files, bodies and answers": "is_rest_low, first_high_by_parts, first_high_long, read_past, read_at:> LONGEST, "
     "put:!self.has_room, pass_on",
-    "keys whose fingerprints are equal or descend": "compare_texts, merge",
-    "ranks, which `upgrade` needs": "weigh:Weight::Prefix, notes_by:Weight::Prefix",
+    "keys whose fingerprints are equal": "refine",
     "a certificate without key lists": "walk_keys",
     "queries of the library": "keys_at, nodes_at",
     "a path that leads nowhere, a text that needs quotes": "add_missing, add_quoted",

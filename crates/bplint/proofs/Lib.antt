@@ -1,0 +1,2 @@
+pub mod CountedSteps
+pub mod WalkedFolders

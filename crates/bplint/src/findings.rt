@@ -1,7 +1,8 @@
 //! What `lint` says of each file: its line or its fault, its name alone, or nothing. A run counts its files, and keeps the
 //! greatest exit status.
 
-ghost use Rattle.std.specs.Prelude.{◌≤◌};
+ghost use Rattle.std.specs.Prelude.{◌≡◌, ◌⊎◌, ◌≤◌};
+ghost use Rattle.bplint.specs.Tallies.{CountsOne, IsAnswer, no_counts};
 
 use crate::args::{Job, Lint, Printed, Request, Task};
 use crate::ending::{Ending, end};
@@ -28,25 +29,26 @@ pub struct Findings<'a, R> {
     lint: &'a Lint<'a>,
     request: Request<'a>,
     pub tally: Tally,
-    /// True if nobody reads standard output any more, which ends the run.
-    pub closed: bool,
 }
 
 impl<'a, R: Files<File = File> + Print + Eprint> Findings<'a, R> {
     /// Makes the findings of a run, without any so far.
-    pub fn new(rt: &'a R, alloc: Global, lint: &'a Lint<'a>) -> Findings<'a, R> {
+    pub fn new(rt: &'a R, alloc: Global, lint: &'a Lint<'a>) -> Findings<'a, R>
+        ensures { result.tally ≡ no_counts }
+    {
         Findings {
             rt,
             alloc,
             lint,
             request: request_in(alloc, lint),
             tally: Tally::new(),
-            closed: false,
         }
     }
 
     /// Lints an input, and says what it found.
-    pub fn add(&mut self, name: &str, inputs: Inputs) {
+    pub fn add(&mut self, name: &str, inputs: Inputs)
+        ensures { CountsOne IsAnswer self.old.tally self.new.tally }
+    {
         if self.prints_json() {
             let finding = finding_of(self.alloc, inputs.file);
             return self.print_finding(name.as_bytes(), &finding);
@@ -84,7 +86,9 @@ impl<'a, R: Files<File = File> + Print + Eprint> Findings<'a, R> {
     }
 
     /// Prints the name of a file that is not sound, and counts the file.
-    fn print_name(&mut self, name: &str) {
+    fn print_name(&mut self, name: &str)
+        ensures { CountsOne IsAnswer self.old.tally self.new.tally }
+    {
         match self.name_line(name) {
             Ok(line) => self.print(&line, 1),
             Err(_) => self.end_without_memory(),
@@ -112,7 +116,9 @@ impl<'a, R: Files<File = File> + Print + Eprint> Findings<'a, R> {
     }
 
     /// Prints the JSON line of a finding about the file with this name, and counts the file.
-    fn print_finding(&mut self, name: &[u8], finding: &Finding) {
+    fn print_finding(&mut self, name: &[u8], finding: &Finding)
+        ensures { CountsOne IsAnswer self.old.tally self.new.tally }
+    {
         match finding.line(self.alloc, name) {
             Ok(line) => self.print(&line, finding.status()),
             Err(_) => self.end_without_memory(),
@@ -122,6 +128,7 @@ impl<'a, R: Files<File = File> + Print + Eprint> Findings<'a, R> {
     /// Prints a line to standard output, and counts a file whose run ended with this status.
     fn print(&mut self, line: &[u8], status: u8)
         requires { status ≤ 4 }
+        ensures { CountsOne IsAnswer self.old.tally self.new.tally }
     {
         let mut out = OutFile::new(self.rt, "-");
         if out.write_all(line).is_ok() {
@@ -133,7 +140,9 @@ impl<'a, R: Files<File = File> + Print + Eprint> Findings<'a, R> {
     }
 
     /// Says that an input could not be read.
-    pub fn add_unread(&mut self, unread: Unread<'_>) {
+    pub fn add_unread(&mut self, unread: Unread<'_>)
+        ensures { CountsOne IsAnswer self.old.tally self.new.tally }
+    {
         if self.prints_json() {
             let (name, finding) = (unread.name, unread.finding(self.rt, self.alloc));
             return self.print_finding(name.as_bytes(), &finding);
@@ -146,7 +155,9 @@ impl<'a, R: Files<File = File> + Print + Eprint> Findings<'a, R> {
     }
 
     /// Says that a path is not UTF-8, and cannot be opened.
-    pub fn add_unnamed(&mut self, path: &[u8]) {
+    pub fn add_unnamed(&mut self, path: &[u8])
+        ensures { CountsOne IsAnswer self.old.tally self.new.tally }
+    {
         if self.prints_json() {
             let finding = Finding::Unread {
                 fault: RunFault::Open,
@@ -161,7 +172,9 @@ impl<'a, R: Files<File = File> + Print + Eprint> Findings<'a, R> {
     }
 
     /// Prints the counts.
-    pub fn print_counts(&mut self) {
+    pub fn print_counts(&mut self)
+        ensures { (self.new.tally ≡ self.old.tally) ⊎ CountsOne IsAnswer self.old.tally self.new.tally }
+    {
         match self.tally.line(self.alloc) {
             Ok(line) => {
                 let _ = self.rt.eprintln(line);
@@ -171,14 +184,22 @@ impl<'a, R: Files<File = File> + Print + Eprint> Findings<'a, R> {
     }
 
     /// Prints how a run ended, and counts it.
-    fn end(&mut self, prefix: &str, ending: Ending) {
-        self.closed = ending.silent;
+    fn end(&mut self, prefix: &str, ending: Ending)
+        ensures { CountsOne IsAnswer self.old.tally self.new.tally }
+    {
+        let silent = ending.silent;
         let status = end(self.rt, self.alloc, prefix, ending);
-        self.tally.count(status);
+        if silent {
+            self.tally.cut_off(status);
+        } else {
+            self.tally.count(status);
+        }
     }
 
     /// Ends the run after memory for its lines was refused.
-    fn end_without_memory(&mut self) {
+    fn end_without_memory(&mut self)
+        ensures { CountsOne IsAnswer self.old.tally self.new.tally }
+    {
         self.end("", Ending::with(self.alloc, RunFault::Memory));
     }
 

@@ -8,7 +8,7 @@ ghost use Rattle.bplint.specs.FileNames.{is_printable, shown_octet, shown_text};
 use crate::input::read_whole;
 use crate::input_fault::InputFault;
 use std::alloc::{AllocError, Global};
-use std::fs::{self, File, Files};
+use std::fs::{self, Files};
 
 /// The type of a folder's entry.
 #[derive(Clone, Copy, Drop)]
@@ -21,38 +21,61 @@ pub enum Entry {
     Other,
 }
 
-/// Returns the type of what is at a path. Does not follow a link.
-pub fn entry_at<R: Files<File = File>>(rt: &R, path: &str) -> Result<Entry, InputFault> {
-    match fs::symlink_metadata(rt, path) {
-        Ok(metadata) if metadata.is_dir() => Ok(Entry::Folder),
-        Ok(metadata) if metadata.is_file() => Ok(Entry::File),
-        Ok(_) => Ok(Entry::Other),
-        Err(_) => Err(InputFault::Open),
-    }
+/// A file system whose folders are walked over.
+pub trait Folders {
+    ghost use Rattle.std.specs.Prelude.{◌≡◌, ◌⊎◌, Err, IfSome, MatchResult, Ok, Option};
+    ghost use Rattle.bplint.specs.Disks.{Disk};
+    ghost use Rattle.bplint.specs.Walks.{bytes_of};
+
+    /// What its calls return, if that is known and does not change.
+    ghost disk: { Self → Option Disk };
+
+    /// Returns true if the name leads to a folder, directly or through a link.
+    fn is_folder(&self, name: &str) -> bool
+        ensures { IfSome (disk self.now) (λ d. result ≡ d.is_folder name.now) };
+
+    /// Returns the type of what is at a path. Does not follow a link.
+    fn entry_at(&self, path: &str) -> Result<Entry, InputFault>
+        ensures { IfSome (disk self.now) (λ d. result ≡ d.entry path.now) };
+
+    /// Returns the paths of all entries of a folder, sorted by the bytes of their names, the last name first. They need
+    /// not be UTF-8. Follows a link to a folder.
+    fn paths_in(&self, alloc: Global, folder: &str) -> Result<Vec<Vec<u8>>, InputFault>
+        ensures { IfSome (disk self.now) (λ d. MatchResult result
+            (λ paths. d.paths folder.now ≡ Ok (bytes_of paths.items))
+            (λ fault. (fault ≡ InputFault.Memory) ⊎ (d.paths folder.now ≡ Err fault))) };
 }
 
-/// Returns true if the name leads to a folder, directly or through a link.
-pub fn is_folder<R: Files<File = File>>(rt: &R, name: &str) -> bool {
-    match fs::metadata(rt, name) {
-        Ok(metadata) => metadata.is_dir(),
-        Err(_) => false,
-    }
-}
+impl Folders for HostRuntime {
+    ghost use Rattle.std.specs.Prelude.{None};
 
-/// Returns the paths of all entries of a folder, sorted by the bytes of their names, the last name first. They need not
-/// be UTF-8. Follows a link to a folder.
-pub fn paths_in<R: Files<File = File>>(
-    rt: &R,
-    alloc: Global,
-    folder: &str,
-) -> Result<Vec<Vec<u8>>, InputFault> {
-    let front = with_slash(alloc, folder)?;
-    let mut dir = rt.open_dir(&front).map_err(|_| InputFault::Open)?;
-    let names = read_whole(alloc, &mut dir)?;
-    let mut paths = joined_all(alloc, &front, &names)?;
-    paths.sort_unstable();
-    paths.reverse();
-    Ok(paths)
+    ghost disk = { λ _. None };
+
+    fn is_folder(&self, name: &str) -> bool {
+        match fs::metadata(self, name) {
+            Ok(metadata) => metadata.is_dir(),
+            Err(_) => false,
+        }
+    }
+
+    fn entry_at(&self, path: &str) -> Result<Entry, InputFault> {
+        match fs::symlink_metadata(self, path) {
+            Ok(metadata) if metadata.is_dir() => Ok(Entry::Folder),
+            Ok(metadata) if metadata.is_file() => Ok(Entry::File),
+            Ok(_) => Ok(Entry::Other),
+            Err(_) => Err(InputFault::Open),
+        }
+    }
+
+    fn paths_in(&self, alloc: Global, folder: &str) -> Result<Vec<Vec<u8>>, InputFault> {
+        let front = with_slash(alloc, folder)?;
+        let mut dir = self.open_dir(&front).map_err(|_| InputFault::Open)?;
+        let names = read_whole(alloc, &mut dir)?;
+        let mut paths = joined_all(alloc, &front, &names)?;
+        paths.sort_unstable();
+        paths.reverse();
+        Ok(paths)
+    }
 }
 
 /// Returns the paths of these names, each of which ends with a zero byte, except `.` and `..`.

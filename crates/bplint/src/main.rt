@@ -58,6 +58,7 @@ use bplint_lines::{RunFault, Said, rule_text};
 use bplist_objects::Rule;
 use command_line::read_line;
 use ending::{Ending, WRONG_LINE, end, refuse};
+use folders::Folders;
 use linting::lint_files;
 use output::{OutFault, OutFile};
 use runs::run;
@@ -86,7 +87,7 @@ fn page<R: Files<File = File> + Print>(rt: &R, alloc: Global, rule: Rule) -> End
 
 /// Does what the words of a command line ask for. Returns the exit status. `on_terminal` says whether standard error is
 /// a terminal.
-fn start<R: Files<File = File> + Input + Print + Eprint>(
+fn start<R: Files<File = File> + Folders + Input + Print + Eprint>(
     rt: &R,
     alloc: Global,
     words: &[String],

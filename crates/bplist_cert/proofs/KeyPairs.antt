@@ -12,7 +12,7 @@ use Rattle.bplist_objects.proofs.HeadTies.{shape_announced}
 use Rattle.bplist_objects.proofs.UnitOrder.{compare_units-self, compare_units-less_less}
 use Rattle.bplist_objects.specs.Scan.{ref}
 use Rattle.bplist_keys.specs.Texts.{HasTextShape, text_units}
-use Rattle.bplist_keys.proofs.WeightSteps.{text_units-head}
+use Rattle.bplist_keys.proofs.TextUnits.{text_units-head}
 use Rattle.bplist_cert.specs.Lists.{Keyed, IsWhole}
 use Rattle.bplist_cert.specs.Valid.{IsVouchedBy}
 use Rattle.bplist_cert.specs.Looks.{KeepsBeforeKeys, KeepBeforeKeysBelow}

@@ -25,7 +25,7 @@ use Rattle.bplist_keys.specs.Classes.{HasNamedKeys, AreClassed, HaveClasses, Are
 use Rattle.bplist_objects.specs.Claims.{FailsAt}
 use Rattle.bplist_objects.proofs.ClaimLaws.{fails_too}
 use Rattle.bplist_keys.proofs.RankLaws.{none_marked, classes_same}
-use Rattle.bplist_keys.proofs.WeightSteps.{text_units-head}
+use Rattle.bplist_keys.proofs.TextUnits.{text_units-head}
 use Rattle.bplist_cert.specs.DictKeys.{IsText, KeysAreTexts, KeysDiffer, IsFirstTwice, IsTwiceFault}
 use Rattle.bplist_cert.specs.Lists.{Keyed, lists}
 use Rattle.bplist_cert.specs.CheckRules.{KeepsRule, KeepsLast}

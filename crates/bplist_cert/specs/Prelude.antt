@@ -28,7 +28,6 @@ pub use Rattle.bplist_objects.specs.declared.rule.Rule.TheVariants.{KeyKind, Ove
 pub use Rattle.bplist_keys.specs.Classes.{AreClassed, HasNamedKeys, IsNew, IsStamped}
 pub use Rattle.bplist_objects.specs.Failures.{failed_to_read}
 pub use Rattle.bplist_keys.specs.Marks.{IsMarked}
-pub use Rattle.bplist_keys.specs.Ranks.{AreClasses}
 pub use Rattle.bplist_keys.specs.Runs.{AreRuns}
 pub use Rattle.bplist_keys.specs.Texts.{HasTextShape, text_units}
 pub use Rattle.bplist_cert.specs.CheckRules.{HasOrder, IsCheckFault, IsOrderFault}

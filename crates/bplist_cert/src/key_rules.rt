@@ -13,8 +13,8 @@ ghost use Rattle.std.specs.Result.{result_err};
 ghost use Rattle.bplist_cert.specs.Prelude.{OnlyReads, frame_in, HonestlyIn, IsSafeHead, Gives, read_failed, KeyKind};
 ghost use Rattle.bplist_cert.specs.Prelude.{Dict, Head as head_record, IsText, KeysAreTexts, IsKeylessFault, AreLow};
 ghost use Rattle.bplist_cert.specs.Prelude.{IsOffsetOf, AreOffsetsOf, ReferToTexts, IsFirstOther, HasHead};
-ghost use Rattle.bplist_cert.specs.Prelude.{Head as head, HaveNamedKeys, AreClassed, IsStamped, IsNew, AreClasses};
-ghost use Rattle.bplist_cert.specs.Prelude.{failed_to_read, lists, KeepBeforeKeysBelow, IsVouchedBy, HasGoodKeys};
+ghost use Rattle.bplist_cert.specs.Prelude.{Head as head, HaveNamedKeys, AreClassed, IsStamped, IsNew};
+ghost use Rattle.bplist_cert.specs.Prelude.{lists, KeepBeforeKeysBelow, IsVouchedBy, HasGoodKeys};
 ghost use Rattle.bplist_cert.specs.Prelude.{HaveGoodKeys, BreaksKeys, IsFirstKeysFault, Judges, refused_read, ref_count};
 ghost use Rattle.bplist_cert.specs.Prelude.{AreRefs};
 
@@ -23,10 +23,10 @@ use crate::heights::height_at;
 use crate::key_lists::VouchedPrefix;
 use crate::key_names::seen_keys;
 use crate::refusal::Refusal;
-use bplist_keys::{ClassTable, KeyDefect, KeyNumbers, NamedKeys, classes_of, ranks_of, text_head};
+use bplist_keys::{ClassTable, KeyDefect, NamedKeys, classes_of, text_head};
 use bplist_objects::{
-    Failure, Framed, Head, Kind, ObjectFault, ObjectNo, OffsetTable, Offsets, object_shape,
-    offsets_of, read_refs,
+    Framed, Head, Kind, ObjectFault, ObjectNo, OffsetTable, Offsets, object_shape, offsets_of,
+    read_refs,
 };
 use bplist_octets::ReadFault;
 use std::alloc::Global;
@@ -159,25 +159,6 @@ pub(crate) fn check_texts<P: Offsets>(
     Ok(())
 }
 
-/// Returns the classes of the keys. If not all vouched objects were seen, texts may overlap; they are then compared
-/// with each other and not read one by one.
-fn key_classes<P: Offsets>(
-    alloc: Global,
-    src: &mut P,
-    seen: &VouchedPrefix,
-    named: NamedKeys,
-) -> Result<KeyNumbers, Failure>
-    requires { length named.marks.items ≡ (frame_in (P.means src.old)).objects }
-    ensures reads { OnlyReads (failed_to_read result) (P.means src.old) (P.means src.new) }
-    ensures exact { HonestlyIn (P.means src.old) (λ f F.
-        IfOk result (λ ranks. AreClasses f F named.marks.items ranks.table.items)) }
-{
-    if seen.bound == src.frame().objects {
-        return classes_of(alloc, src, named);
-    }
-    ranks_of(alloc, src, named)
-}
-
 /// Checks the keys of vouched object `n` by their classes, if it is a dictionary. The fault is that of the first key
 /// that is not a text, or else that of the first key with the units of an earlier one. If all vouched objects were
 /// seen, a key that is a text by marker and count is a text, so the classes alone show that the keys are good.
@@ -233,7 +214,7 @@ fn check_named<P: Offsets>(
         (IsFirstKeysFault f F (lists seen.now.heights.now None) seen.now.bound) result) }
 {
     let _frame = src.frame();
-    let classes = key_classes(alloc, src, seen, named)?;
+    let classes = classes_of(alloc, src, named)?;
     let mut look = KeyTables {
         table: ClassTable::new(alloc, classes)?,
         low: LowBytesCache::new(src.len()),
@@ -246,8 +227,8 @@ fn check_named<P: Offsets>(
     Ok(())
 }
 
-/// Checks that the keys of the vouched dictionaries seen so far are texts that differ. If all vouched objects were
-/// seen, each named text is read once for its class, and again only if another has the same fingerprint.
+/// Checks that the keys of the vouched dictionaries seen so far are texts that differ. The first units of each named
+/// text are read once for its class, and the text is read further only if another has the same fingerprint.
 ///
 /// Without keys there is nothing to check, so neither classes nor places are read. With few keys, places are read when
 /// they are needed, and not kept in a table.

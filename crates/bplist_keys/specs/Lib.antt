@@ -1,10 +1,9 @@
 pub mod Marks
-pub mod Order
 pub mod Texts
-pub mod Weights
-pub mod WeightOrder
+pub mod Runs
+pub mod Groups
+pub mod Pivot
+pub mod Fingerprints
 pub mod Ranks
 pub mod Classes
-pub mod Notes
-pub mod Runs
 pub mod Prelude

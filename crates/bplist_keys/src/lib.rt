@@ -10,7 +10,6 @@
 //! let same = classes.table[a] == classes.table[b];         // true if and only if the units are the same
 //! ```
 //!
-//! A text is read once, for a fingerprint or for its first units, and again only if those are equal to another text's.
 //! A key that is not a text has number 0.
 //!
 //! The modules, in the order in which to read them:
@@ -19,23 +18,26 @@
 //! |---|---|
 //! | named_keys | [`NamedKeys`], a mark for each object that is named as a key; [`name_keys`], which sets them; [`count_marked`], [`numbers_of`] |
 //! | text | [`object_text`] and [`text_head`], the head of a key; [`text_order`], the order of two texts |
-//! | ranks | [`KeyNumbers`], a number for each key: [`classes_of`], equal if and only if the units are; [`ranks_of`], in order |
+//! | ranks | [`KeyNumbers`], a number for each key; [`ranks_of`], which gives them in the order of the units |
+//! | classes | [`classes_of`], for callers that compare only for equality: by fingerprints, so that most texts are read no further than their first units |
 //! | class_table | [`ClassTable`], which finds a dictionary's first [`KeyDefect`], a key that is wrong by rule 21 or 22 |
-//! | weights | fingerprints and first units, which are compared before the units; the order of texts by both, for the sort |
-//! | merge_sort | the sort, and the trait of objects that it can compare |
-//! | comparison_cache | what earlier comparisons found, so that shared units are not read again; [`RunCache`] is its public part |
+//! | grouping | the order of texts: groups that share their first units, split until each is settled |
+//! | pivot | how the texts of a group compare with one of them, as numbers that are sorted in memory |
+//! | run_cache | [`RunCache`], what earlier comparisons found of texts that overlap, so that shared units are not read again |
 #![tactic(auto)]
 
 mod class_table;
-mod comparison_cache;
-mod merge_sort;
+mod classes;
+mod grouping;
 mod named_keys;
+mod pivot;
 mod ranks;
+mod run_cache;
 mod text;
-mod weights;
 
 pub use class_table::{ClassTable, KeyDefect};
-pub use comparison_cache::RunCache;
+pub use classes::classes_of;
 pub use named_keys::{NamedKeys, count_marked, name_keys, numbers_of};
-pub use ranks::{KeyNumbers, classes_of, ranks_of};
+pub use ranks::{KeyNumbers, ranks_of};
+pub use run_cache::RunCache;
 pub use text::{object_text, text_head, text_order};

@@ -3,7 +3,7 @@ use Rattle.std.specs.Ordering.{is_lt}
 use Rattle.bplist_objects.specs.declared.frame.Frame.{Frame}
 use Rattle.bplist_objects.specs.Framed.{frame_in}
 use Rattle.bplist_objects.specs.Units.{compare_units}
-use Rattle.bplist_keys.proofs.WeightSteps.{text_units-head}
+use Rattle.bplist_keys.proofs.TextUnits.{text_units-head}
 use Rattle.bplist_cert.proofs.LongKeys.{lt_less}
 use Rattle.bplist_cert.proofs.key_order.comes_after.Goals as goal
 

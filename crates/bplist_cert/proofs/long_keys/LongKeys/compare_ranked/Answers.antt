@@ -2,7 +2,7 @@ use Rattle.std.proofs.Common.{◌%◌, slice_index, sym, ap₂, ◌∙◌}
 use Rattle.bplist_objects.specs.declared.frame.Frame.{Frame}
 use Rattle.bplist_objects.specs.Framed.{frame_in}
 use Rattle.bplist_objects.specs.Units.{compare_units}
-use Rattle.bplist_keys.proofs.WeightSteps.{text_units-head}
+use Rattle.bplist_keys.proofs.TextUnits.{text_units-head}
 use Rattle.bplist_cert.proofs.long_keys.LongKeys.compare_ranked.Goals as goal
 
 pub returns-clause-exact : goal.returns-clause-exact
