@@ -14,7 +14,6 @@ pub mod AcceptedCertificates
 pub mod UnchangedChecked
 pub mod OneFault
 pub mod KeyRepeats
-pub mod LongKeys
 pub mod KeyPairs
 pub mod RepeatedKeys
 pub mod DecidedKeys

@@ -9,9 +9,10 @@ use Rattle.bplist_objects.specs.Heads.{HasShape}
 use Rattle.bplist_objects.specs.Units.{IsTextKind, compare_units}
 use Rattle.bplist_keys.specs.Runs.{AreRuns}
 use Rattle.bplist_cert.specs.declared.key_order.ReadKey.{ReadKey}
+use Rattle.bplist_cert.specs.declared.key_order.TextKey.{TextKey}
 use Rattle.bplist_cert.specs.declared.caches.OrderedPairsCache.{OrderedPairsCache}
 use Rattle.bplist_keys.specs.Texts.{HasTextShape, text_units}
-use Rattle.bplist_cert.specs.LongKeys.{AreRanked}
+use Rattle.bplist_keys.specs.LongTexts.{AreRanked}
 use Rattle.bplist_objects.specs.Safe.{IsSafeBody}
 use Rattle.bplist_objects.specs.Scan.{ref}
 
@@ -27,6 +28,10 @@ module _ (f : List ℕ) (F : Frame) where
   -- the head of the key, if it was read, is that of its text
   abbrev pub IsReadKey : ReadKey → Type 0
   IsReadKey key = IfSome key.head (λ head. HasShape f F key.object head × IsTextKind head.kind)
+
+  -- the head of the key is that of its text
+  abbrev pub IsTextKey : TextKey → Type 0
+  IsTextKey key = HasShape f F key.object key.head × IsTextKind key.head.kind
 
   -- objects a and b are texts by marker and count, and the units of a come before those of b
   abbrev pub Ascends : ℕ → ℕ → Type 0

@@ -13,7 +13,6 @@ pub mod Refusals
 pub mod CheckedFile
 pub mod KeyOffsets
 pub mod KeyRepeats
-pub mod LongKeys
 pub mod KeyPairs
 pub mod LowBytes
 pub mod KeysLooks

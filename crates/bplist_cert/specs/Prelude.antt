@@ -17,7 +17,7 @@ pub use Rattle.bplist_objects.specs.Reach.{Chain, Reach, Refs}
 pub use Rattle.bplist_objects.specs.Rules.{KeepsAll}
 pub use Rattle.bplist_objects.specs.Safe.{IsSafeFrame, IsSafeHead, ref_count}
 pub use Rattle.bplist_objects.specs.Scan.{ref}
-pub use Rattle.bplist_objects.specs.Units.{IsTextKind, compare_units}
+pub use Rattle.bplist_objects.specs.Units.{IsTextKind}
 pub use Rattle.bplist_objects.specs.Value.{Value}
 pub use Rattle.bplist_objects.specs.declared.fault.Fault.{Fault}
 pub use Rattle.bplist_objects.specs.declared.frame.Frame.{Frame}
@@ -28,20 +28,18 @@ pub use Rattle.bplist_objects.specs.declared.rule.Rule.TheVariants.{KeyKind, Ove
 pub use Rattle.bplist_keys.specs.Classes.{AreClassed, HasNamedKeys, IsNew, IsStamped}
 pub use Rattle.bplist_objects.specs.Failures.{failed_to_read}
 pub use Rattle.bplist_keys.specs.Marks.{IsMarked}
-pub use Rattle.bplist_keys.specs.Runs.{AreRuns}
-pub use Rattle.bplist_keys.specs.Texts.{HasTextShape, text_units}
+pub use Rattle.bplist_keys.specs.Texts.{HasTextShape}
 pub use Rattle.bplist_cert.specs.CheckRules.{HasOrder, IsCheckFault, IsOrderFault}
 pub use Rattle.bplist_cert.specs.CheckedFile.{CheckedFile, IsChecked, meaning_of}
 pub use Rattle.bplist_cert.specs.DictKeys.{AreInOrder, IsKeylessFault, IsText, KeysAreTexts, KeysDiffer}
 pub use Rattle.bplist_cert.specs.Encoding.{Fits, IsCertRefusal, IsOctetsFault, magic, octets_of, words}
 pub use Rattle.bplist_cert.specs.Heights.{AreLower, AreMet, AreMetBy, IsFirstUnmetBy, IsHeightFault, IsUnmetFault, Meets, rule_of}
 pub use Rattle.bplist_cert.specs.KeyOffsets.{AreOffsetsOf, ArePlaces, AreRefs, IsFirstOther, IsOffsetOf, ReferToTexts}
-pub use Rattle.bplist_cert.specs.KeyPairs.{AreFewKeys, AreKnown, Ascends, Follows, HaveTextShapes, IsReadKey, IsSafeKey, IsSafeText}
+pub use Rattle.bplist_cert.specs.KeyPairs.{AreFewKeys, AreKnown, Ascends, Follows, HaveTextShapes, IsReadKey, IsSafeKey, IsSafeText, IsTextKey}
 pub use Rattle.bplist_cert.specs.KeyRepeats.{BreaksKeys, HasGoodKeys, HaveGoodKeys, HaveNamedKeys, IsFirstKeysFault, IsKeyOf, IsVouchedKey}
 pub use Rattle.bplist_cert.specs.KeysLooks.{AreLearnt, AreSeen, HaveGoodLists, IsListed}
 pub use Rattle.bplist_cert.specs.Lists.{AreWords, HasStarts, IsCertificate, IsWhole, Lists, list_of, lists}
 pub use Rattle.bplist_cert.specs.Looks.{IsShownFault, KeepBeforeKeysBelow}
-pub use Rattle.bplist_cert.specs.LongKeys.{AreRanked, FitsBefore, FitsRank, HasRank, IsPlace, IsRaised, IsRankedAs, IsTextKey}
 pub use Rattle.bplist_cert.specs.LowBytes.{AreLow, IsLow}
 pub use Rattle.bplist_cert.specs.PairFault.{AreCheckedBelow, IsCheckedObject, IsPairFault, IsSeenFault, IsVouchedFault, IsWalkFault, KeepsPairRules}
 pub use Rattle.bplist_cert.specs.Refusals.{GivesRefusal, Judges, MayRefuse, is_read, refusal_of, refusal_of_keys, refused_read}

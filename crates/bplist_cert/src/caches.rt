@@ -7,8 +7,7 @@ ghost use Rattle.std.specs.Prelude.{◌≡◌, ◌+◌, ◌*◌, ℕ, List, IsTr
 ghost use Rattle.std.specs.Result.{result_err};
 ghost use Rattle.bplist_cert.specs.Prelude.{Frame as frame, Ascends, AreKnown, OnlyReads, Honestly, IsLow, AreLow};
 
-use crate::long_keys::LongKeys;
-use bplist_keys::RunCache;
+use bplist_keys::{LongTexts, RunCache};
 use bplist_objects::first_high_in;
 use bplist_octets::{ReadFault, Source};
 
@@ -22,21 +21,21 @@ const STRETCHES: usize = 256;
 /// one in its slot. A pair is stored as one number, and 0 means none. The cache also has the runs of texts compared so
 /// far, and the ranks of long keys.
 #[derive(Drop)]
-pub(crate) struct OrderedPairsCache {
+pub(crate) struct OrderedPairsCache<'a> {
     pub slots: [u64; PAIR_SLOTS],
     pub runs: RunCache,
-    pub long: LongKeys,
+    pub long: LongTexts<'a>,
 }
 
-impl OrderedPairsCache {
+impl<'a> OrderedPairsCache<'a> {
     /// Returns an empty cache for a file of `len` bytes.
-    pub(crate) fn new(len: u64) -> OrderedPairsCache
+    pub(crate) fn new(len: u64, heights: &'a [u32]) -> OrderedPairsCache<'a>
         ensures { (f : List ℕ) (F : frame) → AreKnown f F result }
     {
         OrderedPairsCache {
             slots: [0; PAIR_SLOTS],
             runs: RunCache::new(),
-            long: LongKeys::new(len),
+            long: LongTexts::new(len, heights),
         }
     }
 

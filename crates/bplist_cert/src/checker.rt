@@ -293,7 +293,7 @@ fn check_objects<P: Offsets>(
     ensures exact { HonestlyIn (P.means src.old) (λ f F.
         Judges (λ used. AreCheckedBelow f F cert.now exact F.objects used.octets) (IsVouchedFault f F cert.now) result) }
 {
-    let mut found = key_findings(alloc, src, &cert.keys)?;
+    let mut found = key_findings(alloc, src, &cert.heights, &cert.keys)?;
     check_found(alloc, src, cert, &mut found)
 }
 

@@ -33,20 +33,20 @@ pub(crate) struct VouchedPrefix<'a> {
 
 /// The caches that keys are looked up in, and what a walk over the vouched objects found about the key lists.
 #[derive(Drop)]
-pub(crate) struct KeyListFindings {
-    pub pairs: OrderedPairsCache,
+pub(crate) struct KeyListFindings<'a> {
+    pub pairs: OrderedPairsCache<'a>,
     pub low: LowBytesCache,
     /// Whether all key lists that the walk has seen so far are good.
     pub good: bool,
 }
 
-impl KeyListFindings {
+impl<'a> KeyListFindings<'a> {
     /// Before the walk, for a file of `len` bytes.
-    pub(crate) fn new(len: u64) -> KeyListFindings
+    pub(crate) fn new(len: u64, heights: &'a [u32]) -> KeyListFindings<'a>
         ensures { (f : List ℕ) (F : frame) → AreLearnt f F result }
     {
         KeyListFindings {
-            pairs: OrderedPairsCache::new(len),
+            pairs: OrderedPairsCache::new(len, heights),
             low: LowBytesCache::new(len),
             good: true,
         }
@@ -55,14 +55,14 @@ impl KeyListFindings {
 
 /// What the walk over the vouched objects has found out about the keys of dictionaries so far.
 #[derive(Drop)]
-pub(crate) struct KeyFindings {
+pub(crate) struct KeyFindings<'a> {
     /// For version 1: the objects that are named as keys, if they are to be collected.
     pub named: Option<NamedKeys>,
     /// For version 2: whether the key lists are good.
-    pub lists: KeyListFindings,
+    pub lists: KeyListFindings<'a>,
 }
 
-impl KeyFindings {
+impl<'a> KeyFindings<'a> {
     /// Drops what was found. After this a walk looks at no keys.
     pub(crate) fn forget(&mut self)
         ensures { (f : List ℕ) (F : frame) (certificate : Lists) (bound : ℕ) → AreSeen f F certificate 0 self.old
@@ -118,11 +118,12 @@ impl KeyFindings {
 }
 
 /// Returns what a walk begins with.
-pub(crate) fn key_findings<P: Framed>(
+pub(crate) fn key_findings<'a, P: Framed>(
     alloc: Global,
     src: &P,
+    heights: &'a [u32],
     keys: &Option<KeyLists>,
-) -> Result<KeyFindings, AllocError>
+) -> Result<KeyFindings<'a>, AllocError>
     ensures none { HonestlyIn (P.means src.now) (λ f F. IfOk result (λ look. (heights : List ℕ) → AreSeen f F (lists heights keys.now) 0 look)) }
     ensures memory { IfErr result (λ _. keys.now ≡ None) }
 {
@@ -133,7 +134,7 @@ pub(crate) fn key_findings<P: Framed>(
     };
     Ok(KeyFindings {
         named,
-        lists: KeyListFindings::new(src.len()),
+        lists: KeyListFindings::new(src.len(), heights),
     })
 }
 

@@ -31,7 +31,6 @@
 //! | key_rules | rule 21, and rules 21 and 22 for version 1 | |
 //! | key_order | rule 32 for one dictionary | |
 //! | caches | caches of key pairs in order and of stretches of ASCII bytes | |
-//! | long_keys | ranks of long keys | |
 //! | laws | laws about the definitions in specs/ | [`one_certificate`], [`yes_or_fault`] and others |
 #![tactic(auto)]
 
@@ -46,7 +45,6 @@ mod key_names;
 mod key_order;
 mod key_rules;
 mod laws;
-mod long_keys;
 mod refusal;
 
 pub use certificate::{CertRefusal, Certificate, KeyLists};

@@ -23,12 +23,14 @@
 //! | class_table | [`ClassTable`], which finds a dictionary's first [`KeyDefect`], a key that is wrong by rule 21 or 22 |
 //! | grouping | the order of texts: groups that share their first units, split until each is settled |
 //! | pivot | how the texts of a group compare with one of them, as numbers that are sorted in memory |
+//! | long_texts | [`LongTexts`], ranks of long texts in a table of fixed size |
 //! | run_cache | [`RunCache`], what earlier comparisons found of texts that overlap, so that shared units are not read again |
 #![tactic(auto)]
 
 mod class_table;
 mod classes;
 mod grouping;
+mod long_texts;
 mod named_keys;
 mod pivot;
 mod ranks;
@@ -37,6 +39,7 @@ mod text;
 
 pub use class_table::{ClassTable, KeyDefect};
 pub use classes::classes_of;
+pub use long_texts::LongTexts;
 pub use named_keys::{NamedKeys, count_marked, name_keys, numbers_of};
 pub use ranks::{KeyNumbers, ranks_of};
 pub use run_cache::RunCache;
