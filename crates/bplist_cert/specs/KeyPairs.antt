@@ -12,7 +12,7 @@ use Rattle.bplist_cert.specs.declared.key_order.ReadKey.{ReadKey}
 use Rattle.bplist_cert.specs.declared.key_order.TextKey.{TextKey}
 use Rattle.bplist_cert.specs.declared.caches.OrderedPairsCache.{OrderedPairsCache}
 use Rattle.bplist_keys.specs.Texts.{HasTextShape, text_units}
-use Rattle.bplist_keys.specs.LongTexts.{AreRanked}
+use Rattle.bplist_keys.specs.LongRanks.{AreRanked}
 use Rattle.bplist_objects.specs.Safe.{IsSafeBody}
 use Rattle.bplist_objects.specs.Scan.{ref}
 

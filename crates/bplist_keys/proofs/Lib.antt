@@ -6,6 +6,8 @@ pub mod GroupParts
 pub mod TextUnits
 pub mod Listed
 pub mod RankLaws
+pub mod LongRanks
 pub mod Singles
 pub mod LookUps
 pub mod RunSteps
+pub mod TextOctets

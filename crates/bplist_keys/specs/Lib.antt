@@ -5,6 +5,6 @@ pub mod Groups
 pub mod Pivot
 pub mod Fingerprints
 pub mod Ranks
-pub mod LongTexts
+pub mod LongRanks
 pub mod Classes
 pub mod Prelude
