@@ -13,8 +13,9 @@ use Rattle.bplist_objects.specs.Units.{IsTextKind, compare_units}
 use Rattle.bplist_objects.proofs.HeadTies.{shape_announced}
 use Rattle.bplist_objects.proofs.UnitOrder.{compare_units-self, compare_units-less_less}
 use Rattle.bplist_objects.specs.Scan.{ref}
+use Rattle.bplist_keys.specs.LongRanks.{IsRankedAs}
 use Rattle.bplist_keys.specs.Texts.{HasTextShape, text_units}
-use Rattle.bplist_keys.proofs.TextUnits.{text_units-head}
+use Rattle.bplist_keys.proofs.TextUnits.{text_units-head, units_there}
 use Rattle.bplist_cert.specs.Lists.{Keyed, IsWhole}
 use Rattle.bplist_cert.specs.Valid.{IsVouchedBy}
 use Rattle.bplist_cert.specs.Looks.{KeepsBeforeKeys, KeepBeforeKeysBelow}
@@ -44,6 +45,10 @@ ascend_all u count up (suc d) i l =
     (compare_units-less_less (u i) (u (suc (i + d))) (u (suc (suc (i + d)))) (ascend_all u count up d i (omega (arith, l))) (up (suc (i + d)) (omega (arith, l))))
 
 module _ (f : List ℕ) (F : Frame) where
+  -- the order of ranks is that of the computed units
+  pub ranked_units : (a b : ℕ) (order : Ordering) → IsRankedAs f F a b order → order ≡ compare_units (text_units f F a) (text_units f F b)
+  ranked_units a b order r = r.2 (text_units f F a) (text_units f F b) (units_there f F a r.0.0 r.0.1) (units_there f F b r.1.0 r.1.1)
+
   -- one more pair takes its slot
   pub pairs_more : (slots : List ℕ) (r a b : ℕ) → r < length slots → b < 4294967296 → ArePairs f F slots → Ascends f F a b → ArePairs f F (set slots r (a * 4294967296 + b))
   pairs_more slots r a b within low pairs asc i x y low' some is = elim (cases_eq i r) [
