@@ -3,7 +3,8 @@
 
 ghost use Rattle.std.specs.Prelude.{◌≡◌, IfOk, IsTrue, false, true, ℕ, List, length, MatchResult};
 ghost use Rattle.bplint_engine.specs.Prelude.{OnlyReads, octets_of, Lists, IsCertificate, IsUpgraded, read_failed};
-ghost use Rattle.bplint_engine.specs.Prelude.{Answers, CertifySays, written, Gives, IsSafeFrame, IsRefusal, is_read};
+ghost use Rattle.bplint_engine.specs.Prelude.{Answers, CertifySays, written, GivesOrIsExcused, IsSafeFrame};
+ghost use Rattle.bplint_engine.specs.Prelude.{IsRefusal, read_fault_of};
 ghost use Rattle.bplint_engine.specs.Prelude.{CheckSays, IsDecoded, LintSays, IsVouchedFor, IsLeastFor};
 
 use crate::output::Output;
@@ -62,7 +63,7 @@ fn output_with_keys<S: Source>(
     hex: bool,
 ) -> Result<Output, RunFault>
     ensures reads { OnlyReads (read_failed result) checked.old.source checked.new.source }
-    ensures exact { IsTrue checked.old.source.honest → Gives (λ output. (lists : Lists)
+    ensures exact { IsTrue checked.old.source.honest → GivesOrIsExcused (λ output. (lists : Lists)
         × IsCertificate lists × ∥ IsUpgraded checked.old.source.octets checked.old.frame checked.old.certificate.heights lists ∥₁
         × (output.said ≡ Said.All) × (output.bytes.items ≡ written hex (octets_of lists))) result }
 {
@@ -104,7 +105,7 @@ pub(crate) fn check_decoded<S: Source>(
 ) -> Result<Checked<S>, (RunFault, S)>
     ensures handed { MatchResult result
         (λ checked. checked.source ≡ S.means src)
-        (λ refused. OnlyReads (is_read refused.0) (S.means src) (S.means refused.1)) }
+        (λ refused. OnlyReads (read_fault_of refused.0) (S.means src) (S.means refused.1)) }
     ensures exact { IsTrue (S.means src).honest → (cert : List ℕ) → IsDecoded cert decoded → MatchResult result
         (λ checked. IsVouchedFor (S.means src).octets cert checked.frame checked.certificate)
         (λ refused. IsRefusal (CheckSays (S.means src).octets cert) refused.0) }
@@ -124,7 +125,7 @@ pub(crate) fn check_decoded<S: Source>(
 pub fn checked_by_lint<S: Source>(alloc: Global, src: S) -> Result<Checked<S>, (RunFault, S)>
     ensures handed { MatchResult result
         (λ checked. checked.source ≡ S.means src)
-        (λ refused. OnlyReads (is_read refused.0) (S.means src) (S.means refused.1)) }
+        (λ refused. OnlyReads (read_fault_of refused.0) (S.means src) (S.means refused.1)) }
     ensures exact { IsTrue (S.means src).honest → MatchResult result
         (λ checked. IsLeastFor (S.means src).octets checked.frame checked.certificate)
         (λ refused. IsRefusal (LintSays (S.means src).octets) refused.0) }

@@ -18,7 +18,7 @@ use Rattle.bplist_c.specs.declared.accepted.Accepted.{Accepted}
 use Rattle.bplist_c.specs.declared.handle.BplistHandle.{BplistHandle}
 use Rattle.bplist_c.specs.declared.status.Status.{Status}
 use Rattle.bplist_c.specs.declared.verdict.BplistVerdict.{BplistVerdict}
-use Rattle.bplist_c.specs.Lifecycle.{Accepts, IsOpened, IsPair, Keeps, lint_of}
+use Rattle.bplist_c.specs.Lifecycle.{Accepts, IsOpened, IsPair, KeepsHandle, lint_of}
 use Rattle.bplist_c.specs.Verdicts.{ShowsLint}
 
 module _ (file : Bor (List ℕ)) (sorted : Bool) (P : Lint → Type 0) (Q : Fault → Type 0) (R : List ℕ → Type 0)
@@ -30,7 +30,7 @@ module _ (file : Bor (List ℕ)) (sorted : Bool) (P : Lint → Type 0) (Q : Faul
 
   -- refused memory is a result too
   pub opens : (answer : Result Lint LintRefusal) (accepted : Result Accepted (Status × BplistVerdict)) → Lints P Q R answer
-      → Accepts file answer accepted → Keeps sorted handle verdict status accepted → Opens
+      → Accepts file answer accepted → KeepsHandle sorted handle verdict status accepted → Opens
   opens (Ok lint) (Ok accepted) given says kept = elim kept [
     | inl k ↦ (Ok lint, given, (k.0, rw k.1 says.1.1), (rw (says.0.0, says.0.1) at k.2))
     | inr k ↦ (Err refusals.Memory, tt, (k.0, k.1), k.2)

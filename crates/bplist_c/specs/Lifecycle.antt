@@ -18,7 +18,7 @@ use Rattle.bplist_c.specs.declared.status.Status.{Status}
 use Rattle.bplist_c.specs.declared.status.Status.TheVariants as statuses
 use Rattle.bplist_c.specs.declared.verdict.BplistVerdict.{BplistVerdict}
 use Rattle.bplist_c.specs.Sessions.{IsSessionOf}
-use Rattle.bplist_c.specs.Statuses.{number_of}
+use Rattle.bplist_c.specs.Statuses.{status_number}
 use Rattle.bplist_c.specs.Verdicts.{ShowsLint, refused_told}
 use Rattle.bplist_c.specs.declared.verdict.TheConstants.{NO_VERDICT}
 
@@ -55,11 +55,11 @@ Accepts file answer result = ⊥
 
 module _ (sorted : Bool) (handle : BplistHandle) (verdict : BplistVerdict) (status : ℕ) where
   -- the handle is open, and verdict and status are those of the accepted file; or memory was refused; or the file was
-  abbrev pub Keeps : Result Accepted (Status × BplistVerdict) → Type 0
-  Keeps (Ok accepted) = let checked = accepted.checked in
+  abbrev pub KeepsHandle : Result Accepted (Status × BplistVerdict) → Type 0
+  KeepsHandle (Ok accepted) = let checked = accepted.checked in
       ((status ≡ 0) × (verdict ≡ accepted.verdict) × IsOpened checked.source.octets checked.certificate sorted handle)
-      ⊎ ((status ≡ number_of statuses.Memory) × (verdict ≡ NO_VERDICT) × (handle.length ≡ 0))
-  Keeps (Err told) = (status ≡ number_of told.0) × (verdict ≡ told.1) × (handle.length ≡ 0)
+      ⊎ ((status ≡ status_number statuses.Memory) × (verdict ≡ NO_VERDICT) × (handle.length ≡ 0))
+  KeepsHandle (Err told) = (status ≡ status_number told.0) × (verdict ≡ told.1) × (handle.length ≡ 0)
 
 -- these bytes are a valid certificate of the file; its verdict has the height of the top and no counts
 abbrev pub IsPair : List ℕ → List ℕ → Lint → Type 0

@@ -4,8 +4,9 @@ ghost use Rattle.std.specs.Prelude.{◌≡◌, ◌≢◌, ◌⊎◌, ⊤, ℕ, L
 ghost use Rattle.bplist_c.specs.Prelude.{source_over, IsVouchingFault, IsChecked, octets_of as certificate_octets};
 ghost use Rattle.bplist_c.specs.Prelude.{IsCertificate, Lint as lint_answer, LintRefusal as lint_refusal};
 ghost use Rattle.bplist_c.specs.Prelude.{IsFileFault, IsFileCircle, IsLinted, Lints, no_circle, Status as status};
-ghost use Rattle.bplist_c.specs.Prelude.{Closed, Opened, CertificateSays, IsCheckedFor, IsOpened, IsPair, IsSame, Puts};
-ghost use Rattle.bplist_c.specs.Prelude.{items_of, number_of as number, NO_VERDICT, ShowsLint, Accepts, Keeps};
+ghost use Rattle.bplist_c.specs.Prelude.{Closed, Opened, CertificateSays, IsCheckedFor, IsOpened, IsPair, IsSame};
+ghost use Rattle.bplist_c.specs.Prelude.{PutsItems, items_of, status_number as number, NO_VERDICT, ShowsLint};
+ghost use Rattle.bplist_c.specs.Prelude.{Accepts, KeepsHandle};
 ghost use Rattle.bplist_cert.specs.declared.certificate.CertRefusal.TheVariants as refusals;
 
 use crate::accepted::{Accepted, accept, with_verdict};
@@ -73,7 +74,7 @@ fn keep(
     out: &mut BplistVerdict,
 ) -> u32
     requires { handle.old.length ≡ 0 }
-    ensures { Keeps sorted handle.new out.new result answer.entry }
+    ensures { KeepsHandle sorted handle.new out.new result answer.entry }
 {
     let (status, verdict) = match answer {
         Ok(Accepted { checked, verdict }) => match sorted_handle(alloc, checked, sorted) {
@@ -216,7 +217,7 @@ pub extern "C" fn bplist_certificate(
 ) -> u32
     ensures kept { IsSame handle.old handle.new }
     ensures exact { (octets : Result (List ℕ) status) × CertificateSays handle.old octets
-        × Puts octets buffer.old buffer.new count.old count.new result }
+        × PutsItems octets buffer.old buffer.new count.old count.new result }
 {
     let octets = octets_in(alloc, handle);
     put_answer(&octets, buffer, count)

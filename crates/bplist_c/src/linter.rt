@@ -2,7 +2,8 @@
 
 ghost use Rattle.std.specs.Prelude.{◌≡◌, ◌⊎◌, Err, MatchResult, Result, map};
 ghost use Rattle.bplist_c.specs.Prelude.{Lint as lint_answer, LintRefusal as lint_refusal, IsFileFault, IsFileCircle};
-ghost use Rattle.bplist_c.specs.Prelude.{IsLinted, Lints, number, Memory, Puts, items_of, circle_answer, ShowsLint};
+ghost use Rattle.bplist_c.specs.Prelude.{IsLinted, Lints, number, Memory, PutsItems, items_of, circle_answer};
+ghost use Rattle.bplist_c.specs.Prelude.{ShowsLint};
 
 use crate::accepted::accept;
 use crate::status::{Status, put_answer};
@@ -68,7 +69,7 @@ pub extern "C" fn bplist_circle(
 ) -> u32
     ensures { (linted : Result lint_answer lint_refusal)
         × Lints (IsLinted file.now) (IsFileFault file.now) (IsFileCircle file.now) linted
-        × Puts (circle_answer linted) objects.old objects.new count.old count.new result }
+        × PutsItems (circle_answer linted) objects.old objects.new count.old count.new result }
 {
     let linted = lint_file(alloc, file);
     let circle = circle_of(alloc, linted);
