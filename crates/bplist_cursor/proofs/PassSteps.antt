@@ -127,7 +127,9 @@ module _ (f : List ℕ) (F : Frame) where
     pub both : t ≡ before + own
 
   pub one_more : (order : List ℕ) (i t : ℕ) → i < length order → TakeOctets f F (take (i + 1) order) t → OneMore order i t
-  one_more order i t l taken = go order i t l (subst (λ k. TakeOctets f F (take k order) t) (omega arith) taken)
+  one_more order i t l taken =
+      let next : i + 1 ≡ suc i = omega arith in
+      go order i t l (subst (λ k. TakeOctets f F (take k order) t) next taken)
     where
       go : (order : List ℕ) (i t : ℕ) → i < length order → TakeOctets f F (take (suc i) order) t → OneMore order i t
       go [] i t l taken = absurd (omega (arith, l))
@@ -150,7 +152,7 @@ module _ (f : List ℕ) (F : Frame) where
   take_together (n ∷ ns) each =
       let first = each n (0, omega arith, refl) in
       let rest = take_together ns (λ m c. each m (suc c.0, omega (arith, c.1), c.2)) in
-      (first.0 + rest.0, first.0, rest.0, first.1, rest.1, refl)
+      (first.0 + rest.0, (first.0, rest.0, first.1, rest.1, refl))
 
   -- what is asked for an object more of the pass
   pub one_asked : (order : List ℕ) (i start before after : ℕ) → i < length order
