@@ -174,7 +174,7 @@ module _ (f : List ℕ) (F : Frame) where
   pub pass_fits : (heights order : List ℕ) (height : ℕ) → IsValid f F heights → IsOrder heights height order → AreOnce F.objects order
       → (t : ℕ) × TakeOctets f F order t × (28 * length order + t ≤ pass_bytes F)
   pass_fits heights order height valid is once =
-      let vouched = λ (n : ℕ) (c : Contains order n). let above : height < slice_index heights n = is.only n c in (omega (arith, above) : 1 ≤ slice_index heights n) in
+      let vouched : (n : ℕ) → Contains order n → IsVouchedBy heights n = λ n c. let above = is.only n c in omega (arith, above) in
       let all = take_together order (λ n c. let spells = (valid.vouched n (vouched n c)).spells in (_, shape_extent f F n spells.shape spells.has)) in
       let room = valid.room order all.0 once.differ (all_from (IsVouchedBy heights) order vouched) all.1 in
       (all.0, all.1, omega (arith, room, once.few))

@@ -1,4 +1,4 @@
-use Rattle.std.proofs.Common.{rules, arith, ◌≤◌, length, take, sym, ap, ◌∙◌}
+use Rattle.std.proofs.Common.{rules, arith, ◌≤◌, length, take, refl, sym, ap, ◌∙◌}
 use Rattle.std.proofs.lemmas.List.{take_all}
 use Rattle.std.specs.List.{list_all}
 use Rattle.bplist_objects.specs.Units.{units_of}
@@ -45,14 +45,14 @@ returns-clause-exact g c = λ honest.
 pub returns-in_err-read-clause-asks : goal.returns-in_err-read-clause-asks
 returns-in_err-read-clause-asks g c =
     let i = c.loop-units.invariant in
-    all_units c.args.head.now.kind _ _ _ c.loop-units.units.next _ c.args.head.now.count c.requires.kind (ap (λ h. h.count) i.of) i.asked (rw i.of at c.in_err-read.ensures.asks)
+    all_units c.args.head.now.kind _ _ _ c.loop-units.units.next _ c.args.head.now.count c.requires.kind refl i.asked (rw i.of at c.in_err-read.ensures.asks)
 
 pub returns-then-not-are_plain-clause-asks : goal.returns-then-not-are_plain-clause-asks
 returns-then-not-are_plain-clause-asks g c =
     let i = c.loop-units.invariant in
-    all_units c.args.head.now.kind _ _ _ c.loop-units.units.next _ c.args.head.now.count c.requires.kind (ap (λ h. h.count) i.of) i.asked (rw i.of at c.in_ok-read.ensures.asks)
+    all_units c.args.head.now.kind _ _ _ c.loop-units.units.next _ c.args.head.now.count c.requires.kind refl i.asked (rw i.of at c.in_ok-read.ensures.asks)
 
 pub returns-clause-asks : goal.returns-clause-asks
 returns-clause-asks g c =
     let i = c.loop-units.invariant in
-    all_units c.args.head.now.kind _ _ _ c.loop-units.units.next _ c.args.head.now.count c.requires.kind (ap (λ h. h.count) i.of) i.asked (rw i.of at c.in_ok-read.ensures.asks)
+    all_units c.args.head.now.kind _ _ _ c.loop-units.units.next _ c.args.head.now.count c.requires.kind refl i.asked (rw i.of at c.in_ok-read.ensures.asks)

@@ -93,16 +93,16 @@ pub returns-in_err-read-clause-asks : goal.returns-in_err-read-clause-asks
 returns-in_err-read-clause-asks g c =
     let i = c.loop-sink.invariant in
     let head = c.args.text.now.head in
-    all_units head.kind _ _ _ c.loop-sink.units.next _ head.count c.requires.kind (ap (λ h. h.count) i.of) i.asked (rw i.of at c.in_err-read.ensures.asks)
+    all_units head.kind _ _ _ c.loop-sink.units.next _ head.count c.requires.kind refl i.asked (rw i.of at c.in_err-read.ensures.asks)
 
 pub returns-in_err-write_units-clause-asks : goal.returns-in_err-write_units-clause-asks
 returns-in_err-write_units-clause-asks g c =
     let i = c.loop-sink.invariant in
     let head = c.args.text.now.head in
-    all_units head.kind _ _ _ c.loop-sink.units.next _ head.count c.requires.kind (ap (λ h. h.count) i.of) i.asked (rw i.of at c.in_ok-read.ensures.asks)
+    all_units head.kind _ _ _ c.loop-sink.units.next _ head.count c.requires.kind refl i.asked (rw i.of at c.in_ok-read.ensures.asks)
 
 pub returns-clause-asks : goal.returns-clause-asks
 returns-clause-asks g c =
     let i = c.loop-sink.invariant in
     let head = c.args.text.now.head in
-    all_units head.kind _ _ _ c.loop-sink.units.next _ head.count c.requires.kind (ap (λ h. h.count) i.of) i.asked (rw i.of at c.in_ok-read.ensures.asks)
+    all_units head.kind _ _ _ c.loop-sink.units.next _ head.count c.requires.kind refl i.asked (rw i.of at c.in_ok-read.ensures.asks)

@@ -1,4 +1,4 @@
-use Rattle.std.proofs.Common.{rules, arith}
+use Rattle.std.proofs.Common.{rules, arith, ◌+◌}
 use Rattle.std.proofs.lemmas.Result.{err_from_is_err_and}
 use Rattle.bplist_cursor.proofs.CountSteps.{counted_more, refs_counted, value_in}
 use Rattle.bplist_cursor.proofs.PassSteps.{one_asked, within_pass}

@@ -1,4 +1,4 @@
-use Rattle.std.proofs.Common.{rules, arith}
+use Rattle.std.proofs.Common.{rules, arith, ◌+◌}
 use Rattle.std.proofs.lemmas.Result.{err_from_is_err_and}
 use Rattle.bplist_cursor.proofs.OrderSteps.{value_at, refs_sized, set_more}
 use Rattle.bplist_cursor.proofs.PassSteps.{one_asked, within_pass}

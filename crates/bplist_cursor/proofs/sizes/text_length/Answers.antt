@@ -1,4 +1,4 @@
-use Rattle.std.proofs.Common.{arith, rules, length, inl, inr, ◌≤◌, ◌+◌, ◌*◌, ◌≡◌, ◌∙◌, ap, sym, take, flat_map}
+use Rattle.std.proofs.Common.{arith, rules, length, inl, inr, ◌≤◌, ◌+◌, ◌*◌, ◌≡◌, ◌∙◌, ap, refl, sym, take, flat_map}
 use Rattle.std.specs.List.{list_all}
 use Rattle.bplist_cursor.specs.Nodes.{cap}
 use Rattle.std.specs.Char.{is_ascii_alphanumeric}
@@ -66,16 +66,16 @@ pub returns-in_err-read-clause-asks : goal.returns-in_err-read-clause-asks
 returns-in_err-read-clause-asks g c =
     let i = c.loop-units.invariant in
     let h = c.args.head.now in
-    all_blocks _ _ _ c.loop-units.units.next _ h.count (item_size 1 h.kind) (ap (λ x. x.count) i.of) i.asked (rw i.of at c.in_err-read.ensures.asks)
+    all_blocks _ _ _ c.loop-units.units.next _ h.count (item_size 1 h.kind) refl i.asked (rw i.of at c.in_err-read.ensures.asks)
 
 pub returns-then-head-gt0-clause-asks : goal.returns-then-head-gt0-clause-asks
 returns-then-head-gt0-clause-asks g c =
     let i = c.loop-units.invariant in
     let h = c.args.head.now in
-    all_blocks _ _ _ c.loop-units.units.next _ h.count (item_size 1 h.kind) (ap (λ x. x.count) i.of) i.asked (rw i.of at c.in_ok-read.ensures.asks)
+    all_blocks _ _ _ c.loop-units.units.next _ h.count (item_size 1 h.kind) refl i.asked (rw i.of at c.in_ok-read.ensures.asks)
 
 pub returns-else-plain-clause-asks : goal.returns-else-plain-clause-asks
 returns-else-plain-clause-asks g c =
     let i = c.loop-units.invariant in
     let h = c.args.head.now in
-    all_blocks _ _ _ c.loop-units.units.next _ h.count (item_size 1 h.kind) (ap (λ x. x.count) i.of) i.asked (rw i.of at c.in_ok-read.ensures.asks)
+    all_blocks _ _ _ c.loop-units.units.next _ h.count (item_size 1 h.kind) refl i.asked (rw i.of at c.in_ok-read.ensures.asks)
