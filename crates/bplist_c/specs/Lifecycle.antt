@@ -8,7 +8,6 @@ use Rattle.bplist_cert.specs.CertifiedFile.{IsVouchedFor}
 use Rattle.bplist_cert.specs.CheckedFile.{CheckedFile}
 use Rattle.bplist_cert.specs.Encoding.{octets_of}
 use Rattle.bplist_cert.specs.Lists.{Lists}
-use Rattle.bplist_cert.specs.Sorted.{IsAccepted}
 use Rattle.bplist_lint.specs.declared.answer.Lint.{Lint}
 use Rattle.bplist_lint.specs.declared.answer.LintRefusal.{LintRefusal}
 use Rattle.bplist_c.specs.declared.accepted.Accepted.{Accepted}
@@ -22,10 +21,6 @@ use Rattle.bplist_c.specs.Statuses.{status_number}
 use Rattle.bplist_c.specs.Verdicts.{ShowsLint, refused_told}
 use Rattle.bplist_c.specs.declared.verdict.TheConstants.{NO_VERDICT}
 
--- these bytes and this certificate are a valid pair
-abbrev pub IsAcceptedFor : List ℕ → Lists → Type 0
-IsAcceptedFor f certificate = (F : Frame) × IsFrame f F × IsAccepted f F certificate
-
 -- the checked file consists of these bytes and that certificate
 abbrev pub IsCheckedFor : Bor (List ℕ) → Lists → CheckedFile → Type 0
 IsCheckedFor file certificate checked = (checked.source ≡ source_over file) × (checked.certificate ≡ certificate)
@@ -36,15 +31,6 @@ abbrev pub IsOpened : List ℕ → Lists → Bool → BplistHandle → Type 0
 IsOpened f certificate sorted h = (h.length ≡ length f) × ((s : Session) × (h.held.value ≡ Some s) × IsSessionOf f s
     × (s.certificate.heights ≡ certificate.heights) × (IsSome certificate.keys → s.certificate ≡ certificate)
     × (sorted ≡ false → s.certificate ≡ certificate) × (IsTrue sorted → IsSome s.certificate.keys))
-
--- the answer of the linter with this certificate, the height of the top, and these figures
-abbrev pub lint_of : Frame → Lists → ℕ → ℕ → Lint
-lint_of F certificate reached references = record {
-  certificate = certificate;
-  height = slice_index certificate.heights F.top.0;
-  reached = reached;
-  references = references;
-}
 
 -- the linter's answer as a checked file with the verdict on it, or as status and verdict
 abbrev pub Accepts : Bor (List ℕ) → Result Lint LintRefusal → Result Accepted (Status × BplistVerdict) → Type 0

@@ -11,12 +11,11 @@ ghost use Rattle.bplist_cert.specs.declared.certificate.CertRefusal.TheVariants 
 
 use crate::accepted::{Accepted, accept, with_verdict};
 use crate::handle::BplistHandle;
-use crate::linter::lint_file;
 use crate::session::Session;
 use crate::status::{Status, put_answer};
 use crate::verdict::{BplistVerdict, NO_VERDICT};
 use bplist_cert::{CertRefusal, Certificate, Checked, Refusal, check};
-use bplist_lint::upgrade;
+use bplist_lint::{Counts, upgrade};
 use bplist_octets::SliceSource;
 use std::alloc::Global;
 use std::mem;
@@ -109,7 +108,7 @@ pub extern "C" fn bplist_open(
         *out = NO_VERDICT;
         return Status::Opened.number();
     }
-    let accepted = accept(file, lint_file(alloc, file));
+    let accepted = accept(alloc, file);
     keep(alloc, handle, accepted, sorted, out)
 }
 
@@ -145,7 +144,13 @@ fn accept_pair<'a>(
         × Accepts file.entry answer result }
 {
     match check_pair(alloc, file, certificate) {
-        Ok(checked) => with_verdict(checked, 0, 0),
+        Ok(checked) => {
+            let uncounted = Counts {
+                reached: 0,
+                references: 0,
+            };
+            with_verdict(checked, uncounted)
+        }
         Err(CertRefusal::Fault(fault)) => Err((Status::Fault, BplistVerdict::of_fault(fault))),
         Err(CertRefusal::Memory) => Err((Status::Memory, NO_VERDICT)),
     }

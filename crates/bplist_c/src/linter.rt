@@ -27,7 +27,7 @@ pub extern "C" fn bplist_lint(alloc: Global, file: &[u8], out: &mut BplistVerdic
         × Lints (IsLinted file.now) (IsFileFault file.now) (IsFileCircle file.now) answer
         × ShowsLint file.now answer out.new result }
 {
-    let (status, verdict) = match accept(file, lint_file(alloc, file)) {
+    let (status, verdict) = match accept(alloc, file) {
         Ok(accepted) => (0, accepted.verdict),
         Err((status, verdict)) => (status.number(), verdict),
     };
