@@ -1,7 +1,10 @@
 -- What a run of `lint` counts. Source: profile.
 use Rattle.std.specs.Prelude.{◌≡◌, ◌+◌, ◌≤◌, ◌==◌, ◌∷◌, ◌++◌, ℕ, nat_lt, min, max, if◌then◌else◌, Bool, true, false}
-use Rattle.std.specs.Prelude.{List, [], codes}
+use Rattle.std.specs.Prelude.{List, [], Result, codes}
 use Rattle.std.specs.Fmt.{decimal}
+use Rattle.bplint_lines.specs.declared.fault.Said.{Said}
+use Rattle.bplint_lines.specs.declared.raw_fault.RawFault.{RawFault}
+use Rattle.bplint.specs.ExitStatuses.{EndsWith}
 
 -- the counts of a run, its greatest exit status, and whether it ends because nobody reads its answers any more
 pub record Counts : Type 0 where
@@ -68,6 +71,12 @@ abbrev pub IsAnswer : Step → Type 0
 IsAnswer (Answered status) = status ≤ 4
 IsAnswer (CutOff status) = status ≤ 4
 IsAnswer _ = ⊥
+
+-- the step has the exit status of a run with this answer
+abbrev pub IsEndOf : Result Said RawFault → Step → Type 0
+IsEndOf answer (Answered status) = EndsWith answer status
+IsEndOf answer (CutOff status) = EndsWith answer status
+IsEndOf answer _ = ⊥
 
 -- one step was counted, and this is true of it
 abbrev pub CountsOne : (Step → Type 0) → Counts → Counts → Type 0

@@ -2,7 +2,7 @@
 //! greatest exit status.
 
 ghost use Rattle.std.specs.Prelude.{◌≡◌, ◌⊎◌, ◌≤◌};
-ghost use Rattle.bplint.specs.Tallies.{CountsOne, IsAnswer, no_counts};
+ghost use Rattle.bplint.specs.Tallies.{CountsOne, IsAnswer, IsEndOf, no_counts};
 
 use crate::args::{Job, Lint, Printed, Request, Task};
 use crate::ending::{Ending, end};
@@ -185,7 +185,8 @@ impl<'a, R: Files<File = File> + Print + Eprint> Findings<'a, R> {
 
     /// Prints how a run ended, and counts it.
     fn end(&mut self, prefix: &str, ending: Ending)
-        ensures { CountsOne IsAnswer self.old.tally self.new.tally }
+        ensures counts { CountsOne IsAnswer self.old.tally self.new.tally }
+        ensures status { CountsOne (IsEndOf ending.answer) self.old.tally self.new.tally }
     {
         let silent = ending.silent;
         let status = end(self.rt, self.alloc, prefix, ending);

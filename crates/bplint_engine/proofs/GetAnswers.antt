@@ -27,7 +27,7 @@ use Rattle.bplint_lines.specs.declared.fault.RunFault.TheVariants as faults
 use Rattle.bplint_engine.specs.declared.output.Output.{Output}
 use Rattle.bplint_lines.specs.Answers.{Answer, gives}
 use Rattle.bplint_engine.specs.Output.{Answers, IsRefusal}
-use Rattle.bplint_lines.specs.Faults.{Gives, IsExcused}
+use Rattle.bplint_lines.specs.Faults.{GivesOrIsExcused, IsExcused}
 use Rattle.bplint_lines.specs.declared.fault.Said.{Said}
 use Rattle.bplint_lines.specs.declared.fault.Said.TheVariants.{All, SomeMissing}
 use Rattle.bplint_lines.specs.declared.texts.Style.{Style}
@@ -75,7 +75,7 @@ module _ (style : Style) where
   -- Says accepts the file, and the queries have replies
   pub queries_say : (Says : Answer → Type 0) (f : List ℕ) (texts : List (List ℕ)) (paths : List (List (List ℕ))) (queries : List Query) (F : Frame) (made : Result Output RunFault)
       → AllZip IsPathOf texts paths → queries ≡ map Get paths → IsYes Says → ∥ IsThere f F ∥₁
-      → Gives (λ output. (v : Value) → Holds f F F.top.0 v
+      → GivesOrIsExcused (λ output. (v : Value) → Holds f F F.top.0 v
       → (output.said ≡ replies_said (map (reply v) queries)) × (output.bytes.items ≡ flat_map (reply_line style) (map (reply v) queries))) made
       → ∥ Answers (LinesSay (found_line style) Says f texts) made ∥₁
   queries_say Says f texts paths queries F (Ok output) are asked (said, bytes, says) there told = ∥∥₁_map there (λ (v, _, holds, held).
@@ -86,7 +86,7 @@ module _ (style : Style) where
   -- the same for the replies that the file's value gives
   pub replies_say : (Says : Answer → Type 0) (f : List ℕ) (texts : List (List ℕ)) (paths : List (List (List ℕ))) (queries : List Query) (replies : List Reply) (made : Result Output RunFault)
       → AllZip IsPathOf texts paths → queries ≡ map Get paths → ∥ IsYes Says ∥₁ → ∥ IsAnswered f queries replies ∥₁
-      → Gives (λ output. (output.said ≡ replies_said replies) × (output.bytes.items ≡ flat_map (reply_line style) replies)) made
+      → GivesOrIsExcused (λ output. (output.said ≡ replies_said replies) × (output.bytes.items ≡ flat_map (reply_line style) replies)) made
       → ∥ Answers (LinesSay (found_line style) Says f texts) made ∥₁
   replies_say Says f texts paths queries replies (Ok output) are asked sure there told =
       ∥∥₁_elim sure (hlevel props) (λ (said, bytes, says). ∥∥₁_map there (λ a.
@@ -99,7 +99,7 @@ pub certified_say : (f cert : List ℕ) (texts : List (List ℕ)) (paths : List 
     → AllZip IsPathOf texts paths → queries ≡ map Get paths → IsCertificate lists × (cert ≡ octets_of lists)
     → IfOk told (λ replies. ∥ IsAnswered f queries (items replies) ∥₁) → IfOk told (λ _. ∥ ((F : Frame) × IsAccepted f F lists) ∥₁)
     → IfErr told (RefusesBy (IsPairFault f lists))
-    → MatchResult told (λ replies. Gives (λ output. (output.said ≡ replies_said (items replies)) × (output.bytes.items ≡ flat_map (reply_line OldStyle) (items replies))) made) (λ fault. made ≡ Err (answer_fault fault))
+    → MatchResult told (λ replies. GivesOrIsExcused (λ output. (output.said ≡ replies_said (items replies)) × (output.bytes.items ≡ flat_map (reply_line OldStyle) (items replies))) made) (λ fault. made ≡ Err (answer_fault fault))
     → ∥ Answers (LinesSay (found_line OldStyle) (CheckSays f cert) f texts) made ∥₁
 certified_say f cert texts paths queries lists items (Ok replies) made are asked (is, spelled) there accepted refused lines =
     replies_say OldStyle (CheckSays f cert) f texts paths queries (items replies) made are asked (∥∥₁_map accepted (λ a. check_yes f cert a.0 lists (is, spelled, merely a.1))) there lines
@@ -110,7 +110,7 @@ certified_say f cert texts paths queries lists items (Err fault) made are asked 
 -- the same for the lines of `ls`
 pub list_says : (style : Style) (Says : Answer → Type 0) (f text : List ℕ) (steps : List (List ℕ)) (F : Frame) (made : Result Output RunFault)
     → AllZip IsPathOf (text ∷ []) (steps ∷ []) → IsYes Says → IsThere f F
-    → ((v : Value) → Holds f F F.top.0 v → Gives (λ output. (output.said ≡ said_of (look 0 v steps ∷ [])) × (output.bytes.items ≡ listed style text (look 0 v steps))) made)
+    → ((v : Value) → Holds f F F.top.0 v → GivesOrIsExcused (λ output. (output.said ≡ said_of (look 0 v steps ∷ [])) × (output.bytes.items ≡ listed style text (look 0 v steps))) made)
     → Answers (LinesSay (listed style text) Says f (text ∷ [])) made
 list_says style Says f text steps F (Ok output) are (said, bytes, says) (v, _, holds, held) told =
     let t = told v held in

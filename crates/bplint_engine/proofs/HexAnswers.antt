@@ -8,10 +8,10 @@ use Rattle.bplint_lines.specs.declared.fault.RunFault.{RunFault}
 use Rattle.bplint_lines.specs.declared.fault.RunFault.TheVariants.{Hex, Memory}
 use Rattle.bplint_lines.specs.declared.fault.Said.{Said}
 use Rattle.bplint_lines.specs.Answers.{Answer, refuses, Leaves}
-use Rattle.bplint_engine.specs.Output.{is_read}
+use Rattle.bplint_engine.specs.Output.{read_fault_of}
 use Rattle.bplint_engine.specs.Commands.{Asked}
 use Rattle.bplint_engine.specs.Hexadecimal.{spelled}
-use Rattle.bplint_engine.specs.Said.{Says, SaysOver, Spells, most, takes_cert}
+use Rattle.bplint_engine.specs.Said.{Says, SaysOver, SaysSpelled, most, takes_cert}
 use Rattle.bplint_engine.proofs.LeftBytes.{begins_nothing, kept_self, said_as}
 
 -- the inputs are the bytes themselves
@@ -22,10 +22,10 @@ as_bytes command file cert old new result hex left =
 
 -- the file's text spells bytes
 over_file : (command : Asked) (file cert f : List ℕ) → command.hex ≡ true → spelled file ≡ Ok f → (a : Answer)
-    → Spells (Says command f) (if takes_cert command.verb then cert else []) a → SaysOver command.hex command file cert a
+    → SaysSpelled (Says command f) (if takes_cert command.verb then cert else []) a → SaysOver command.hex command file cert a
 over_file command file cert f hex is a h =
     subst (λ b. SaysOver b command file cert a) (sym hex)
-    (subst (λ r. MatchResult r (λ g. Spells (Says command g) (if takes_cert command.verb then cert else []) a) (λ _. a ≡ refuses Hex)) (sym is) h)
+    (subst (λ r. MatchResult r (λ g. SaysSpelled (Says command g) (if takes_cert command.verb then cert else []) a) (λ _. a ≡ refuses Hex)) (sym is) h)
 
 -- the text of the certificate spells bytes too, if it is used
 pub as_texts : (command : Asked) (file cert shown f octets : List ℕ) (old new : Option (List ℕ)) (result : Result Said RunFault) → command.hex ≡ true
@@ -33,7 +33,7 @@ pub as_texts : (command : Asked) (file cert shown f octets : List ℕ) (old new 
     → Leaves (Says command f octets) (most command) old new result → Leaves (SaysOver command.hex command file cert) (most command) old new result
 as_texts command file cert shown f octets old new result hex is shows spells left =
     ∥∥₁_map left (said_as (Says command f octets) (SaysOver command.hex command file cert) (most command) old new result
-    (λ a h. over_file command file cert f hex is a (subst (λ s. Spells (Says command f) s a) shows
+    (λ a h. over_file command file cert f hex is a (subst (λ s. SaysSpelled (Says command f) s a) shows
     (subst (λ r. MatchResult r (λ o. Says command f o a) (λ _. a ≡ refuses Hex)) (sym spells) h))))
 
 -- a text that spells nothing
@@ -48,12 +48,12 @@ pub text_refused : (command : Asked) (file cert shown f : List ℕ) (old : Optio
 text_refused command file cert shown f old fault hex is shows (inl memory) = rw memory (merely (begins_nothing (SaysOver command.hex command file cert) (most command) old old (kept_self old)))
 text_refused command file cert shown f old fault hex is shows (inr (wrong, none)) =
     rw wrong (merely (
-      over_file command file cert f hex is (refuses Hex) (subst (λ s. Spells (Says command f) s (refuses Hex)) shows
+      over_file command file cert f hex is (refuses Hex) (subst (λ s. SaysSpelled (Says command f) s (refuses Hex)) shows
           (wrong_says (spelled shown) (λ o. Says command f o (refuses Hex)) (refuses Hex ≡ refuses Hex) none refl)),
       kept_self old,
     ))
 
 -- neither refused memory nor a wrong text is a failed read
-pub no_read : (cert : List ℕ) (fault : RunFault) → (fault ≡ Memory) ⊎ ((fault ≡ Hex) × IsErr (spelled cert)) → is_read fault ≡ None
+pub no_read : (cert : List ℕ) (fault : RunFault) → (fault ≡ Memory) ⊎ ((fault ≡ Hex) × IsErr (spelled cert)) → read_fault_of fault ≡ None
 no_read cert fault (inl memory) = rw memory refl
 no_read cert fault (inr (wrong, _)) = rw wrong refl

@@ -13,7 +13,7 @@ use Rattle.bplist_cursor.proofs.Membership.{held_members, in_turn}
 use Rattle.bplist_cursor.specs.Replies.{face}
 use Rattle.bplint_engine.specs.declared.members.Members.{Members}
 use Rattle.bplint_engine.specs.declared.members.Members.TheVariants.{Array, Set, Dict}
-use Rattle.bplint_engine.specs.Ls.{IsContainer, IsHeadFor, IsLeaf, first_lines, item_name, line_of_member, line_of_pair, listed, member_line, named_line}
+use Rattle.bplint_engine.specs.Ls.{HasMembers, IsHeadFor, IsLeaf, first_lines, item_name, line_of_member, line_of_pair, listed, member_line, named_line}
 use Rattle.bplint_lines.specs.MemberNames.{bracketed, index_name, key_name}
 use Rattle.bplint_lines.specs.OutputLines.{face_line}
 use Rattle.bplint_lines.specs.declared.texts.Style.{Style}
@@ -56,7 +56,7 @@ found_member checked head w i found of is =
 
 module _ (style : Style) where
   -- a member of an array, and its line
-  pub array_member : (n i : ℕ) (w : Value) → IsContainer Array n w → i < n
+  pub array_member : (n i : ℕ) (w : Value) → HasMembers Array n w → i < n
       → (m : Value) × (member_of w i ≡ Some m) × ((path : List ℕ) → member_line style path w i ≡ named_line style (index_name path i) m)
   array_member n i (array vs) is l =
       let there = item_there vs n i is l in
@@ -64,7 +64,7 @@ module _ (style : Style) where
   array_member n i _ is l = absurd is
 
   -- a member of a set, and its line
-  pub set_member : (n i : ℕ) (w : Value) → IsContainer Set n w → i < n
+  pub set_member : (n i : ℕ) (w : Value) → HasMembers Set n w → i < n
       → (m : Value) × (member_of w i ≡ Some m) × ((path : List ℕ) → member_line style path w i ≡ named_line style (bracketed i) m)
   set_member n i (set vs) is l =
       let there = item_there vs n i is l in
@@ -72,14 +72,14 @@ module _ (style : Style) where
   set_member n i _ is l = absurd is
 
   -- a member of an array or set, and its line
-  pub item_member : (members : Members) (n i : ℕ) (w : Value) → IsContainer members n w → (members ≡ Dict → ⊥) → i < n
+  pub item_member : (members : Members) (n i : ℕ) (w : Value) → HasMembers members n w → (members ≡ Dict → ⊥) → i < n
       → (m : Value) × (member_of w i ≡ Some m) × ((path : List ℕ) → member_line style path w i ≡ named_line style (item_name members path i) m)
   item_member Array n i w is item l = array_member n i w is l
   item_member Set n i w is item l = set_member n i w is l
   item_member Dict n i w is item l = absurd (item refl)
 
   -- a pair of a dictionary, and its line
-  pub dict_member : (n i : ℕ) (w : Value) → IsContainer Dict n w → i < n
+  pub dict_member : (n i : ℕ) (w : Value) → HasMembers Dict n w → i < n
       → (u : List ℕ) × (m : Value) × (member_of w (2 * i) ≡ Some (leaf (text u))) × (member_of w (2 * i + 1) ≡ Some m)
       × ((path : List ℕ) → member_line style path w i ≡ named_line style (key_name style path i u) m)
   dict_member n i (dict ps) is l =
@@ -176,7 +176,7 @@ module _ (style : Style) where
       ∙ pairs_summed path 0 ps
 
   -- all lines of a container
-  pub container_listed : (members : Members) (n : ℕ) (path : List ℕ) (w : Value) → IsContainer members n w
+  pub container_listed : (members : Members) (n : ℕ) (path : List ℕ) (w : Value) → HasMembers members n w
       → first_lines style path w n ≡ listed style path (Ok w)
   container_listed Array n path (array vs) is = ap (first_lines style path (array vs)) (sym is) ∙ array_lines path vs
   container_listed Set n path (set vs) is = ap (first_lines style path (set vs)) (sym is) ∙ set_lines path vs

@@ -9,7 +9,7 @@ use Rattle.bplint_engine.specs.Commands.{Asked}
 use Rattle.bplint_engine.specs.Get.{found_line}
 use Rattle.bplint_lines.specs.declared.texts.Style.TheVariants.{OldStyle}
 use Rattle.bplint_engine.specs.Hexadecimal.{spelled}
-use Rattle.bplint_engine.specs.Said.{Says, SaysOver, Spells, takes_cert}
+use Rattle.bplint_engine.specs.Said.{Says, SaysOver, SaysSpelled, takes_cert}
 use Rattle.bplint_engine.specs.declared.run.Verb.{Verb}
 use Rattle.bplint_engine.specs.declared.run.Verb.TheVariants as verbs
 use Rattle.bplint_engine.proofs.OneLint.{one_lint}
@@ -43,5 +43,5 @@ pub one_answer_over : (hex : Bool) (command : Asked) (file cert : List ℕ) (a b
 one_answer_over false command file cert a b h k = one_answer command file cert a b h k
 one_answer_over true command file cert a b h k =
     let looked = if takes_cert command.verb then cert else [] in
-    one_spelled (spelled file) (λ f. Spells (Says command f) looked) a b
+    one_spelled (spelled file) (λ f. SaysSpelled (Says command f) looked) a b
     (λ f. one_spelled (spelled looked) (λ octets. Says command f octets) a b (λ octets. one_answer command f octets a b)) h k

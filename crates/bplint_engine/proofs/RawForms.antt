@@ -13,7 +13,7 @@ use Rattle.bplist_objects.specs.Numbers.{nums_at}
 use Rattle.bplist_objects.specs.Units.{units_of}
 use Rattle.bplist_objects.specs.Value.{Leaf, null, boolean, int, real, date, bytes, text, uid, Value, leaf, array, set, dict}
 use Rattle.bplist_cursor.specs.Replies.{face}
-use Rattle.bplint_engine.specs.Raw.{raw_bytes, raw_word, utf8_text}
+use Rattle.bplint_engine.specs.Raw.{raw_bytes, raw_word, utf8_of_units}
 
 module _ (f : List ℕ) (F : Frame) where
   bytes_kind : (kind : Kind) (count body : ℕ) (bs : List ℕ) → Content.leaf (bytes bs) ≡ content_of f F kind count body → kind ≡ kinds.Bytes
@@ -35,7 +35,7 @@ module _ (f : List ℕ) (F : Frame) where
     pub data_raw : (w : Value) → head.kind ≡ kinds.Bytes → Holds f F n w → raw_bytes w ≡ Some (part f head.body head.count)
     data_raw w kind h = ap raw_bytes (leaf_is w (bytes (part f head.body head.count)) h (ap (λ k. content_of f F k head.count head.body) kind))
 
-    pub text_raw : (w : Value) → (head.kind ≡ kinds.Ascii) ⊎ (head.kind ≡ kinds.Wide) → Holds f F n w → raw_bytes w ≡ utf8_text (units_of f head)
+    pub text_raw : (w : Value) → (head.kind ≡ kinds.Ascii) ⊎ (head.kind ≡ kinds.Wide) → Holds f F n w → raw_bytes w ≡ utf8_of_units (units_of f head)
     text_raw w (inl kind) h =
         ap raw_bytes (leaf_is w (text (part f head.body head.count)) h (ap (λ k. content_of f F k head.count head.body) kind)) ∙ rw kind refl
     text_raw w (inr kind) h =
@@ -56,8 +56,8 @@ module _ (f : List ℕ) (F : Frame) where
     other_raw (dict ps) a w d h = refl
 
 -- a text whose surrogates all have partners
-pub paired_raw : (units : List ℕ) → has_unpaired_surrogate units ≡ false → utf8_text units ≡ Some (encode_utf8_all (utf16_lossy_chars units))
+pub paired_raw : (units : List ℕ) → has_unpaired_surrogate units ≡ false → utf8_of_units units ≡ Some (encode_utf8_all (utf16_lossy_chars units))
 paired_raw units h = rw h refl
 
-pub unpaired_raw : (units : List ℕ) → has_unpaired_surrogate units ≡ true → utf8_text units ≡ None
+pub unpaired_raw : (units : List ℕ) → has_unpaired_surrogate units ≡ true → utf8_of_units units ≡ None
 unpaired_raw units h = rw h refl

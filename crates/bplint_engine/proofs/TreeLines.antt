@@ -14,7 +14,7 @@ use Rattle.bplint_lines.specs.MemberNames.{bracketed, index_name, key_name}
 use Rattle.bplint_lines.specs.declared.texts.Style.{Style}
 use Rattle.bplint_engine.specs.declared.members.Members.{Members}
 use Rattle.bplint_engine.specs.declared.members.Members.TheVariants.{Array, Set, Dict}
-use Rattle.bplint_engine.specs.Ls.{IsContainer, IsLeaf, listed, named_line}
+use Rattle.bplint_engine.specs.Ls.{HasMembers, IsLeaf, listed, named_line}
 use Rattle.bplint_engine.specs.Tree.{array_lines, dict_lines, joined_lines, named_members, set_lines, tree_lines}
 use Rattle.bplint_engine.proofs.MemberLines.{array_member, dict_member, set_member}
 
@@ -89,7 +89,7 @@ module _ (style : Style) where
   length-entries (pair u v ps) = ap suc (length-entries ps)
 
   -- there are as many named members as the container has members
-  pub length-named : (kind : Members) (n : ℕ) (name : List ℕ) (w : Value) → IsContainer kind n w → length (named_members style name w) ≡ n
+  pub length-named : (kind : Members) (n : ℕ) (name : List ℕ) (w : Value) → HasMembers kind n w → length (named_members style name w) ≡ n
   length-named Array n name (array vs) is = length-map (enumerate_from 0 (members vs)) (λ e. (index_name name e.0, e.1)) ∙ length-enumerate_from 0 (members vs) ∙ is
   length-named Set n name (set vs) is = length-map (enumerate_from 0 (members vs)) (λ e. (bracketed e.0, e.1)) ∙ length-enumerate_from 0 (members vs) ∙ is
   length-named Dict n name (dict ps) is =
@@ -112,7 +112,7 @@ module _ (style : Style) where
   entry_there (pair v x ps) (suc i) (suc (suc k)) u m is e h = entry_there ps i k u m (omega (arith, is)) e h
 
   -- a member of an array, and its name
-  pub array_named : (n i : ℕ) (w : Value) → IsContainer Array n w → i < n
+  pub array_named : (n i : ℕ) (w : Value) → HasMembers Array n w → i < n
       → (m : Value) × (member_of w i ≡ Some m) × ((name : List ℕ) → slice_get (named_members style name w) i ≡ Some (index_name name i, m))
   array_named n i (array vs) is within =
       let there = array_member style n i (array vs) is within in (
@@ -125,7 +125,7 @@ module _ (style : Style) where
   array_named n i _ is within = absurd is
 
   -- a member of a set, and its place
-  pub set_named : (n i : ℕ) (w : Value) → IsContainer Set n w → i < n
+  pub set_named : (n i : ℕ) (w : Value) → HasMembers Set n w → i < n
       → (m : Value) × (member_of w i ≡ Some m) × ((name : List ℕ) → slice_get (named_members style name w) i ≡ Some (bracketed i, m))
   set_named n i (set vs) is within =
       let there = set_member style n i (set vs) is within in (
@@ -138,7 +138,7 @@ module _ (style : Style) where
   set_named n i _ is within = absurd is
 
   -- a key of a dictionary, its value, and the name of the value
-  pub dict_named : (n i : ℕ) (w : Value) → IsContainer Dict n w → i < n
+  pub dict_named : (n i : ℕ) (w : Value) → HasMembers Dict n w → i < n
       → (u : List ℕ) × (m : Value) × (member_of w (2 * i) ≡ Some (leaf (text u))) × (member_of w (2 * i + 1) ≡ Some m)
       × ((name : List ℕ) → slice_get (named_members style name w) i ≡ Some (key_name style name i u, m))
   dict_named n i (dict ps) is within =

@@ -22,11 +22,11 @@ IsLeaf (leaf l) = ⊤
 IsLeaf _ = ⊥
 
 -- the value is a container of this kind with n members, or n pairs
-abbrev pub IsContainer : Members → ℕ → Value → Type 0
-IsContainer Array n (array vs) = length (members vs) ≡ n
-IsContainer Set n (set vs) = length (members vs) ≡ n
-IsContainer Dict n (dict ps) = length (keys ps) ≡ n
-IsContainer _ n w = ⊥
+abbrev pub HasMembers : Members → ℕ → Value → Type 0
+HasMembers Array n (array vs) = length (members vs) ≡ n
+HasMembers Set n (set vs) = length (members vs) ≡ n
+HasMembers Dict n (dict ps) = length (keys ps) ≡ n
+HasMembers _ n w = ⊥
 
 -- some object vouched for by these heights holds the value and has this head
 abbrev pub IsHeadIn : List ℕ → Frame → List ℕ → Head → Value → Type 0

@@ -10,8 +10,8 @@ use Rattle.bplint_lines.specs.Answers.{Answer, gives, refuses, read_failed}
 use Rattle.bplint_engine.specs.declared.output.Output.{Output}
 
 -- the fault of the failed read that the error is, if it is one
-abbrev pub is_read : RunFault → Option ReadFault
-is_read fault = read_failed {X = Unit {0}} (Err fault)
+abbrev pub read_fault_of : RunFault → Option ReadFault
+read_fault_of fault = read_failed {X = Unit {0}} (Err fault)
 
 -- this fault may come before anything is written; a failed read or refused memory may always come
 abbrev pub IsRefusal : (Answer → Type 0) → RunFault → Type 0

@@ -17,7 +17,7 @@ pub use Rattle.bplist_cursor.specs.Replies.{face, reply}
 pub use Rattle.bplist_cursor.specs.Shown.{HasRoom}
 pub use Rattle.bplist_octets.specs.Sending.{SendsPart, Takes, TakesPart}
 pub use Rattle.bplint_lines.specs.Answers.{Answer, Leaves, LeavesBy, read_failed}
-pub use Rattle.bplint_lines.specs.Faults.{Gives}
+pub use Rattle.bplint_lines.specs.Faults.{GivesOrIsExcused}
 pub use Rattle.bplint_lines.specs.OutputLines.{check_line, face_line, lint_line, missing_line}
 pub use Rattle.bplint_engine.specs.Certify.{CertifySays, written}
 pub use Rattle.bplint_engine.specs.Check.{CheckSays, IsDecoded}
@@ -26,8 +26,8 @@ pub use Rattle.bplint_engine.specs.Get.{LinesSay, answer_fault, found_line, repl
 pub use Rattle.bplint_engine.specs.Hexadecimal.{spelled}
 pub use Rattle.bplint_engine.specs.Least.{IsLeastFor}
 pub use Rattle.bplint_engine.specs.Lint.{LintSays}
-pub use Rattle.bplint_engine.specs.Ls.{IsContainer, IsHeadFor, IsLeaf, first_lines, item_name, listed, member_line}
-pub use Rattle.bplint_engine.specs.Output.{Answers, IsRefusal, Sends, is_read}
+pub use Rattle.bplint_engine.specs.Ls.{HasMembers, IsHeadFor, IsLeaf, first_lines, item_name, listed, member_line}
+pub use Rattle.bplint_engine.specs.Output.{Answers, IsRefusal, Sends, read_fault_of}
 pub use Rattle.bplint_engine.specs.PathTexts.{IsWrongAmong, OnPath}
 pub use Rattle.bplint_engine.specs.Print.{NodeSays, PathSays, PrintSays}
 pub use Rattle.bplint_engine.specs.Said.{Says, SaysOver, most, takes_cert}

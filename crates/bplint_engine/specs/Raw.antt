@@ -31,13 +31,13 @@ use Rattle.bplint_engine.specs.Get.{found_line}
 use Rattle.bplint_engine.specs.PathTexts.{ForPaths}
 
 -- the UTF-8 of a text with these units, or none if a surrogate has no partner
-abbrev pub utf8_text : List ℕ → Option (List ℕ)
-utf8_text units = if has_unpaired_surrogate units then None else Some (encode_utf8_all (utf16_lossy_chars units))
+abbrev pub utf8_of_units : List ℕ → Option (List ℕ)
+utf8_of_units units = if has_unpaired_surrogate units then None else Some (encode_utf8_all (utf16_lossy_chars units))
 
 -- the raw bytes of a value, if it has any
 abbrev pub raw_bytes : Value → Option (List ℕ)
 raw_bytes (leaf (bytes l)) = Some l
-raw_bytes (leaf (text units)) = utf8_text units
+raw_bytes (leaf (text units)) = utf8_of_units units
 raw_bytes (leaf (int i)) = Some (signed_decimal i)
 raw_bytes (leaf (uid x)) = Some (decimal x)
 raw_bytes (leaf (boolean b)) = Some (if b then codes "true" else codes "false")
@@ -87,7 +87,7 @@ raw_in f (Word word) = word.items
 -- what may be sent over any source: as many bytes as the head counts, or the UTF-8 of as many units
 abbrev pub IsWholeRaw : Raw → List ℕ → Type 0
 IsWholeRaw (Data head) octets = length octets ≡ head.count
-IsWholeRaw (Text head) octets = (units : List ℕ) × (length units ≡ head.count) × (utf8_text units ≡ Some octets)
+IsWholeRaw (Text head) octets = (units : List ℕ) × (length units ≡ head.count) × (utf8_of_units units ≡ Some octets)
 IsWholeRaw (Word word) octets = octets ≡ word.items
 
 -- the body that is sent lies in a file of `len` bytes

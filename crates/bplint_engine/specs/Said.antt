@@ -32,10 +32,11 @@ abbrev pub takes_cert : Verb → Bool
 takes_cert verb = elim verb [ Lint ↦ false | Certify ↦ false | _ ↦ true ]
 
 -- P of the bytes that a hexadecimal text spells, or `Hex` if it spells none
-abbrev pub Spells : (List ℕ → Answer → Type 0) → List ℕ → Answer → Type 0
-Spells P text answer = MatchResult (spelled text) (λ bytes. P bytes answer) (λ _. answer ≡ refuses Hex)
+abbrev pub SaysSpelled : (List ℕ → Answer → Type 0) → List ℕ → Answer → Type 0
+SaysSpelled P text answer = MatchResult (spelled text) (λ bytes. P bytes answer) (λ _. answer ≡ refuses Hex)
 
 -- the answer to a command for its inputs; with `hex`, for the bytes they spell, the certificate's only if it is used
 abbrev pub SaysOver : Bool → Asked → List ℕ → List ℕ → Answer → Type 0
-SaysOver true c file cert answer = Spells (λ f. Spells (Says c f) (if takes_cert c.verb then cert else [])) file answer
+SaysOver true c file cert answer =
+    SaysSpelled (λ f. SaysSpelled (Says c f) (if takes_cert c.verb then cert else [])) file answer
 SaysOver false c file cert answer = Says c file cert answer

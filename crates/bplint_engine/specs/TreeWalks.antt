@@ -12,7 +12,7 @@ use Rattle.bplint_engine.specs.declared.members.Members.TheVariants.{Dict}
 use Rattle.bplint_engine.specs.declared.tree_walk.Listing.{Listing}
 use Rattle.bplint_engine.specs.declared.tree_walk.Named.{Named}
 use Rattle.bplint_engine.specs.declared.tree_walk.Opened.{Opened}
-use Rattle.bplint_engine.specs.Ls.{IsContainer, IsHeadIn}
+use Rattle.bplint_engine.specs.Ls.{HasMembers, IsHeadIn}
 use Rattle.bplint_engine.specs.Names.{IsNameIn, name_in}
 use Rattle.bplint_engine.specs.Tree.{joined_lines, named_members, tree_lines}
 
@@ -36,15 +36,15 @@ pub record IsKept (old new : Listing) : Type 0 where
 
 module _ (style : Style) (f : List ℕ) (F : Frame) (heights : List ℕ) where
   -- `left` are the lines that a container with this name still has to list
-  abbrev pub LeftOf : List ℕ → Opened → List (List ℕ) → Type 0
-  LeftOf name o left = (w : Value) × IsHeadIn f F heights o.head w × IsContainer o.members o.count w
+  abbrev pub LinesLeft : List ℕ → Opened → List (List ℕ) → Type 0
+  LinesLeft name o left = (w : Value) × IsHeadIn f F heights o.head w × HasMembers o.members o.count w
       × (left ≡ flat_map (λ m. tree_lines style m.0 m.1) (drop o.next (named_members style name w)))
 
   -- `left` are the lines that all containers of the stack still have to list, the innermost first
-  abbrev pub LeftOfAll : List ℕ → List Opened → List (List ℕ) → Type 0
-  LeftOfAll names [] left = left ≡ []
-  LeftOfAll names (o ∷ os) left = (own outer : List (List ℕ)) × LeftOf (name_in names o.name) o own
-      × LeftOfAll (take o.name.«end» names) os outer × (left ≡ own ++ outer)
+  abbrev pub AllLinesLeft : List ℕ → List Opened → List (List ℕ) → Type 0
+  AllLinesLeft names [] left = left ≡ []
+  AllLinesLeft names (o ∷ os) left = (own outer : List (List ℕ)) × LinesLeft (name_in names o.name) o own
+      × AllLinesLeft (take o.name.«end» names) os outer × (left ≡ own ++ outer)
 
   -- a first part of these lines was put into the sink, and the stack still has to list the rest
   pub record ListsOn (old new : Option (List ℕ)) (before after : Listing) (lines : List (List ℕ)) : Type 0 where
@@ -52,19 +52,19 @@ module _ (style : Style) (f : List ℕ) (F : Frame) (heights : List ℕ) where
     pub rest : List (List ℕ)
     pub takes : Takes old new before.sink after.sink (joined_lines written)
     pub counted : after.room + length written ≡ before.room
-    pub stands : LeftOfAll after.names (reverse after.stack.items) rest
+    pub stands : AllLinesLeft after.names (reverse after.stack.items) rest
     pub is : lines ≡ written ++ rest
 
 module _ (style : Style) (checked : CheckedFile) where
   -- the same in a checked file
-  abbrev pub OpenedLeft : List ℕ → Opened → List (List ℕ) → Type 0
-  OpenedLeft = LeftOf style checked.source.octets checked.frame checked.certificate.heights
+  abbrev pub LinesLeftIn : List ℕ → Opened → List (List ℕ) → Type 0
+  LinesLeftIn = LinesLeft style checked.source.octets checked.frame checked.certificate.heights
 
-  abbrev pub StackLeft : List ℕ → List Opened → List (List ℕ) → Type 0
-  StackLeft = LeftOfAll style checked.source.octets checked.frame checked.certificate.heights
+  abbrev pub AllLinesLeftIn : List ℕ → List Opened → List (List ℕ) → Type 0
+  AllLinesLeftIn = AllLinesLeft style checked.source.octets checked.frame checked.certificate.heights
 
-  abbrev pub GoesOn : Option (List ℕ) → Option (List ℕ) → Listing → Listing → List (List ℕ) → Type 0
-  GoesOn = ListsOn style checked.source.octets checked.frame checked.certificate.heights
+  abbrev pub ListsOnIn : Option (List ℕ) → Option (List ℕ) → Listing → Listing → List (List ℕ) → Type 0
+  ListsOnIn = ListsOn style checked.source.octets checked.frame checked.certificate.heights
 
   -- the node holds member i of the value with this name, and has the name of that member
   abbrev pub IsMemberAt : Value → List ℕ → ℕ → List ℕ → Named → Type 0

@@ -1,16 +1,15 @@
 //! The certificates of a run. The command `certify` writes one. Other commands need a file together with a certificate
 //! that fits it: the one that a caller gives, or the one that the linter makes.
 
-ghost use Rattle.std.specs.Prelude.{◌≡◌, IfOk, IsTrue, false, true, ℕ, List, length, MatchResult};
+ghost use Rattle.std.specs.Prelude.{◌≡◌, IfOk, IsTrue, false, true, ℕ, List, MatchResult};
 ghost use Rattle.bplint_engine.specs.Prelude.{OnlyReads, octets_of, Lists, IsCertificate, IsUpgraded, read_failed};
-ghost use Rattle.bplint_engine.specs.Prelude.{Answers, CertifySays, written, Gives, IsSafeFrame, IsRefusal, is_read};
+ghost use Rattle.bplint_engine.specs.Prelude.{Answers, CertifySays, written, GivesOrIsExcused, IsRefusal, read_fault_of};
 ghost use Rattle.bplint_engine.specs.Prelude.{CheckSays, IsDecoded, LintSays, IsVouchedFor, IsLeastFor};
 
 use crate::output::Output;
 use bplint_lines::{RunFault, Said};
 use bplist_cert::{CertRefusal, Certificate, Checked, check};
-use bplist_lint::{lint, upgrade};
-use bplist_objects::{Frame, ObjectFault, trailer_of};
+use bplist_lint::{lint, lint_checked, upgrade};
 use bplist_octets::Source;
 use std::alloc::{AllocError, Global};
 
@@ -62,7 +61,7 @@ fn output_with_keys<S: Source>(
     hex: bool,
 ) -> Result<Output, RunFault>
     ensures reads { OnlyReads (read_failed result) checked.old.source checked.new.source }
-    ensures exact { IsTrue checked.old.source.honest → Gives (λ output. (lists : Lists)
+    ensures exact { IsTrue checked.old.source.honest → GivesOrIsExcused (λ output. (lists : Lists)
         × IsCertificate lists × ∥ IsUpgraded checked.old.source.octets checked.old.frame checked.old.certificate.heights lists ∥₁
         × (output.said ≡ Said.All) × (output.bytes.items ≡ written hex (octets_of lists))) result }
 {
@@ -104,7 +103,7 @@ pub(crate) fn check_decoded<S: Source>(
 ) -> Result<Checked<S>, (RunFault, S)>
     ensures handed { MatchResult result
         (λ checked. checked.source ≡ S.means src)
-        (λ refused. OnlyReads (is_read refused.0) (S.means src) (S.means refused.1)) }
+        (λ refused. OnlyReads (read_fault_of refused.0) (S.means src) (S.means refused.1)) }
     ensures exact { IsTrue (S.means src).honest → (cert : List ℕ) → IsDecoded cert decoded → MatchResult result
         (λ checked. IsVouchedFor (S.means src).octets cert checked.frame checked.certificate)
         (λ refused. IsRefusal (CheckSays (S.means src).octets cert) refused.0) }
@@ -124,37 +123,13 @@ pub(crate) fn check_decoded<S: Source>(
 pub fn checked_by_lint<S: Source>(alloc: Global, src: S) -> Result<Checked<S>, (RunFault, S)>
     ensures handed { MatchResult result
         (λ checked. checked.source ≡ S.means src)
-        (λ refused. OnlyReads (is_read refused.0) (S.means src) (S.means refused.1)) }
+        (λ refused. OnlyReads (read_fault_of refused.0) (S.means src) (S.means refused.1)) }
     ensures exact { IsTrue (S.means src).honest → MatchResult result
         (λ checked. IsLeastFor (S.means src).octets checked.frame checked.certificate)
         (λ refused. IsRefusal (LintSays (S.means src).octets) refused.0) }
 {
-    let mut src = src;
-    match lint_with_frame(alloc, &mut src) {
-        Ok((frame, certificate)) => Ok(Checked::new(src, frame, certificate)),
-        Err(fault) => Err((fault, src)),
+    match lint_checked(alloc, src) {
+        Ok((checked, _counts)) => Ok(checked),
+        Err((refusal, src)) => Err((RunFault::from(refusal), src)),
     }
-}
-
-/// Returns the frame of a file that holds a value and the certificate of its least heights. Over any source, honest or
-/// not, the frame fits the source and the certificate has one height for each object.
-fn lint_with_frame<S: Source>(alloc: Global, src: &mut S) -> Result<(Frame, Certificate), RunFault>
-    ensures reads { OnlyReads (read_failed result) (S.means src.old) (S.means src.new) }
-    ensures exact { IsTrue (S.means src.old).honest → MatchResult result
-        (λ found. IsLeastFor (S.means src.old).octets found.0 found.1)
-        (IsRefusal (LintSays (S.means src.old).octets)) }
-    ensures safe { IfOk result (λ found. IsSafeFrame (length (S.means src.old).octets) found.0) }
-    ensures count { IfOk result (λ found. length found.1.heights ≡ found.0.objects) }
-{
-    let found = lint(alloc, src)?;
-    // The linter has read the same trailer. A broken rule or another number of objects now means that the file changed.
-    let frame = match trailer_of(src) {
-        Ok(frame) => frame,
-        Err(ObjectFault::Fault(_)) => return Err(RunFault::Changed),
-        Err(ObjectFault::Read(fault)) => return Err(RunFault::Read(fault)),
-    };
-    if found.certificate.heights.len() != frame.objects as usize {
-        return Err(RunFault::Changed);
-    }
-    Ok((frame, found.certificate))
 }

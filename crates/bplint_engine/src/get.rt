@@ -5,7 +5,8 @@ ghost use Rattle.std.specs.Prelude.{◌≡◌, ◌++◌, ℕ, List, Err, IfOk, I
 ghost use Rattle.std.specs.Prelude.{[]};
 ghost use Rattle.std.specs.List.{flat_map, list_any, AllZip};
 ghost use Rattle.bplint_engine.specs.Prelude.{OnlyReads, Holds, Value, OnlyReadsFile, reply, answer_read, answer_fault};
-ghost use Rattle.bplint_engine.specs.Prelude.{read_failed, Answers, Gives, CheckSays, IsDecoded, LinesSay, found_line};
+ghost use Rattle.bplint_engine.specs.Prelude.{read_failed, Answers, GivesOrIsExcused, CheckSays, IsDecoded};
+ghost use Rattle.bplint_engine.specs.Prelude.{LinesSay, found_line};
 ghost use Rattle.bplint_engine.specs.Prelude.{reply_line, IsPathOf, IsWrongAmong, OnPath};
 ghost use Rattle.bplint_engine.specs.Get as spec;
 
@@ -44,7 +45,7 @@ pub(crate) fn get_output<S: Source>(
 fn lines_told(alloc: Global, told: Result<Vec<Reply>, AnswerFault>) -> Result<Output, RunFault>
     ensures reads { read_failed result ≡ answer_read told }
     ensures exact { MatchResult told
-        (λ replies. Gives (λ output. (output.said ≡ spec.replies_said replies.items)
+        (λ replies. GivesOrIsExcused (λ output. (output.said ≡ spec.replies_said replies.items)
         × (output.bytes.items ≡ flat_map (reply_line Style.OldStyle) replies.items)) result)
         (λ fault. result ≡ Err (answer_fault fault)) }
 {
@@ -60,7 +61,7 @@ pub(crate) fn lines_for<S: Source>(
     queries: &[Query],
 ) -> Result<Output, RunFault>
     ensures reads { OnlyReadsFile (read_failed result) checked.old checked.new }
-    ensures exact { IsTrue checked.old.source.honest → Gives (λ output. (v : Value)
+    ensures exact { IsTrue checked.old.source.honest → GivesOrIsExcused (λ output. (v : Value)
         → Holds checked.old.source.octets checked.old.frame checked.old.frame.top.0 v
         → (output.said ≡ spec.replies_said (map (reply v) queries.now))
         × (output.bytes.items ≡ flat_map (reply_line style) (map (reply v) queries.now))) result }

@@ -4,8 +4,8 @@
 ghost use Rattle.std.specs.Prelude.{◌≡◌, ◌∷◌, [], ◌*◌, ◌^◌, ◌<◌, ◌++◌, IfOk, IsTrue, Ok, OnOk, codes};
 ghost use Rattle.bplist_cursor.specs.Causes.{GivesCursor, cursor_read};
 ghost use Rattle.bplint_engine.specs.Prelude.{OnlyReads, Holds, Value, IsVouchedBy, OnlyReadsFile, look};
-ghost use Rattle.bplint_engine.specs.Prelude.{Leaves, read_failed, Answers, Gives, IsSafeHead, said_of};
-ghost use Rattle.bplint_engine.specs.Prelude.{IsContainer, LinesSay, LintSays, listed};
+ghost use Rattle.bplint_engine.specs.Prelude.{Leaves, read_failed, Answers, GivesOrIsExcused, IsSafeHead, said_of};
+ghost use Rattle.bplint_engine.specs.Prelude.{HasMembers, LinesSay, LintSays, listed};
 ghost use Rattle.bplint_engine.specs.Prelude.{IsHeadFor, first_lines, item_name, member_line, face_line};
 
 use crate::certify::checked_by_lint;
@@ -105,7 +105,7 @@ fn list_path<S: Source>(
     ensures reads { OnlyReadsFile (read_failed result) checked.old checked.new }
     ensures exact { IsTrue checked.old.source.honest → (v : Value)
         → Holds checked.old.source.octets checked.old.frame checked.old.frame.top.0 v
-        → Gives (λ output. (output.said ≡ said_of (look 0 v path.now ∷ []))
+        → GivesOrIsExcused (λ output. (output.said ≡ said_of (look 0 v path.now ∷ []))
         × (output.bytes.items ≡ listed style text.now (look 0 v path.now))) result }
 {
     match locate(checked, path)? {
@@ -174,7 +174,7 @@ fn lines_of_members<S: Source>(
     requires few { container.now.members ≡ Members.Dict → 2 * container.now.count < 2 ^ 64 }
     ensures reads { OnlyReadsFile (cursor_read result) checked.old checked.new }
     ensures exact { IsTrue checked.old.source.honest → (w : Value) → IsHeadFor checked.old container.now.head w
-        → IsContainer container.now.members container.now.count w
+        → HasMembers container.now.members container.now.count w
         → GivesCursor (λ lines. lines.items ≡ listed container.now.style container.now.path.now (Ok w)) result }
 {
     let mut lines = Vec::new(alloc);
@@ -193,7 +193,7 @@ pub(crate) fn add_members<S: Source>(
     requires few { container.now.members ≡ Members.Dict → 2 * container.now.count < 2 ^ 64 }
     ensures reads { OnlyReadsFile (cursor_read result) checked.old checked.new }
     ensures exact { IsTrue checked.old.source.honest → (w : Value) → IsHeadFor checked.old container.now.head w
-        → IsContainer container.now.members container.now.count w
+        → HasMembers container.now.members container.now.count w
         → GivesCursor (λ _. lines.new.items ≡ lines.old.items ++ first_lines container.now.style container.now.path.now w container.now.count) result }
 {
     for i in 0..container.count {
@@ -215,7 +215,7 @@ fn add_member<S: Source>(
     requires within { i < container.now.count }
     ensures reads { OnlyReadsFile (cursor_read result) checked.old checked.new }
     ensures exact { IsTrue checked.old.source.honest → (w : Value) → IsHeadFor checked.old container.now.head w
-        → IsContainer container.now.members container.now.count w
+        → HasMembers container.now.members container.now.count w
         → GivesCursor (λ _. lines.new.items ≡ lines.old.items ++ member_line container.now.style container.now.path.now w i) result }
 {
     match container.members {
@@ -237,7 +237,7 @@ fn add_item<S: Source>(
     requires within { i < container.now.count }
     ensures reads { OnlyReadsFile (cursor_read result) checked.old checked.new }
     ensures exact { IsTrue checked.old.source.honest → (w : Value) → IsHeadFor checked.old container.now.head w
-        → IsContainer container.now.members container.now.count w
+        → HasMembers container.now.members container.now.count w
         → GivesCursor (λ _. lines.new.items ≡ lines.old.items ++ member_line container.now.style container.now.path.now w i) result }
 {
     let shown = member_face(alloc, checked, &container.head, i)?;
@@ -274,7 +274,7 @@ fn add_pair<S: Source>(
     requires within { i < container.now.count }
     ensures reads { OnlyReadsFile (cursor_read result) checked.old checked.new }
     ensures exact { IsTrue checked.old.source.honest → (w : Value) → IsHeadFor checked.old container.now.head w
-        → IsContainer container.now.members container.now.count w
+        → HasMembers container.now.members container.now.count w
         → GivesCursor (λ _. lines.new.items ≡ lines.old.items ++ member_line container.now.style container.now.path.now w i) result }
 {
     let units = member_text(alloc, checked, &container.head, 2 * i)?;

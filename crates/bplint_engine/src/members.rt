@@ -3,7 +3,7 @@
 ghost use Rattle.std.specs.Prelude.{◌≡◌, ◌*◌, ◌^◌, ◌<◌, IfSome, IsTrue, List, MatchOption, Some, ℕ};
 ghost use Rattle.bplist_cursor.specs.Causes.{GivesCursor, cursor_read};
 ghost use Rattle.bplist_cursor.specs.Found.{IsHeld};
-ghost use Rattle.bplint_engine.specs.Prelude.{HasRoom, IsContainer, IsHeadFor, IsLeaf, IsSafeHead, OnlyReadsFile, Value};
+ghost use Rattle.bplint_engine.specs.Prelude.{HasRoom, HasMembers, IsHeadFor, IsLeaf, IsSafeHead, OnlyReadsFile, Value};
 ghost use Rattle.bplint_engine.specs.Prelude.{face as face_of, leaf, member_of, text};
 
 use bplist_cert::Checked;
@@ -27,7 +27,7 @@ pub(crate) enum Members {
 pub(crate) fn members_of(shown: &Face, length: u64) -> Option<(Members, u64)>
     requires { HasRoom length shown.now }
     ensures exact { (w : Value) → shown.now ≡ face_of w
-        → MatchOption result (IsLeaf w) (λ found. IsContainer found.0 found.1 w) }
+        → MatchOption result (IsLeaf w) (λ found. HasMembers found.0 found.1 w) }
     ensures room { IfSome result (λ found. found.0 ≡ Members.Dict → 2 * found.1 < 2 ^ 64) }
 {
     match shown {

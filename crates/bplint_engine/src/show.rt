@@ -2,7 +2,7 @@
 
 ghost use Rattle.std.specs.Prelude.{◌∷◌, ◌≡◌, [], IfErr, IsTrue, MatchResult, map, string_bytes};
 ghost use Rattle.bplint_engine.specs.Prelude.{OnlyReads, Leaves, read_failed, Answers, LinesSay, LintSays, PrintSays};
-ghost use Rattle.bplint_engine.specs.Prelude.{found_line, IsLeastFor, IsRefusal, Lists, is_read};
+ghost use Rattle.bplint_engine.specs.Prelude.{found_line, IsLeastFor, IsRefusal, Lists, read_fault_of};
 ghost use Rattle.bplint_lines.specs.Faults.{IsExcused};
 
 use crate::certify::checked_by_lint;
@@ -68,7 +68,7 @@ fn show_output<S: Source>(
 fn checked_for<S: Source>(alloc: Global, src: S, count: usize) -> Result<Checked<S>, (RunFault, S)>
     ensures handed { MatchResult result
         (λ checked. checked.source ≡ S.means src)
-        (λ refused. OnlyReads (is_read refused.0) (S.means src) (S.means refused.1)) }
+        (λ refused. OnlyReads (read_fault_of refused.0) (S.means src) (S.means refused.1)) }
     ensures exact { IsTrue (S.means src).honest → MatchResult result
         (λ checked. (lists : Lists) × IsLeastFor (S.means src).octets checked.frame lists)
         (λ refused. IsRefusal (LintSays (S.means src).octets) refused.0) }
@@ -86,7 +86,7 @@ fn with_key_lists<S: Source>(
 ) -> Result<Checked<S>, (RunFault, S)>
     ensures handed { MatchResult result
         (λ listed. (listed.source ≡ checked.source) × (listed.frame ≡ checked.frame))
-        (λ refused. OnlyReads (is_read refused.0) checked.source (S.means refused.1)) }
+        (λ refused. OnlyReads (read_fault_of refused.0) checked.source (S.means refused.1)) }
     ensures excused { IsTrue checked.source.honest → IfErr result (λ refused. IsExcused refused.0) }
 {
     let mut checked = checked;

@@ -8,11 +8,11 @@ ghost use Rattle.bplist_cursor.specs.Causes.{GivesCursor, cursor_read};
 ghost use Rattle.bplist_cursor.specs.Found.{IsHeld};
 ghost use Rattle.bplint_engine.specs.Ls.{named_line};
 ghost use Rattle.bplint_engine.specs.Names.{Extends, IsNameIn, name_in};
-ghost use Rattle.bplint_engine.specs.Prelude.{IsContainer, IsHeadFor, IsLeaf, OnlyReadsFile, Value};
+ghost use Rattle.bplint_engine.specs.Prelude.{HasMembers, IsHeadFor, IsLeaf, OnlyReadsFile, Value};
 ghost use Rattle.bplint_engine.specs.Prelude.{face_line, read_failed};
 ghost use Rattle.bplint_engine.specs.Streams.{Fails, Puts, SendsAll, begun};
 ghost use Rattle.bplint_engine.specs.Tree.{joined_lines, tree_lines};
-ghost use Rattle.bplint_engine.specs.TreeWalks.{AreOpen, GoesOn, IsKept, IsMemberAt, IsOpen, StackLeft};
+ghost use Rattle.bplint_engine.specs.TreeWalks.{AreOpen, ListsOnIn, IsKept, IsMemberAt, IsOpen, AllLinesLeftIn};
 
 use crate::ls::add_value;
 use crate::members::{Members, member_node, member_text, members_of};
@@ -129,8 +129,8 @@ fn begin<S: Source, W: Write>(
         < 2 * listing.old.room + length listing.old.stack.items) }
     ensures exact { IsTrue checked.old.source.honest → (w : Value) → IsHeld checked.old at.node.object.0 w
         → MatchResult result
-        (λ _. (left : List (List ℕ)) → StackLeft style checked.old listing.old.names (reverse listing.old.stack.items) left
-        → GoesOn style checked.old (W.contents out.old) (W.contents out.new) listing.old listing.new
+        (λ _. (left : List (List ℕ)) → AllLinesLeftIn style checked.old listing.old.names (reverse listing.old.stack.items) left
+        → ListsOnIn style checked.old (W.contents out.old) (W.contents out.new) listing.old listing.new
         (tree_lines style (name_in listing.old.names at.name) w ++ left))
         (λ fault. length (tree_lines style (name_in listing.old.names at.name) w) ≤ listing.old.room
         → Fails (W.contents out.old) (W.contents out.new) listing.old.sink
@@ -168,7 +168,7 @@ fn write_line<S: Source, W: Write>(
         → MatchResult result
         (λ found. Takes (W.contents out.old) (W.contents out.new) listing.old.sink listing.new.sink
         (named_line style (name_in listing.old.names at.name) w)
-        × MatchOption found (IsLeaf w) (λ container. IsContainer container.0 container.1 w))
+        × MatchOption found (IsLeaf w) (λ container. HasMembers container.0 container.1 w))
         (λ fault. 0 < listing.old.room → Fails (W.contents out.old) (W.contents out.new) listing.old.sink
         (named_line style (name_in listing.old.names at.name) w) fault) }
 {
@@ -197,8 +197,8 @@ fn step<S: Source, W: Write>(
     ensures falls { OnOk result (2 * listing.new.room + length listing.new.stack.items
         ≤ 2 * listing.old.room + length listing.old.stack.items) }
     ensures exact { IsTrue checked.old.source.honest → (left : List (List ℕ))
-        → StackLeft style checked.old listing.old.names (opened ∷ reverse listing.old.stack.items) left → MatchResult result
-        (λ _. GoesOn style checked.old (W.contents out.old) (W.contents out.new) listing.old listing.new left)
+        → AllLinesLeftIn style checked.old listing.old.names (opened ∷ reverse listing.old.stack.items) left → MatchResult result
+        (λ _. ListsOnIn style checked.old (W.contents out.old) (W.contents out.new) listing.old listing.new left)
         (λ fault. length left ≤ listing.old.room
         → Fails (W.contents out.old) (W.contents out.new) listing.old.sink (joined_lines left) fault) }
 {
@@ -226,7 +226,7 @@ fn name_member<S: Source>(
     ensures rest { IsKept listing.old listing.new }
     ensures name { IfOk result (λ at. Extends listing.old.names listing.new.names opened.now.name at.name) }
     ensures exact { IsTrue checked.old.source.honest → (w : Value) → IsHeadFor checked.old opened.now.head w
-        → IsContainer opened.now.members opened.now.count w
+        → HasMembers opened.now.members opened.now.count w
         → GivesCursor (IsMemberAt style checked.old w (name_in listing.old.names opened.now.name) opened.now.next listing.new.names)
         result }
 {
@@ -263,7 +263,7 @@ fn name_value<S: Source>(
     ensures rest { IsKept listing.old listing.new }
     ensures name { IfOk result (λ at. Extends listing.old.names listing.new.names opened.now.name at.name) }
     ensures exact { IsTrue checked.old.source.honest → (w : Value) → IsHeadFor checked.old opened.now.head w
-        → IsContainer opened.now.members opened.now.count w
+        → HasMembers opened.now.members opened.now.count w
         → GivesCursor (IsMemberAt style checked.old w (name_in listing.old.names opened.now.name) opened.now.next listing.new.names)
         result }
 {

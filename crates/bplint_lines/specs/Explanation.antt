@@ -13,8 +13,8 @@ abbrev pub rule_line : Rule → List ℕ
 rule_line rule = codes "  rule " ++ decimal (number_of rule) ++ codes ": " ++ (text_of rule).0 ++ codes "\n"
 
 -- the rule that a fault is about, if it is about one
-abbrev pub rule_of : RunFault → Option Rule
-rule_of fault = elim fault [ Fault x ↦ Some x.rule | Circle _ ↦ Some rules.Circle | Path _ ↦ Some rules.PathText | _ ↦ None ]
+abbrev pub rule_of_fault : RunFault → Option Rule
+rule_of_fault fault = elim fault [ Fault x ↦ Some x.rule | Circle _ ↦ Some rules.Circle | Path _ ↦ Some rules.PathText | _ ↦ None ]
 
 -- true if the rule is about a certificate, which then has the place of the fault
 abbrev pub is_about_certificates : Rule → Bool

@@ -8,6 +8,6 @@ abbrev pub IsExcused : RunFault → Type 0
 IsExcused fault = elim fault [ faults.Read _ ↦ Unit {0} | faults.Memory ↦ Unit {0} | _ ↦ ⊥ ]
 
 -- P holds of the answer; the only faults are a failed read and refused memory
-abbrev pub Gives : {X : Type 0} → (X → Type 0) → Result X RunFault → Type 0
-Gives P (Ok x) = P x
-Gives P (Err fault) = IsExcused fault
+abbrev pub GivesOrIsExcused : {X : Type 0} → (X → Type 0) → Result X RunFault → Type 0
+GivesOrIsExcused P (Ok x) = P x
+GivesOrIsExcused P (Err fault) = IsExcused fault

@@ -8,7 +8,7 @@ ghost use Rattle.bplist_octets.specs.Meaning.{OnlyReads};
 ghost use Rattle.bplist_objects.specs.Failures.{failed_to_read};
 ghost use Rattle.bplist_objects.specs.Safe.{IsSafeFrame};
 ghost use Rattle.bplint_lines.specs.Answers.{read_failed};
-ghost use Rattle.bplint_lines.specs.Explanation.{is_about_certificates, rule_line, rule_of};
+ghost use Rattle.bplint_lines.specs.Explanation.{is_about_certificates, rule_line, rule_of_fault};
 ghost use Rattle.std.specs.Fmt.{decimal};
 ghost use Rattle.bplist_objects.specs.Words.{number_of, word_of};
 ghost use Rattle.bplist_objects.specs.declared.rule.Rule.{Rule};
@@ -47,7 +47,7 @@ pub fn explain<S: Source>(
     fault: &RunFault,
 ) -> Result<String, RunFault>
     ensures reads { OnlyReads (read_failed result) (S.means src.old) (S.means src.new) }
-    ensures rule { IfOk result (λ text. MatchOption (rule_of fault.now) (string_bytes text ≡ [])
+    ensures rule { IfOk result (λ text. MatchOption (rule_of_fault fault.now) (string_bytes text ≡ [])
         (λ rule. (rest : List ℕ) × (string_bytes text ≡ rule_line rule ++ rest))) }
 {
     match fault {

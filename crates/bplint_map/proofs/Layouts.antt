@@ -4,7 +4,7 @@ use Rattle.std.proofs.lemmas.Bool.{cases_lt}
 use Rattle.std.proofs.lemmas.List.Sums.{sum_by-cons}
 use Rattle.std.proofs.lemmas.Bool.Decides.{nat_tests}
 use Rattle.bplint_map.specs.declared.rows.Row.{Row}
-use Rattle.bplint_map.specs.Layout.{AreInOrder, IsRegion, objects_at, parts, row_end}
+use Rattle.bplint_map.specs.Layout.{AreSortedRows, IsRegion, objects_at, parts, row_end}
 use Rattle.std.specs.List.{Any}
 
 -- ---- one of several
@@ -44,11 +44,11 @@ stand_covered p x (row ∷ rows) s (inl h) = omega (arith, s 0 row (omega arith)
 stand_covered p x (row ∷ rows) s (inr h) = stand_covered p x rows (λ k d l. s (suc k) d (omega (arith, l))) h
 
 -- the rows after the first of rows in order
-module _ (row : Row) (rows : List Row) (order : AreInOrder (row ∷ rows)) where
+module _ (row : Row) (rows : List Row) (order : AreSortedRows (row ∷ rows)) where
   all_later : All (λ (later : Row). row.place ≤ later.place) rows
   all_later = λ k d l. order.1 0 (suc k) d (omega arith) (omega (arith, l))
 
-  rest_in_order : AreInOrder rows
+  rest_in_order : AreSortedRows rows
   rest_in_order =
       (λ k d l. order.0 (suc k) d (omega (arith, l)), λ i j d low l. order.1 (suc i) (suc j) d (omega (arith, low)) (omega (arith, l)))
 
@@ -77,7 +77,7 @@ module _ (table x : ℕ) where
   ]
 
   -- a gap comes after all objects so far, and is in no object
-  pub gaps_alone : (reached : ℕ) (rows : List Row) → AreInOrder rows → IsAmong (IsRegion (codes "gap") x) (parts table reached rows) → (reached ≤ x) × (IsAmong (Covers x) rows → ⊥)
+  pub gaps_alone : (reached : ℕ) (rows : List Row) → AreSortedRows rows → IsAmong (IsRegion (codes "gap") x) (parts table reached rows) → (reached ≤ x) × (IsAmong (Covers x) rows → ⊥)
   gaps_alone reached [] order h = elim h [ inl g ↦ (g.1, λ c. c) | inr none ↦ absurd none ]
   gaps_alone reached (row ∷ rows) order h = elim h [
     | inl g ↦ first (g.1, g.2)
@@ -116,7 +116,7 @@ module _ (table x : ℕ) where
   overlaps_all reached (row ∷ rows) (inr (inr twice)) =
       inr (inr (inr (overlaps_all (max reached (row_end row)) rows (inr twice))))
 
-  pub overlaps_alone : (reached : ℕ) (rows : List Row) → AreInOrder rows → IsAmong (IsRegion (codes "overlap") x) (parts table reached rows)
+  pub overlaps_alone : (reached : ℕ) (rows : List Row) → AreSortedRows rows → IsAmong (IsRegion (codes "overlap") x) (parts table reached rows)
       → ((x < reached) × IsAmong (Covers x) rows) ⊎ IsCoveredTwice x rows
   overlaps_alone reached [] order h = elim h [ inl g ↦ absurd (gap_alone g.0) | inr none ↦ absurd none ]
   overlaps_alone reached (row ∷ rows) order h = elim h [
@@ -184,11 +184,11 @@ module _ (x : ℕ) where
   ]
 
 -- no object takes a byte before place 8
-from_8 : (x : ℕ) (rows : List Row) → AreInOrder rows → IsAmong (Covers x) rows → 8 ≤ x
+from_8 : (x : ℕ) (rows : List Row) → AreSortedRows rows → IsAmong (Covers x) rows → 8 ≤ x
 from_8 x [] order h = absurd h
 from_8 x (row ∷ rows) order (inl own) = let low = order.0 0 row (omega arith) (omega (arith, own.0, own.1)) in omega (arith, low, own.0)
 from_8 x (row ∷ rows) order (inr other) = from_8 x rows (rest_in_order row rows order) other
 
-pub twice : (x : ℕ) (rows : List Row) → AreInOrder rows → ((x < 8) × IsAmong (Covers x) rows) ⊎ IsCoveredTwice x rows → IsCoveredTwice x rows
+pub twice : (x : ℕ) (rows : List Row) → AreSortedRows rows → ((x < 8) × IsAmong (Covers x) rows) ⊎ IsCoveredTwice x rows → IsCoveredTwice x rows
 twice x rows order (inl (low, h)) = absurd (omega (arith, low, from_8 x rows order h))
 twice x rows order (inr h) = h

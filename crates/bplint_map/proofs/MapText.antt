@@ -26,7 +26,7 @@ use Rattle.bplint_lines.specs.Answers.{BeginsAnswer, LeavesSomeBy, gives}
 use Rattle.bplint_map.proofs.Findings.{findings_of}
 use Rattle.bplint_map.specs.Layout.{object, region, parts, row_end}
 use Rattle.bplint_map.specs.Lines.{region_line, row_lines, part_line, part_lines}
-use Rattle.bplint_map.specs.Map.{IsVerdict, MapSays, PutsSome, map_text}
+use Rattle.bplint_map.specs.Map.{IsVerdict, MapSays, FailsToPut, map_text}
 use Rattle.bplint_map.specs.Rows.{AreFindings, IsByPlace, placed, rows}
 
 -- ---- the text
@@ -110,7 +110,7 @@ in_pieces f F verdict findings order =
 -- ---- the sink
 module _ (old mid new : Option (List ℕ)) (s t : Sending) where
   -- a part was put in, and the next was not
-  pub then_some : (text xs ys : List ℕ) (fault : RunFault) → Takes old mid s t xs → PutsSome mid new t ys fault → text ≡ xs ++ ys → PutsSome old new s text fault
+  pub then_some : (text xs ys : List ℕ) (fault : RunFault) → Takes old mid s t xs → FailsToPut mid new t ys fault → text ≡ xs ++ ys → FailsToPut old new s text fault
   then_some text xs ys (faults.Write k) takes part e = rw e (takes_then_part old mid new s t xs ys k takes part)
   then_some text xs ys (faults.Read _) takes some e = rw e (ended takes some)
     where
@@ -121,7 +121,7 @@ module _ (old mid new : Option (List ℕ)) (s t : Sending) where
 
 module _ (old new : Option (List ℕ)) (s : Sending) where
   -- bytes that were not put in of a text were not put in of a longer text
-  pub some_of_more : (text xs ys : List ℕ) (fault : RunFault) → PutsSome old new s xs fault → text ≡ xs ++ ys → PutsSome old new s text fault
+  pub some_of_more : (text xs ys : List ℕ) (fault : RunFault) → FailsToPut old new s xs fault → text ≡ xs ++ ys → FailsToPut old new s text fault
   some_of_more text xs ys (faults.Write k) part e = rw e (part_of_more old new s xs ys k part)
   some_of_more text xs ys (faults.Read _) some e = rw e (longer some)
     where
@@ -171,7 +171,7 @@ module _ (f : List ℕ) (F : Frame) (frame : IsFrame f F) (verdict : Verdict) (l
   begun old new some = (tt, inr (All, the_map, says, some))
 
   -- it was not put in
-  pub map_cut : (old new : Option (List ℕ)) (s : Sending) (fault : RunFault) → s ≡ record { sent = 0; held = [] } → PutsSome old new s the_map fault → LeavesMap f old new (Err fault)
+  pub map_cut : (old new : Option (List ℕ)) (s : Sending) (fault : RunFault) → s ≡ record { sent = 0; held = [] } → FailsToPut old new s the_map fault → LeavesMap f old new (Err fault)
   map_cut old new s (faults.Write k) start part =
       (All, the_map, says, out_part old old new s [] the_map k (out_start old s (ap (λ x. x.sent) start) (ap (λ x. x.held) start)) part)
   map_cut old new s (faults.Read _) start some = begun old new (subst (λ l. SendsSome old new (l ++ the_map)) (ap (λ x. x.held) start) some)

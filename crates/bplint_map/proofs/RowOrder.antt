@@ -10,7 +10,7 @@ use Rattle.bplist_objects.specs.declared.frame.Frame.{Frame}
 use Rattle.bplist_objects.specs.Frame.{off}
 use Rattle.bplint_map.specs.declared.rows.Finding.{Finding}
 use Rattle.bplint_map.specs.declared.rows.Row.{Row}
-use Rattle.bplint_map.specs.Layout.{AreInOrder, row_end}
+use Rattle.bplint_map.specs.Layout.{AreSortedRows, row_end}
 use Rattle.bplint_map.specs.Rows.{AreFindings, IsByPlace, rows}
 use Rattle.bplint_map.proofs.Findings.{a_row}
 
@@ -52,7 +52,7 @@ module _ (f : List ℕ) (F : Frame) (findings : ℕ → Finding) where
       subst (λ l. All IsLow l) (sym first.2) (All-cons IsLow _ (rows f F findings first.1 ns) (first.3 (are n (all 0 0 (omega arith))))
       (rows_low ns first.1 are (λ k d l. all (suc k) d (omega (arith, l)))))
 
-  pub rows_in_order : (left : ℕ) (order : List ℕ) → AreFindings f F findings → IsByPlace f F order → AreInOrder (rows f F findings left order)
+  pub rows_in_order : (left : ℕ) (order : List ℕ) → AreFindings f F findings → IsByPlace f F order → AreSortedRows (rows f F findings left order)
   rows_in_order left order are by =
       let long = rows_long order left in
       let pairs : AllPairs (λ (r s : Row). r.place ≤ s.place) (rows f F findings left order) = λ i j d before l.

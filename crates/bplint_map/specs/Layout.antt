@@ -29,5 +29,5 @@ abbrev pub IsRegion : List ℕ → ℕ → Part → Type 0
 IsRegion word x part = elim part [ region own from to ↦ (own ≡ word) × (from ≤ x) × (x < to) | object row ↦ ⊥ ]
 
 -- objects take bytes only from place 8 on, and rows are sorted by place
-abbrev pub AreInOrder : List Row → Type 0
-AreInOrder rows = All (λ (r : Row). r.place < row_end r → 8 ≤ r.place) rows × AllPairs (λ (r s : Row). r.place ≤ s.place) rows
+abbrev pub AreSortedRows : List Row → Type 0
+AreSortedRows rows = All (λ (r : Row). r.place < row_end r → 8 ≤ r.place) rows × AllPairs (λ (r s : Row). r.place ≤ s.place) rows

@@ -43,13 +43,14 @@ MapSays f (refuses fault) = elim fault [ faults.Fault x ↦ IsFrameFault f x | _
 
 -- ---- how the text is sent
 -- a text was not put into a sink, and what was written
-abbrev pub PutsSome : Option (List ℕ) → Option (List ℕ) → Sending → List ℕ → RunFault → Type 0
-PutsSome old new before text (faults.Write sent) = TakesPart old new before text sent
-PutsSome old new before text (faults.Read _) = SendsSome old new (before.held ++ text)
-PutsSome old new before text faults.Memory = SendsSome old new (before.held ++ text)
-PutsSome old new before text _ = ⊥
+abbrev pub FailsToPut : Option (List ℕ) → Option (List ℕ) → Sending → List ℕ → RunFault → Type 0
+FailsToPut old new before text (faults.Write sent) = TakesPart old new before text sent
+FailsToPut old new before text (faults.Read _) = SendsSome old new (before.held ++ text)
+FailsToPut old new before text faults.Memory = SendsSome old new (before.held ++ text)
+FailsToPut old new before text _ = ⊥
 
 -- a text was put into a sink, or why it was not
-abbrev pub Puts : Option (List ℕ) → Option (List ℕ) → Sending → Sending → List ℕ → Result (Unit {0}) RunFault → Type 0
-Puts old new before after text (Ok _) = Takes old new before after text
-Puts old new before after text (Err fault) = PutsSome old new before text fault
+abbrev pub PutsText : Option (List ℕ) → Option (List ℕ) → Sending → Sending → List ℕ → Result (Unit {0}) RunFault
+    → Type 0
+PutsText old new before after text (Ok _) = Takes old new before after text
+PutsText old new before after text (Err fault) = FailsToPut old new before text fault

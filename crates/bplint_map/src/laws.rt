@@ -3,7 +3,7 @@
 ghost use Rattle.std.specs.Prelude.{◌≡◌, ◌⊎◌, ◌↔◌, ◌≤◌, ◌<◌, ℕ, List, codes};
 ghost use Rattle.std.specs.List.{Any, sum_by};
 ghost use Rattle.bplist_objects.specs.declared.frame.Frame.{Frame as frame};
-ghost use Rattle.bplint_map.specs.Layout.{AreInOrder, IsRegion, objects_at, parts};
+ghost use Rattle.bplint_map.specs.Layout.{AreSortedRows, IsRegion, objects_at, parts};
 ghost use Rattle.bplint_map.specs.Rows.{AreFindings, IsByPlace, looked_at, rows, size};
 ghost use Rattle.bplint_map.specs.declared.rows.Finding.{Finding as finding};
 ghost use Rattle.bplint_map.specs.declared.rows.Row.{Row as row};
@@ -11,7 +11,7 @@ ghost use Rattle.bplint_map.specs.declared.rows.Row.{Row as row};
 /// The rows of every map are in order, as the other two laws require.
 pub fn rows_are_in_order()
     ensures { (f : List ℕ) (F : frame) (findings : ℕ → finding) (left : ℕ) (order : List ℕ) → AreFindings f F findings
-        → IsByPlace f F order → AreInOrder (rows f F findings left order) }
+        → IsByPlace f F order → AreSortedRows (rows f F findings left order) }
 {}
 
 /// `map` looks at every body if the objects have no more bytes together than it may look at.
@@ -23,12 +23,12 @@ pub fn bodies_are_looked_at()
 pub fn gaps_are_all()
     ensures all { (table : ℕ) (rows : List row) (x : ℕ) → 8 ≤ x → x < table
         → (0 < objects_at x rows) ⊎ Any (IsRegion (codes "gap") x) (parts table 8 rows) }
-    ensures alone { (table : ℕ) (rows : List row) → AreInOrder rows → (x : ℕ)
+    ensures alone { (table : ℕ) (rows : List row) → AreSortedRows rows → (x : ℕ)
         → Any (IsRegion (codes "gap") x) (parts table 8 rows) → objects_at x rows ≡ 0 }
 {}
 
 /// An overlap consists of bytes that are in several objects, and every such byte is in an overlap.
 pub fn overlaps_are_all()
-    ensures { (table : ℕ) (rows : List row) → AreInOrder rows → (x : ℕ)
+    ensures { (table : ℕ) (rows : List row) → AreSortedRows rows → (x : ℕ)
         → (1 < objects_at x rows) ↔ Any (IsRegion (codes "overlap") x) (parts table 8 rows) }
 {}

@@ -8,7 +8,7 @@ ghost use Rattle.bplist_objects.specs.Safe.{IsSafe};
 ghost use Rattle.bplint_lines.specs.Answers.{LeavesSomeBy, read_failed};
 ghost use Rattle.bplint_map.specs.Layout.{parts};
 ghost use Rattle.bplint_map.specs.Lines.{region_line, part_lines};
-ghost use Rattle.bplint_map.specs.Map.{MapSays, Puts, map_text};
+ghost use Rattle.bplint_map.specs.Map.{MapSays, PutsText, map_text};
 ghost use Rattle.bplint_map.specs.Rows.{AreFindings, placed, rows};
 ghost use Rattle.bplint_map.specs.declared.rows.Finding.{Finding};
 
@@ -82,7 +82,7 @@ fn put_map<P: Framed, W: Write>(
     ensures reads { OnlyReads (read_failed result) (P.means src.old) (P.means src.new) }
     ensures exact { HonestlyIn (P.means src.old) (λ f F. (order : List ℕ)
         → map.now.objects.items ≡ map_of (placed f F) order → (findings : ℕ → Finding) → AreFindings f F findings
-        → Puts (W.contents out.old) (W.contents out.new) sink.old sink.new (map_text f F map.now.verdict findings order) result) }
+        → PutsText (W.contents out.old) (W.contents out.new) sink.old sink.new (map_text f F map.now.verdict findings order) result) }
 {
     let front = front_lines(alloc)?;
     let back = back_lines(alloc, &src.frame(), src.len())?;
@@ -127,7 +127,7 @@ fn put_rows<P: Framed, W: Write>(
     ensures reads { OnlyReads (read_failed result) (P.means src.old) (P.means src.new) }
     ensures exact { HonestlyIn (P.means src.old) (λ f F. (order : List ℕ)
         → map.now.objects.items ≡ map_of (placed f F) order → (findings : ℕ → Finding) → AreFindings f F findings
-        → Puts (W.contents out.old) (W.contents out.new) sink.old sink.new
+        → PutsText (W.contents out.old) (W.contents out.new) sink.old sink.new
         (part_lines map.now.verdict (parts F.table 8 (rows f F findings (16 * F.table) order))) result) }
 {
     let mut line = String::new(alloc);

@@ -1,4 +1,5 @@
 pub mod WriteSteps
 pub mod WalkSteps
+mod AskSteps
 mod SearchSteps
 mod PrintSteps

@@ -1,3 +1,4 @@
+pub mod Asked
 pub mod BoundedWrites
 pub mod Walks
 pub mod FormlessSearch

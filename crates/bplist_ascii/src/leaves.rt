@@ -1,6 +1,6 @@
 //! Writes texts and data as old-style text, reading their bodies in parts.
 
-ghost use Rattle.std.specs.Prelude.{◌≡◌, ◌+◌, ◌<◌, ◌≤◌, true, length, flat_map, IfOk, OnOk, IfErr, OnErr, IsTrue};
+ghost use Rattle.std.specs.Prelude.{◌≡◌, ◌+◌, ◌*◌, ◌<◌, ◌≤◌, true, length, flat_map, IfOk, OnOk, IfErr, OnErr, IsTrue};
 ghost use Rattle.std.specs.List.{list_all};
 ghost use Rattle.bplist_ascii.specs.Prelude.{part, HonestlyChecked, IsSafeBody, IsTextKind, units_of, Bytes, GivesRead};
 ghost use Rattle.bplist_ascii.specs.Prelude.{read_failed, OnlyReadsFile, hex_digits, text_of_units, text_of_bytes};
@@ -23,6 +23,7 @@ fn is_unquoted<S: Source>(checked: &mut Checked<S>, head: &Head) -> Result<bool,
     requires kind { IsTextKind head.now.kind }
     requires head { IsSafeBody (length checked.old.source.octets) head.now }
     ensures reads { OnlyReadsFile (read_failed result) checked.old checked.new }
+    ensures asks { checked.new.asked ≤ checked.old.asked + 2 * head.now.count }
     ensures exact { GivesRead (λ unquoted. HonestlyChecked checked.old
         (λ f _. unquoted ≡ is_unquoted_text (units_of f head.now))) result }
     ensures some { IfOk result (λ unquoted. unquoted ≡ true → 0 < head.now.count) }
@@ -50,6 +51,7 @@ fn write_text_body<S: Source, W: Write>(
     requires kind { IsTextKind text.now.head.kind }
     requires head { IsSafeBody (length checked.old.source.octets) text.now.head }
     ensures reads { OnlyReadsFile (print_read result) checked.old checked.new }
+    ensures asks { checked.new.asked ≤ checked.old.asked + 2 * text.now.head.count }
     ensures adds { OnOk result (AddsText (W.contents out.old) (W.contents out.new) sink.old sink.new room.old room.new
         (IsTrue checked.old.source.honest) (flat_map (styled text.now.style)
         (units_of checked.old.source.octets text.now.head))) }
@@ -79,6 +81,7 @@ fn write_data_body<S: Source, W: Write>(
     requires kind { head.now.kind ≡ Bytes }
     requires head { IsSafeBody (length checked.old.source.octets) head.now }
     ensures reads { OnlyReadsFile (print_read result) checked.old checked.new }
+    ensures asks { checked.new.asked ≤ checked.old.asked + head.now.count }
     ensures adds { OnOk result (AddsText (W.contents out.old) (W.contents out.new) sink.old sink.new room.old room.new
         (IsTrue checked.old.source.honest) (flat_map hex_digits (part checked.old.source.octets head.now.body head.now.count))) }
     ensures fails { IfErr result (λ e. HonestlyChecked checked.old
@@ -109,6 +112,7 @@ pub(crate) fn write_data<S: Source, W: Write>(
     requires kind { head.now.kind ≡ Bytes }
     requires head { IsSafeBody (length checked.old.source.octets) head.now }
     ensures reads { OnlyReadsFile (print_read result) checked.old checked.new }
+    ensures asks { checked.new.asked ≤ checked.old.asked + head.now.count }
     ensures adds { OnOk result (AddsText (W.contents out.old) (W.contents out.new) sink.old sink.new room.old room.new
         (IsTrue checked.old.source.honest) (text_of_bytes (part checked.old.source.octets head.now.body head.now.count))) }
     ensures fails { IfErr result (λ e. HonestlyChecked checked.old
@@ -133,6 +137,7 @@ fn write_quoted<S: Source, W: Write>(
     requires kind { IsTextKind head.now.kind }
     requires head { IsSafeBody (length checked.old.source.octets) head.now }
     ensures reads { OnlyReadsFile (print_read result) checked.old checked.new }
+    ensures asks { checked.new.asked ≤ checked.old.asked + 2 * head.now.count }
     ensures adds { OnOk result (AddsText (W.contents out.old) (W.contents out.new) sink.old sink.new room.old room.new
         (IsTrue checked.old.source.honest) (quoted (units_of checked.old.source.octets head.now))) }
     ensures fails { IfErr result (λ e. HonestlyChecked checked.old
@@ -160,6 +165,7 @@ pub(crate) fn write_text<S: Source, W: Write>(
     requires kind { IsTextKind head.now.kind }
     requires head { IsSafeBody (length checked.old.source.octets) head.now }
     ensures reads { OnlyReadsFile (print_read result) checked.old checked.new }
+    ensures asks { checked.new.asked ≤ checked.old.asked + 4 * head.now.count }
     ensures adds { OnOk result (AddsText (W.contents out.old) (W.contents out.new) sink.old sink.new room.old room.new
         (IsTrue checked.old.source.honest) (text_of_units (units_of checked.old.source.octets head.now))) }
     ensures fails { IfErr result (λ e. HonestlyChecked checked.old

@@ -13,12 +13,13 @@ use Rattle.bplist_cert.specs.Sorted.{IsAccepted}
 use Rattle.bplist_lint.specs.declared.answer.Lint.{Lint}
 use Rattle.bplist_lint.specs.declared.answer.LintRefusal.{LintRefusal}
 use Rattle.bplist_lint.specs.declared.answer.LintRefusal.TheVariants as refusals
+use Rattle.bplist_lint.specs.Linted.{lint_of}
 use Rattle.bplist_lint.specs.Refusals.{Lints}
 use Rattle.bplist_c.specs.declared.accepted.Accepted.{Accepted}
 use Rattle.bplist_c.specs.declared.handle.BplistHandle.{BplistHandle}
 use Rattle.bplist_c.specs.declared.status.Status.{Status}
 use Rattle.bplist_c.specs.declared.verdict.BplistVerdict.{BplistVerdict}
-use Rattle.bplist_c.specs.Lifecycle.{Accepts, IsOpened, IsPair, Keeps, lint_of}
+use Rattle.bplist_c.specs.Lifecycle.{Accepts, IsOpened, IsPair, KeepsHandle}
 use Rattle.bplist_c.specs.Verdicts.{ShowsLint}
 
 module _ (file : Bor (List ℕ)) (sorted : Bool) (P : Lint → Type 0) (Q : Fault → Type 0) (R : List ℕ → Type 0)
@@ -30,7 +31,7 @@ module _ (file : Bor (List ℕ)) (sorted : Bool) (P : Lint → Type 0) (Q : Faul
 
   -- refused memory is a result too
   pub opens : (answer : Result Lint LintRefusal) (accepted : Result Accepted (Status × BplistVerdict)) → Lints P Q R answer
-      → Accepts file answer accepted → Keeps sorted handle verdict status accepted → Opens
+      → Accepts file answer accepted → KeepsHandle sorted handle verdict status accepted → Opens
   opens (Ok lint) (Ok accepted) given says kept = elim kept [
     | inl k ↦ (Ok lint, given, (k.0, rw k.1 says.1.1), (rw (says.0.0, says.0.1) at k.2))
     | inr k ↦ (Err refusals.Memory, tt, (k.0, k.1), k.2)
@@ -39,7 +40,7 @@ module _ (file : Bor (List ℕ)) (sorted : Bool) (P : Lint → Type 0) (Q : Faul
   opens (Ok lint) (Err told) given says kept = absurd says
   opens (Err why) (Ok accepted) given says kept = absurd says
 
-module _ (file : Bor (List ℕ)) (checked : CheckedFile) (is : IsChecked checked) (same : checked.source ≡ source_over file) where
+module _ (file : Bor (List ℕ)) (checked : CheckedFile) (same : checked.source ≡ source_over file) where
   -- the checked file with this verdict is accepted
   pub accepts : (lint : Lint) (result : Result Accepted (Status × BplistVerdict)) → lint.certificate ≡ checked.certificate
       → MatchResult result (λ a. (a.checked ≡ checked) × ShowsLint checked.source.octets (Ok lint) a.verdict 0) (λ _. ⊥)
@@ -48,15 +49,16 @@ module _ (file : Bor (List ℕ)) (checked : CheckedFile) (is : IsChecked checked
       ((ap (λ (c : CheckedFile). c.source) says.0 ∙ same, ap (λ (c : CheckedFile). c.certificate) says.0 ∙ sym certificate), rw same at says.1)
   accepts lint (Err told) certificate says = absurd says
 
-  honest : IsTrue checked.source.honest
+  pub honest : IsTrue checked.source.honest
   honest = subst (λ (m : Meaning). IsTrue m.honest) (sym same) refl
 
+module _ (file : Bor (List ℕ)) (checked : CheckedFile) (is : IsChecked checked) (same : checked.source ≡ source_over file) where
   framed : IsFrame file.now checked.frame
-  framed = subst (λ (m : Meaning). IsFrame m.octets checked.frame) same (is.framed honest)
+  framed = subst (λ (m : Meaning). IsFrame m.octets checked.frame) same (is.framed (honest file checked same))
 
   -- what the check has accepted is a valid certificate of the file
   pub is_pair : (octets : List ℕ) → IsCertificate checked.certificate → octets ≡ octets_of checked.certificate
-      → IsPair file.now octets (lint_of checked.frame checked.certificate 0 0)
+      → IsPair file.now octets (lint_of checked.frame checked.certificate (record { reached = 0; references = 0 }))
   is_pair octets spelled e =
-      let accepted = subst (λ (m : Meaning). ∥ IsAccepted m.octets checked.frame checked.certificate ∥₁) same (is.accepted honest) in
+      let accepted = subst (λ (m : Meaning). ∥ IsAccepted m.octets checked.frame checked.certificate ∥₁) same (is.accepted (honest file checked same)) in
       (checked.frame, framed, (spelled, e, accepted), refl, refl, refl)

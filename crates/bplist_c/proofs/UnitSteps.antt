@@ -7,7 +7,7 @@ use Rattle.bplist_objects.specs.Safe.{IsSafeBody}
 use Rattle.bplist_objects.specs.Units.{IsTextKind, units_of}
 use Rattle.bplist_objects.specs.declared.head.Head.{Head}
 use Rattle.bplist_objects.proofs.Units.{length-units_at}
-use Rattle.bplist_c.specs.Statuses.{Puts}
+use Rattle.bplist_c.specs.Statuses.{PutsItems}
 
 -- parts from one place, or of no units, are the same
 same_part : (us : List ℕ) (a b n : ℕ) → (a ≡ b) ⊎ (n ≡ 0) → part us a n ≡ part us b n
@@ -23,12 +23,12 @@ as_fit xs n room e = elim (cases_lt room (length xs)) [
 
 -- items that fit are written
 pub fitting : {X : Type 0} (items old new : List X) (was count : ℕ) → length items ≤ length old → count ≡ length items → new ≡ items ++ drop (length items) old
-    → Puts (Ok items) old new was count 0
+    → PutsItems (Ok items) old new was count 0
 fitting items old new was count fits counted put = (counted, rw (le-leb (length items) (length old) fits) (refl, put))
 
 -- a part that was read into the front of the buffer, as much as there is and as fits, is written
 pub part_put : (us : List ℕ) (from start now : ℕ) (read old : List ℕ) (was : ℕ) → start ≡ min from (length us)
-    → now ≡ min (length us - start) (length old) → read ≡ part us start now → Puts (Ok (part us from (length old))) old (read ++ drop now old) was now 0
+    → now ≡ min (length us - start) (length old) → read ≡ part us start now → PutsItems (Ok (part us from (length old))) old (read ++ drop now old) was now 0
 part_put us from start now read old was e d is =
     let items = part us from (length old) in
     let left = length-drop from us in
@@ -43,7 +43,7 @@ part_put us from start now read old was e d is =
 -- units that were read into the front of the buffer, as many as there are and as fit, are written
 pub units_put : (f : List ℕ) (head : Head) (from start now : ℕ) (read old : List ℕ) (was : ℕ) → IsTextKind head.kind → IsSafeBody (length f) head
     → start ≡ min from head.count → now ≡ min (head.count - start) (length old) → read ≡ part (units_of f head) start now
-    → Puts (Ok (part (units_of f head) from (length old))) old (read ++ drop now old) was now 0
+    → PutsItems (Ok (part (units_of f head) from (length old))) old (read ++ drop now old) was now 0
 units_put f head from start now read old was text safe e d is =
     let all : length (units_of f head) ≡ head.count = length-units_at f head.kind head.count head.body text (omega (arith, safe.body, safe.within)) in
     part_put (units_of f head) from start now read old was (omega (arith, all, e)) (omega (arith, all, d)) is

@@ -8,7 +8,6 @@ use Rattle.bplist_cert.specs.CertifiedFile.{IsVouchedFor}
 use Rattle.bplist_cert.specs.CheckedFile.{CheckedFile}
 use Rattle.bplist_cert.specs.Encoding.{octets_of}
 use Rattle.bplist_cert.specs.Lists.{Lists}
-use Rattle.bplist_cert.specs.Sorted.{IsAccepted}
 use Rattle.bplist_lint.specs.declared.answer.Lint.{Lint}
 use Rattle.bplist_lint.specs.declared.answer.LintRefusal.{LintRefusal}
 use Rattle.bplist_c.specs.declared.accepted.Accepted.{Accepted}
@@ -18,13 +17,9 @@ use Rattle.bplist_c.specs.declared.status.Status.{Status}
 use Rattle.bplist_c.specs.declared.status.Status.TheVariants as statuses
 use Rattle.bplist_c.specs.declared.verdict.BplistVerdict.{BplistVerdict}
 use Rattle.bplist_c.specs.Sessions.{IsSessionOf}
-use Rattle.bplist_c.specs.Statuses.{number_of}
+use Rattle.bplist_c.specs.Statuses.{status_number}
 use Rattle.bplist_c.specs.Verdicts.{ShowsLint, refused_told}
 use Rattle.bplist_c.specs.declared.verdict.TheConstants.{NO_VERDICT}
-
--- these bytes and this certificate are a valid pair
-abbrev pub IsAcceptedFor : List ℕ → Lists → Type 0
-IsAcceptedFor f certificate = (F : Frame) × IsFrame f F × IsAccepted f F certificate
 
 -- the checked file consists of these bytes and that certificate
 abbrev pub IsCheckedFor : Bor (List ℕ) → Lists → CheckedFile → Type 0
@@ -37,15 +32,6 @@ IsOpened f certificate sorted h = (h.length ≡ length f) × ((s : Session) × (
     × (s.certificate.heights ≡ certificate.heights) × (IsSome certificate.keys → s.certificate ≡ certificate)
     × (sorted ≡ false → s.certificate ≡ certificate) × (IsTrue sorted → IsSome s.certificate.keys))
 
--- the answer of the linter with this certificate, the height of the top, and these figures
-abbrev pub lint_of : Frame → Lists → ℕ → ℕ → Lint
-lint_of F certificate reached references = record {
-  certificate = certificate;
-  height = slice_index certificate.heights F.top.0;
-  reached = reached;
-  references = references;
-}
-
 -- the linter's answer as a checked file with the verdict on it, or as status and verdict
 abbrev pub Accepts : Bor (List ℕ) → Result Lint LintRefusal → Result Accepted (Status × BplistVerdict) → Type 0
 Accepts file (Ok lint) (Ok accepted) =
@@ -55,11 +41,11 @@ Accepts file answer result = ⊥
 
 module _ (sorted : Bool) (handle : BplistHandle) (verdict : BplistVerdict) (status : ℕ) where
   -- the handle is open, and verdict and status are those of the accepted file; or memory was refused; or the file was
-  abbrev pub Keeps : Result Accepted (Status × BplistVerdict) → Type 0
-  Keeps (Ok accepted) = let checked = accepted.checked in
+  abbrev pub KeepsHandle : Result Accepted (Status × BplistVerdict) → Type 0
+  KeepsHandle (Ok accepted) = let checked = accepted.checked in
       ((status ≡ 0) × (verdict ≡ accepted.verdict) × IsOpened checked.source.octets checked.certificate sorted handle)
-      ⊎ ((status ≡ number_of statuses.Memory) × (verdict ≡ NO_VERDICT) × (handle.length ≡ 0))
-  Keeps (Err told) = (status ≡ number_of told.0) × (verdict ≡ told.1) × (handle.length ≡ 0)
+      ⊎ ((status ≡ status_number statuses.Memory) × (verdict ≡ NO_VERDICT) × (handle.length ≡ 0))
+  KeepsHandle (Err told) = (status ≡ status_number told.0) × (verdict ≡ told.1) × (handle.length ≡ 0)
 
 -- these bytes are a valid certificate of the file; its verdict has the height of the top and no counts
 abbrev pub IsPair : List ℕ → List ℕ → Lint → Type 0

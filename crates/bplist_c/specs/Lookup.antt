@@ -13,7 +13,7 @@ use Rattle.bplist_cursor.specs.Path.{IsPathOf, IsNoPath}
 use Rattle.bplist_c.specs.declared.lookup.BplistFound.{BplistFound}
 use Rattle.bplist_c.specs.declared.status.Status.{Status}
 use Rattle.bplist_c.specs.declared.status.Status.TheVariants as statuses
-use Rattle.bplist_c.specs.Statuses.{number_of}
+use Rattle.bplist_c.specs.Statuses.{status_number}
 
 -- the status for the reason why a step fails
 abbrev pub why_status : Why → Status
@@ -30,9 +30,9 @@ FindSays checked bytes (Err why) = ((¬ IsUtf8 bytes) × (why ≡ statuses.NotUt
 -- status and output for what was found; if nothing was found because of a status, the output is unchanged
 abbrev pub told_found : Result (Result Found ℕ) Status → BplistFound → ℕ × BplistFound
 told_found (Ok (Ok (At node))) old = (0, record { object = node.object.0; step = 0 })
-told_found (Ok (Ok (Missing step why))) old = (number_of (why_status why), record { object = 0; step = step })
-told_found (Ok (Err wrong)) old = (number_of statuses.PathText, record { object = 0; step = wrong })
-told_found (Err why) old = (number_of why, old)
+told_found (Ok (Ok (Missing step why))) old = (status_number (why_status why), record { object = 0; step = step })
+told_found (Ok (Err wrong)) old = (status_number statuses.PathText, record { object = 0; step = wrong })
+told_found (Err why) old = (status_number why, old)
 
 -- the object that one step leads to, or why there is none
 abbrev pub step_answer : Found → Result ℕ Status

@@ -19,7 +19,7 @@ pub use Rattle.bplist_cert.specs.CheckedFile.{IsChecked}
 pub use Rattle.bplist_cert.specs.Encoding.{octets_of}
 pub use Rattle.bplist_cert.specs.Lists.{IsCertificate}
 pub use Rattle.bplist_lint.specs.FileFault.{IsFileCircle, IsFileFault}
-pub use Rattle.bplist_lint.specs.Linted.{IsLinted}
+pub use Rattle.bplist_lint.specs.Linted.{IsLinted, lint_of}
 pub use Rattle.bplist_lint.specs.Refusals.{Lints, no_circle}
 pub use Rattle.bplist_lint.specs.Trail.{number}
 pub use Rattle.bplist_lint.specs.declared.answer.Lint.{Lint}
@@ -29,13 +29,13 @@ pub use Rattle.bplist_cursor.specs.Found.{AreMeasuresOf, IsFound}
 pub use Rattle.bplist_cursor.specs.Members.{member_reference}
 pub use Rattle.bplist_cursor.specs.Nodes.{cap, nodes}
 pub use Rattle.bplist_cursor.specs.declared.node.Found.{Found}
-pub use Rattle.bplist_c.specs.Lifecycle.{Accepts, CertificateSays, IsAcceptedFor, IsCheckedFor, IsOpened, IsPair, Keeps, lint_of}
+pub use Rattle.bplist_c.specs.Lifecycle.{Accepts, CertificateSays, IsCheckedFor, IsOpened, IsPair, KeepsHandle}
 pub use Rattle.bplist_c.specs.Lookup.{FindSays, step_answer, told_found, why_status}
 pub use Rattle.bplist_c.specs.Members.{AreSpelled, MembersSay}
 pub use Rattle.bplist_c.specs.Objects.{AreFaces, FacesSay, IsFace, OnObject, body_of, bytes_of_body, int_answer, kind_number, uid_answer, units_answer}
 pub use Rattle.bplist_c.specs.Sessions.{IsFileOf, IsRefused, IsSame, IsSessionOf, OnHandle, checked_of}
 pub use Rattle.bplist_c.specs.Sizes.{sizes_by}
-pub use Rattle.bplist_c.specs.Statuses.{Puts, Tells, items_of, number_of, sentence_of}
+pub use Rattle.bplist_c.specs.Statuses.{PutsItems, Tells, items_of, sentence_of, status_number}
 pub use Rattle.bplist_c.specs.Texts.{IsTextOf, TellsText, printed_as, text_length}
 pub use Rattle.bplist_c.specs.Verdicts.{ShowsLint, circle_answer, refused_told}
 pub use Rattle.bplist_c.specs.declared.object.BplistBody.{BplistBody}

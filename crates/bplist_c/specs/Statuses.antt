@@ -8,8 +8,8 @@ use Rattle.bplist_c.specs.declared.status.Status.TheVariants as statuses
 use Rattle.bplist_c.specs.contracts.status.Status.{the_type}
 
 -- the number of a status in the header: its position among the statuses, from 1
-abbrev pub number_of : Status → ℕ
-number_of status = suc (tag_of the_type status)
+abbrev pub status_number : Status → ℕ
+status_number status = suc (tag_of the_type status)
 
 -- the sentences of the statuses from 1 on, in the order of their numbers
 abbrev pub sentences : List String
@@ -38,13 +38,13 @@ sentence_of status = codes (get_or sentences (tag_of the_type status) "")
 
 -- status 0 and the answer, or why there is none with an unchanged output
 abbrev pub Tells : {X : Type 0} → Result X Status → X → X → ℕ → Type 0
-Tells answer old new status = MatchResult answer (λ x. (status ≡ 0) × (new ≡ x)) (λ why. (status ≡ number_of why) × (new ≡ old))
+Tells answer old new status = MatchResult answer (λ x. (status ≡ 0) × (new ≡ x)) (λ why. (status ≡ status_number why) × (new ≡ old))
 
 -- the items are counted, and written to the front of the buffer if they fit; or why there are none, with all unchanged
-abbrev pub Puts : {X : Type 0} → Result (List X) Status → List X → List X → ℕ → ℕ → ℕ → Type 0
-Puts (Ok items) old new was count status = (count ≡ length items)
+abbrev pub PutsItems : {X : Type 0} → Result (List X) Status → List X → List X → ℕ → ℕ → ℕ → Type 0
+PutsItems (Ok items) old new was count status = (count ≡ length items)
     × Tells (if nat_le (length items) (length old) then Ok (items ++ drop (length items) old) else Err statuses.Short) old new status
-Puts (Err why) old new was count status = (status ≡ number_of why) × (new ≡ old) × (count ≡ was)
+PutsItems (Err why) old new was count status = (status ≡ status_number why) × (new ≡ old) × (count ≡ was)
 
 -- the result as a list of items
 abbrev pub items_of : {X : Type 0} → Result (Vec X Global) Status → Result (List X) Status

@@ -17,7 +17,7 @@ use Rattle.bplist_c.specs.declared.status.Status.TheVariants.{Memory, NoText, Sh
 use Rattle.bplist_c.specs.declared.text.BplistWritten.{BplistWritten}
 use Rattle.bplist_c.specs.declared.text.Text.{Text}
 use Rattle.bplist_c.specs.declared.text.Text.TheVariants.{Fits, TooLong, Formless}
-use Rattle.bplist_c.specs.Statuses.{Puts, number_of}
+use Rattle.bplist_c.specs.Statuses.{PutsItems, status_number}
 
 -- the length of the text of a form, 0 if there is none
 abbrev pub length_in : Option Form → ℕ
@@ -46,7 +46,7 @@ IsTextOf f F n v room (Err why) = why ≡ Memory
 module _ (old new : List ℕ) (was out : BplistWritten) (status : ℕ) where
   -- buffer, output and status give the answer
   abbrev pub TellsText : Result Text Status → Type 0
-  TellsText (Ok (Fits text)) = Puts (Ok text.items) old new was.length out.length status × (out.object ≡ 0)
-  TellsText (Ok (TooLong n)) = (status ≡ number_of Short) × (new ≡ old) × (out ≡ record { length = n; object = 0 })
-  TellsText (Ok (Formless part)) = (status ≡ number_of NoText) × (new ≡ old) × (out ≡ record { length = 0; object = part.0 })
-  TellsText (Err why) = (status ≡ number_of why) × (new ≡ old) × (out ≡ was)
+  TellsText (Ok (Fits text)) = PutsItems (Ok text.items) old new was.length out.length status × (out.object ≡ 0)
+  TellsText (Ok (TooLong n)) = (status ≡ status_number Short) × (new ≡ old) × (out ≡ record { length = n; object = 0 })
+  TellsText (Ok (Formless part)) = (status ≡ status_number NoText) × (new ≡ old) × (out ≡ record { length = 0; object = part.0 })
+  TellsText (Err why) = (status ≡ status_number why) × (new ≡ old) × (out ≡ was)

@@ -15,7 +15,7 @@ use Rattle.bplist_c.specs.declared.verdict.TheConstants.{NO_VERDICT}
 use Rattle.bplist_c.specs.Objects.{kind_number}
 use Rattle.bplist_objects.specs.Words.{number_of as number_of_rule}
 use Rattle.bplist_lint.specs.Trail.{number}
-use Rattle.bplist_c.specs.Statuses.{number_of}
+use Rattle.bplist_c.specs.Statuses.{status_number}
 
 -- status and verdict of a refused file: its first fault, or its circle by first object and length, or refused memory
 abbrev pub refused_told : LintRefusal → Status × BplistVerdict
@@ -31,7 +31,8 @@ abbrev pub ShowsLint : List ℕ → Result Lint LintRefusal → BplistVerdict �
 ShowsLint f (Ok lint) verdict status = (status ≡ 0) × ((F : Frame) → IsFrame f F → (head : Head) → IsHeadOf f F F.top.0 head
     → let framed = record NO_VERDICT { objects = F.objects; top = F.top.0; top_kind = kind_number head.kind } in
     verdict ≡ record framed { height = lint.height; reached = lint.reached; references = lint.references })
-ShowsLint f (Err why) verdict status = let told = refused_told why in (status ≡ number_of told.0) × (verdict ≡ told.1)
+ShowsLint f (Err why) verdict status =
+    let told = refused_told why in (status ≡ status_number told.0) × (verdict ≡ told.1)
 
 -- the objects of the linter's circle, or why there are none
 abbrev pub circle_answer : Result Lint LintRefusal → Result (List ℕ) Status

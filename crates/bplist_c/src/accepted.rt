@@ -1,19 +1,19 @@
 //! Files that are accepted, and the verdicts on them.
 //!
-//! The linter has read the file before this module reads it again. If somebody writes to the file in between, it may not
-//! have the frame any more that the linter found. Such a file is refused as another file.
+//! The verdict names the kind of the top, so the top's marker is read again after the linter or the check. If somebody
+//! writes to the file in between, the top may be no object any more. Such a file is refused as another file.
 
-ghost use Rattle.std.specs.Prelude.{◌≡◌, MatchOption, MatchResult, Ok};
-ghost use Rattle.bplist_c.specs.Prelude.{Accepts, IsAcceptedFor, IsCheckedFor, IsFileCircle, IsFileFault, IsLinted};
-ghost use Rattle.bplist_c.specs.Prelude.{Lints, ShowsLint, lint_of};
+ghost use Rattle.std.specs.Prelude.{◌≡◌, MatchResult, Ok, Result};
+ghost use Rattle.bplist_c.specs.Prelude.{Accepts, IsFileCircle, IsFileFault, IsLinted, Lint as lint_answer};
+ghost use Rattle.bplist_c.specs.Prelude.{LintRefusal as lint_refusal, Lints, ShowsLint, lint_of};
 
 use crate::object::{head_of_object, number_of};
 use crate::status::Status;
 use crate::verdict::{BplistVerdict, NO_VERDICT, Top, refused};
-use bplist_cert::{Certificate, Checked};
-use bplist_lint::{Lint, LintRefusal};
-use bplist_objects::trailer_of;
+use bplist_cert::Checked;
+use bplist_lint::{Counts, lint_checked};
 use bplist_octets::SliceSource;
+use std::alloc::Global;
 
 /// A file with a certificate that vouches for it, and the verdict on it.
 #[derive(Drop)]
@@ -22,32 +22,14 @@ pub(crate) struct Accepted<'a> {
     pub(crate) verdict: BplistVerdict,
 }
 
-/// Makes the checked file of these bytes and a certificate that is valid for them. Returns `None` if the file has
-/// changed since.
-fn vouched(file: &[u8], certificate: Certificate) -> Option<Checked<SliceSource<'_>>>
-    requires { IsAcceptedFor file.now certificate }
-    ensures { MatchOption result ⊥ (IsCheckedFor file.entry certificate) }
-{
-    let mut source = SliceSource::new(file);
-    // A file with a valid certificate has a frame, and the trailer alone gives it.
-    let Ok(frame) = trailer_of(&mut source) else {
-        return None;
-    };
-    if frame.objects as usize != certificate.heights.len() {
-        return None;
-    }
-    Some(Checked::new(source, frame, certificate))
-}
-
-/// Adds the verdict to a checked file, with these figures. Returns the status and the verdict of another file if the
+/// Adds the verdict to a checked file, with these counts. Returns the status and the verdict of another file if the
 /// file has changed since the check.
 pub(crate) fn with_verdict(
     checked: Checked<SliceSource<'_>>,
-    reached: u64,
-    references: u64,
+    counts: Counts,
 ) -> Result<Accepted<'_>, (Status, BplistVerdict)>
     ensures { MatchResult result (λ accepted. (accepted.checked ≡ checked.entry) × ShowsLint checked.entry.source.octets
-        (Ok (lint_of checked.entry.frame checked.entry.certificate reached references)) accepted.verdict 0) (λ _. ⊥) }
+        (Ok (lint_of checked.entry.frame checked.entry.certificate counts)) accepted.verdict 0) (λ _. ⊥) }
 {
     let _octets = checked.octets();
     let frame = checked.frame();
@@ -60,23 +42,21 @@ pub(crate) fn with_verdict(
         kind: number_of(head.kind),
         height: checked.height(frame.top),
     };
-    let verdict = BplistVerdict::of_top(top, reached, references);
+    let verdict = BplistVerdict::of_top(top, counts.reached, counts.references);
     Ok(Accepted { checked, verdict })
 }
 
-/// Returns the file that the linter has accepted, or the status and the verdict of one that it refuses.
+/// Lints a file. Returns it if it holds a value, or the status and the verdict of one that is refused.
 pub(crate) fn accept<'a>(
+    alloc: Global,
     file: &'a [u8],
-    answer: Result<Lint, LintRefusal>,
 ) -> Result<Accepted<'a>, (Status, BplistVerdict)>
-    requires { Lints (IsLinted file.now) (IsFileFault file.now) (IsFileCircle file.now) answer }
-    ensures { Accepts file.entry answer result }
+    ensures { (answer : Result lint_answer lint_refusal)
+        × Lints (IsLinted file.now) (IsFileFault file.now) (IsFileCircle file.now) answer
+        × Accepts file.entry answer result }
 {
-    match answer {
-        Ok(lint) => match vouched(file, lint.certificate) {
-            Some(checked) => with_verdict(checked, lint.reached, lint.references),
-            None => Err((Status::OtherFile, NO_VERDICT)),
-        },
-        Err(refusal) => Err(refused(&refusal)),
+    match lint_checked(alloc, SliceSource::new(file)) {
+        Ok((checked, counts)) => with_verdict(checked, counts),
+        Err((refusal, _)) => Err(refused(&refusal)),
     }
 }

@@ -2,7 +2,7 @@
 
 ghost use Rattle.std.specs.Prelude.{◌≡◌, List, Result, length};
 ghost use Rattle.bplist_c.specs.Prelude.{BplistBody as body, Status as status, AreFaces, FacesSay, IsFace, IsFileOf};
-ghost use Rattle.bplist_c.specs.Prelude.{IsSame, OnHandle, Puts};
+ghost use Rattle.bplist_c.specs.Prelude.{IsSame, OnHandle, PutsItems};
 
 use crate::handle::BplistHandle;
 use crate::loan::{give_back, lend};
@@ -44,7 +44,7 @@ fn put_faces(
     buffer: &mut [BplistBody],
     count: &mut u64,
 )
-    ensures { (answer : Result (List body) status) × Puts answer buffer.old buffer.new count.old count.new 0
+    ensures { (answer : Result (List body) status) × PutsItems answer buffer.old buffer.new count.old count.new 0
         × FacesSay objects.now (length buffer.old) checked.now answer }
 {
     let now = objects.len().min(buffer.len());
@@ -64,7 +64,8 @@ pub extern "C" fn bplist_faces(
 ) -> u32
     requires same { IsFileOf file.now handle.old }
     ensures kept { IsSame handle.old handle.new }
-    ensures exact { (answer : Result (List body) status) × Puts answer bodies.old bodies.new count.old count.new result
+    ensures exact { (answer : Result (List body) status)
+        × PutsItems answer bodies.old bodies.new count.old count.new result
         × OnHandle file.entry handle.old (FacesSay objects.now (length bodies.old)) answer }
 {
     match lend(alloc, handle, file) {

@@ -4,7 +4,7 @@ ghost use Rattle.std.specs.Prelude.{◌≡◌, ◌⊎◌, [], Err, IfOk, IfSome,
 ghost use Rattle.std.specs.Option.{option_map_or};
 ghost use Rattle.bplist_hints.specs.Hints.{FitsLength, hint_words};
 ghost use Rattle.bplist_hints.specs.declared.hint.Hint.{Hint as hint_type};
-ghost use Rattle.bplist_c.specs.Prelude.{Memory, Puts};
+ghost use Rattle.bplist_c.specs.Prelude.{Memory, PutsItems};
 
 use crate::status::{Status, put_all};
 use bplist_hints::{Hint, hint_of};
@@ -38,8 +38,8 @@ pub extern "C" fn bplist_looks_like(
     count: &mut u64,
 ) -> u32
     ensures { (found : Option hint_type) × IfSome found (FitsLength (length file.now))
-        × (Puts (Ok (option_map_or hint_words found [])) words.old words.new count.old count.new result
-        ⊎ Puts (Err Memory) words.old words.new count.old count.new result) }
+        × (PutsItems (Ok (option_map_or hint_words found [])) words.old words.new count.old count.new result
+        ⊎ PutsItems (Err Memory) words.old words.new count.old count.new result) }
 {
     match words_of(alloc, hint_for(file)) {
         Ok(text) => put_all(text.as_bytes(), words, count),

@@ -4,18 +4,18 @@ ghost use Rattle.std.specs.Prelude.{◌≡◌, ◌≢◌, ◌⊎◌, ⊤, ℕ, L
 ghost use Rattle.bplist_c.specs.Prelude.{source_over, IsVouchingFault, IsChecked, octets_of as certificate_octets};
 ghost use Rattle.bplist_c.specs.Prelude.{IsCertificate, Lint as lint_answer, LintRefusal as lint_refusal};
 ghost use Rattle.bplist_c.specs.Prelude.{IsFileFault, IsFileCircle, IsLinted, Lints, no_circle, Status as status};
-ghost use Rattle.bplist_c.specs.Prelude.{Closed, Opened, CertificateSays, IsCheckedFor, IsOpened, IsPair, IsSame, Puts};
-ghost use Rattle.bplist_c.specs.Prelude.{items_of, number_of as number, NO_VERDICT, ShowsLint, Accepts, Keeps};
+ghost use Rattle.bplist_c.specs.Prelude.{Closed, Opened, CertificateSays, IsCheckedFor, IsOpened, IsPair, IsSame};
+ghost use Rattle.bplist_c.specs.Prelude.{PutsItems, items_of, status_number as number, NO_VERDICT, ShowsLint};
+ghost use Rattle.bplist_c.specs.Prelude.{Accepts, KeepsHandle};
 ghost use Rattle.bplist_cert.specs.declared.certificate.CertRefusal.TheVariants as refusals;
 
 use crate::accepted::{Accepted, accept, with_verdict};
 use crate::handle::BplistHandle;
-use crate::linter::lint_file;
 use crate::session::Session;
 use crate::status::{Status, put_answer};
 use crate::verdict::{BplistVerdict, NO_VERDICT};
 use bplist_cert::{CertRefusal, Certificate, Checked, Refusal, check};
-use bplist_lint::upgrade;
+use bplist_lint::{Counts, upgrade};
 use bplist_octets::SliceSource;
 use std::alloc::Global;
 use std::mem;
@@ -73,7 +73,7 @@ fn keep(
     out: &mut BplistVerdict,
 ) -> u32
     requires { handle.old.length ≡ 0 }
-    ensures { Keeps sorted handle.new out.new result answer.entry }
+    ensures { KeepsHandle sorted handle.new out.new result answer.entry }
 {
     let (status, verdict) = match answer {
         Ok(Accepted { checked, verdict }) => match sorted_handle(alloc, checked, sorted) {
@@ -108,7 +108,7 @@ pub extern "C" fn bplist_open(
         *out = NO_VERDICT;
         return Status::Opened.number();
     }
-    let accepted = accept(file, lint_file(alloc, file));
+    let accepted = accept(alloc, file);
     keep(alloc, handle, accepted, sorted, out)
 }
 
@@ -144,7 +144,13 @@ fn accept_pair<'a>(
         × Accepts file.entry answer result }
 {
     match check_pair(alloc, file, certificate) {
-        Ok(checked) => with_verdict(checked, 0, 0),
+        Ok(checked) => {
+            let uncounted = Counts {
+                reached: 0,
+                references: 0,
+            };
+            with_verdict(checked, uncounted)
+        }
         Err(CertRefusal::Fault(fault)) => Err((Status::Fault, BplistVerdict::of_fault(fault))),
         Err(CertRefusal::Memory) => Err((Status::Memory, NO_VERDICT)),
     }
@@ -216,7 +222,7 @@ pub extern "C" fn bplist_certificate(
 ) -> u32
     ensures kept { IsSame handle.old handle.new }
     ensures exact { (octets : Result (List ℕ) status) × CertificateSays handle.old octets
-        × Puts octets buffer.old buffer.new count.old count.new result }
+        × PutsItems octets buffer.old buffer.new count.old count.new result }
 {
     let octets = octets_in(alloc, handle);
     put_answer(&octets, buffer, count)

@@ -2,7 +2,8 @@
 
 ghost use Rattle.std.specs.Prelude.{◌≡◌, ◌⊎◌, Err, MatchResult, Result, map};
 ghost use Rattle.bplist_c.specs.Prelude.{Lint as lint_answer, LintRefusal as lint_refusal, IsFileFault, IsFileCircle};
-ghost use Rattle.bplist_c.specs.Prelude.{IsLinted, Lints, number, Memory, Puts, items_of, circle_answer, ShowsLint};
+ghost use Rattle.bplist_c.specs.Prelude.{IsLinted, Lints, number, Memory, PutsItems, items_of, circle_answer};
+ghost use Rattle.bplist_c.specs.Prelude.{ShowsLint};
 
 use crate::accepted::accept;
 use crate::status::{Status, put_answer};
@@ -26,7 +27,7 @@ pub extern "C" fn bplist_lint(alloc: Global, file: &[u8], out: &mut BplistVerdic
         × Lints (IsLinted file.now) (IsFileFault file.now) (IsFileCircle file.now) answer
         × ShowsLint file.now answer out.new result }
 {
-    let (status, verdict) = match accept(file, lint_file(alloc, file)) {
+    let (status, verdict) = match accept(alloc, file) {
         Ok(accepted) => (0, accepted.verdict),
         Err((status, verdict)) => (status.number(), verdict),
     };
@@ -68,7 +69,7 @@ pub extern "C" fn bplist_circle(
 ) -> u32
     ensures { (linted : Result lint_answer lint_refusal)
         × Lints (IsLinted file.now) (IsFileFault file.now) (IsFileCircle file.now) linted
-        × Puts (circle_answer linted) objects.old objects.new count.old count.new result }
+        × PutsItems (circle_answer linted) objects.old objects.new count.old count.new result }
 {
     let linted = lint_file(alloc, file);
     let circle = circle_of(alloc, linted);

@@ -4,7 +4,7 @@ ghost use Rattle.std.specs.Prelude.{◌≡◌, ◌≢◌, ◌+◌, ◌*◌, ◌%
 ghost use Rattle.std.specs.Prelude.{slice_index};
 ghost use Rattle.bplist_c.specs.Prelude.{Spells, IsSafeHead, member_reference, nth_number, ref_count, Dict, AreSpelled};
 ghost use Rattle.bplist_c.specs.Prelude.{MembersSay, Status as status, NoMember, OnObject, IsFileOf, IsSame, OnHandle};
-ghost use Rattle.bplist_c.specs.Prelude.{Puts, Tells};
+ghost use Rattle.bplist_c.specs.Prelude.{PutsItems, Tells};
 
 use crate::handle::BplistHandle;
 use crate::loan::{give_back, lend};
@@ -147,7 +147,7 @@ fn put_members(
     buffer: &mut [u32],
     count: &mut u64,
 ) -> u32
-    ensures { (answer : Result (List ℕ) status) × Puts answer buffer.old buffer.new count.old count.new result
+    ensures { (answer : Result (List ℕ) status) × PutsItems answer buffer.old buffer.new count.old count.new result
         × OnObject checked.now object Spells (MembersSay from (length buffer.old)) answer }
 {
     let head = match head_of_object(checked, object) {
@@ -204,7 +204,8 @@ pub extern "C" fn bplist_members(
 ) -> u32
     requires same { IsFileOf file.now handle.old }
     ensures kept { IsSame handle.old handle.new }
-    ensures exact { (answer : Result (List ℕ) status) × Puts answer objects.old objects.new count.old count.new result
+    ensures exact { (answer : Result (List ℕ) status)
+        × PutsItems answer objects.old objects.new count.old count.new result
         × OnHandle file.entry handle.old (λ checked. OnObject checked object Spells
         (MembersSay from (length objects.old))) answer }
 {

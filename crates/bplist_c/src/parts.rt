@@ -2,7 +2,7 @@
 
 ghost use Rattle.std.specs.Prelude.{◌≡◌, ◌+◌, ◌≤◌, ℕ, List, Ok, Result, length};
 ghost use Rattle.bplist_c.specs.Prelude.{part, IsTextKind, units_of, IsHeadOf, Spells, IsSafeBody, Status as status};
-ghost use Rattle.bplist_c.specs.Prelude.{OnObject, bytes_of_body, units_answer, IsFileOf, IsSame, OnHandle, Puts};
+ghost use Rattle.bplist_c.specs.Prelude.{OnObject, bytes_of_body, units_answer, IsFileOf, IsSame, OnHandle, PutsItems};
 
 use crate::handle::BplistHandle;
 use crate::loan::{give_back, lend};
@@ -22,7 +22,7 @@ fn put_bytes(
     buffer: &mut [u8],
     count: &mut u64,
 ) -> u32
-    ensures { (answer : Result (List ℕ) status) × Puts answer buffer.old buffer.new count.old count.new result
+    ensures { (answer : Result (List ℕ) status) × PutsItems answer buffer.old buffer.new count.old count.new result
         × OnObject checked.now object IsHeadOf (λ head answer. answer
         ≡ Ok (part (bytes_of_body checked.now.source.octets head) from (length buffer.old))) answer }
 {
@@ -59,7 +59,7 @@ fn put_units(
     buffer: &mut [u16],
     count: &mut u64,
 ) -> u32
-    ensures { (answer : Result (List ℕ) status) × Puts answer buffer.old buffer.new count.old count.new result
+    ensures { (answer : Result (List ℕ) status) × PutsItems answer buffer.old buffer.new count.old count.new result
         × OnObject checked.now object Spells (λ content answer. answer ≡ units_answer from (length buffer.old) content) answer }
 {
     let file = checked.octets();
@@ -92,7 +92,7 @@ pub extern "C" fn bplist_read(
 ) -> u32
     requires same { IsFileOf file.now handle.old }
     ensures kept { IsSame handle.old handle.new }
-    ensures exact { (answer : Result (List ℕ) status) × Puts answer bytes.old bytes.new count.old count.new result
+    ensures exact { (answer : Result (List ℕ) status) × PutsItems answer bytes.old bytes.new count.old count.new result
         × OnHandle file.entry handle.old (λ checked. OnObject checked object IsHeadOf (λ head answer. answer
         ≡ Ok (part (bytes_of_body checked.source.octets head) from (length bytes.old)))) answer }
 {
@@ -119,7 +119,7 @@ pub extern "C" fn bplist_units(
 ) -> u32
     requires same { IsFileOf file.now handle.old }
     ensures kept { IsSame handle.old handle.new }
-    ensures exact { (answer : Result (List ℕ) status) × Puts answer units.old units.new count.old count.new result
+    ensures exact { (answer : Result (List ℕ) status) × PutsItems answer units.old units.new count.old count.new result
         × OnHandle file.entry handle.old (λ checked. OnObject checked object Spells
         (λ content answer. answer ≡ units_answer from (length units.old) content)) answer }
 {

@@ -5,7 +5,7 @@
 
 ghost use Rattle.std.specs.Prelude.{◌≡◌, ◌<◌, ◌⊎◌, MatchOption, Ok, ◌≢◌, ◌+◌, ◌*◌, ◌^◌, Option, codes, ok_or};
 ghost use Rattle.std.specs.Prelude.{option_map};
-ghost use Rattle.bplist_c.specs.Prelude.{number_of, Puts, Tells, items_of, sentence_of, NoRule, NoStatus};
+ghost use Rattle.bplist_c.specs.Prelude.{status_number, PutsItems, Tells, items_of, sentence_of, NoRule, NoStatus};
 ghost use Rattle.bplist_c.specs.Prelude.{Rule as rule_type, Status as status_type, number_of_rule, text_of, word_of};
 
 use bplist_objects::{rule_name, rule_of_number, texts_of};
@@ -59,14 +59,14 @@ pub(crate) enum Status {
 impl Status {
     /// Returns the number of the status in the header.
     pub(crate) fn number(self) -> u32
-        ensures { result ≡ number_of self }
+        ensures { result ≡ status_number self }
     {
         self as u32 + 1
     }
 
     /// Returns the status with this number, if there is one.
     pub(crate) fn of_number(number: u32) -> Option<Status>
-        ensures { MatchOption result ((number ≡ 0) ⊎ (17 < number)) (λ status. number_of status ≡ number) }
+        ensures { MatchOption result ((number ≡ 0) ⊎ (17 < number)) (λ status. status_number status ≡ number) }
     {
         match number {
             1 => Some(Status::Fault),
@@ -131,7 +131,7 @@ pub(crate) fn tell<T: Drop>(answer: Result<T, Status>, out: &mut T) -> u32
 
 /// Writes all items to the front of a buffer if they fit. Writes their number to `count` in any case.
 pub(crate) fn put_all<T: Copy>(items: &[T], buffer: &mut [T], count: &mut u64) -> u32
-    ensures { Puts (Ok items.now) buffer.old buffer.new count.old count.new result }
+    ensures { PutsItems (Ok items.now) buffer.old buffer.new count.old count.new result }
 {
     *count = items.len() as u64;
     if items.len() > buffer.len() {
@@ -147,7 +147,7 @@ pub(crate) fn put_answer<T: Copy>(
     buffer: &mut [T],
     count: &mut u64,
 ) -> u32
-    ensures { Puts (items_of answer.now) buffer.old buffer.new count.old count.new result }
+    ensures { PutsItems (items_of answer.now) buffer.old buffer.new count.old count.new result }
 {
     match answer {
         Ok(items) => put_all(items, buffer, count),
@@ -167,7 +167,7 @@ pub extern "C" fn bplist_version() -> u32
 #[unsafe(no_mangle)]
 pub extern "C" fn bplist_rule_name(rule: u32, name: &mut [u8], count: &mut u64) -> u32
     ensures { (found : Option rule_type) × MatchOption found ((rule ≡ 0) ⊎ (32 < rule)) (λ r. number_of_rule r ≡ rule)
-        × Puts (ok_or (option_map word_of found) NoRule) name.old name.new count.old count.new result }
+        × PutsItems (ok_or (option_map word_of found) NoRule) name.old name.new count.old count.new result }
 {
     match rule_of_number(rule) {
         Some(rule) => put_all(rule_name(rule).as_bytes(), name, count),
@@ -179,7 +179,8 @@ pub extern "C" fn bplist_rule_name(rule: u32, name: &mut [u8], count: &mut u64) 
 #[unsafe(no_mangle)]
 pub extern "C" fn bplist_rule_text(rule: u32, text: &mut [u8], count: &mut u64) -> u32
     ensures { (found : Option rule_type) × MatchOption found ((rule ≡ 0) ⊎ (32 < rule)) (λ r. number_of_rule r ≡ rule)
-        × Puts (ok_or (option_map (λ r. (text_of r).0) found) NoRule) text.old text.new count.old count.new result }
+        × PutsItems (ok_or (option_map (λ r. (text_of r).0) found) NoRule)
+        text.old text.new count.old count.new result }
 {
     match rule_of_number(rule) {
         Some(rule) => {
@@ -194,10 +195,10 @@ pub extern "C" fn bplist_rule_text(rule: u32, text: &mut [u8], count: &mut u64) 
 #[unsafe(no_mangle)]
 pub extern "C" fn bplist_status_text(status: u32, text: &mut [u8], count: &mut u64) -> u32
     ensures answered { status ≡ 0
-        → Puts (Ok (codes "The answer is in the outputs.")) text.old text.new count.old count.new result }
+        → PutsItems (Ok (codes "The answer is in the outputs.")) text.old text.new count.old count.new result }
     ensures other { status ≢ 0 → (found : Option status_type)
-        × MatchOption found ((status ≡ 0) ⊎ (17 < status)) (λ s. number_of s ≡ status)
-        × Puts (ok_or (option_map sentence_of found) NoStatus) text.old text.new count.old count.new result }
+        × MatchOption found ((status ≡ 0) ⊎ (17 < status)) (λ s. status_number s ≡ status)
+        × PutsItems (ok_or (option_map sentence_of found) NoStatus) text.old text.new count.old count.new result }
 {
     if status == 0 {
         return put_all("The answer is in the outputs.".as_bytes(), text, count);

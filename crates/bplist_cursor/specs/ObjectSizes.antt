@@ -1,9 +1,10 @@
 -- The pass over the objects of a checked file that finds their sizes. Source: profile.
-use Rattle.std.specs.Prelude.{◌≡◌, ℕ, ◌+◌, ◌*◌, ◌<◌, List, length, slice_index, max, None, Contains}
+use Rattle.std.specs.Prelude.{◌≡◌, ℕ, ◌+◌, ◌*◌, ◌<◌, ◌≤◌, List, length, slice_index, max, None, Contains}
 use Rattle.std.specs.List.Sorted.{IsNonDecreasingBy}
 use Rattle.bplist_objects.specs.declared.frame.Frame.{Frame}
 use Rattle.bplist_objects.specs.declared.head.Kind.{Kind}
 use Rattle.bplist_objects.specs.declared.head.Kind.TheVariants as kinds
+use Rattle.bplist_objects.specs.Holds.{AreDistinct}
 use Rattle.bplist_cert.specs.Valid.{IsVouchedBy}
 use Rattle.bplist_cursor.specs.Nodes.{cap}
 use Rattle.bplist_cursor.specs.declared.sizes.Form.{Form}
@@ -24,6 +25,11 @@ AreInside order objects = (j : ℕ) → j < length order → slice_index order j
 pub record AreHigher (heights : List ℕ) (height below : ℕ) (order : List ℕ) : Type 0 where
   pub all : (n : ℕ) → n < below → height < slice_index heights n → Contains order n
   pub only : (n : ℕ) → Contains order n → height < slice_index heights n
+
+-- no object stands there twice, and there are no more than this many
+pub record AreOnce (objects : ℕ) (order : List ℕ) : Type 0 where
+  pub differ : AreDistinct order
+  pub few : length order ≤ objects
 
 -- the table is empty
 abbrev pub IsEmpty : Table → Type 0

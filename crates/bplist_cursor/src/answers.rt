@@ -1,10 +1,10 @@
 //! Answers queries about the value of a checked file. For many queries the file is measured at most once.
 
-ghost use Rattle.std.specs.Prelude.{⊤, ◌≡◌, ◌<◌, ◌+◌, ◌≤◌, map, All, IsTrue, IfSome};
+ghost use Rattle.std.specs.Prelude.{⊤, ◌≡◌, ◌<◌, ◌+◌, ◌≤◌, map, All, IsTrue, IfSome, OnOk};
 ghost use Rattle.std.specs.List.{sum_by};
 ghost use Rattle.bplist_cursor.specs.Prelude.{HonestlyChecked, Value, Holds, GivesCursor, cursor_read, OnlyReadsFile};
 ghost use Rattle.bplist_cursor.specs.Prelude.{IsHeld, AreMeasuresOf, cap, nodes, reply, keys_reply, steps_in, reply_at};
-ghost use Rattle.bplist_cursor.specs.Prelude.{IsUnsized, keys_bytes, reply_bytes, told_bytes};
+ghost use Rattle.bplist_cursor.specs.Prelude.{IsUnsized, keys_bytes, pass_bytes, pass_left, reply_bytes, told_bytes};
 
 use crate::bodies::node_head;
 use crate::faults::CursorFault;
@@ -46,6 +46,7 @@ fn measures_of<S: Source>(
     measures: Option<Measures>,
 ) -> Result<Measures, CursorFault>
     ensures reads { OnlyReadsFile (cursor_read result) checked.old checked.new }
+    ensures asks { HonestlyChecked checked.old (λ f F. checked.new.asked ≤ checked.old.asked + pass_left F measures) }
     ensures exact { IsTrue checked.old.source.honest → IfSome measures (AreMeasuresOf checked.old)
         → GivesCursor (AreMeasuresOf checked.old) result }
 {
@@ -63,6 +64,7 @@ fn nodes_at<S: Source>(
     measures: Option<Measures>,
 ) -> Result<(u64, Measures), CursorFault>
     ensures reads { OnlyReadsFile (cursor_read result) checked.old checked.new }
+    ensures asks { HonestlyChecked checked.old (λ f F. checked.new.asked ≤ checked.old.asked + pass_left F measures) }
     ensures exact { IsTrue checked.old.source.honest → IfSome measures (AreMeasuresOf checked.old)
         → (v : Value) → IsHeld checked.old node.object.0 v
         → GivesCursor (λ told. (told.0 ≡ cap (nodes v)) × AreMeasuresOf checked.old told.1) result }
@@ -94,6 +96,10 @@ fn answer_at<S: Source>(
     ensures reads { OnlyReadsFile (cursor_read result) checked.old checked.new }
     ensures asks { IsTrue checked.old.source.honest → IsUnsized query.now → (v : Value) → IsHeld checked.old node.object.0 v
         → checked.new.asked ≤ checked.old.asked + told_bytes v query.now }
+    ensures asks_pass { HonestlyChecked checked.old (λ f F. (v : Value) → IsHeld checked.old node.object.0 v
+        → checked.new.asked ≤ checked.old.asked + (told_bytes v query.now + pass_left F measures.old)) }
+    ensures asks_left { OnOk result (HonestlyChecked checked.old (λ f F. (v : Value) → IsHeld checked.old node.object.0 v
+        → checked.new.asked + pass_left F measures.new ≤ checked.old.asked + (told_bytes v query.now + pass_left F measures.old))) }
     ensures exact { IsTrue checked.old.source.honest → IfSome measures.old (AreMeasuresOf checked.old)
         → (v : Value) → IsHeld checked.old node.object.0 v
         → GivesCursor (λ told. (told ≡ reply_at v query.now) × IfSome measures.new (AreMeasuresOf checked.old)) result }
@@ -119,6 +125,11 @@ fn answer_by<S: Source>(
     ensures reads { OnlyReadsFile (cursor_read result) checked.old checked.new }
     ensures asks { HonestlyChecked checked.old (λ f F. IsUnsized query.now → (v : Value) → Holds f F F.top.0 v
         → checked.new.asked ≤ checked.old.asked + reply_bytes checked.old.certificate.keys v query.now) }
+    ensures asks_pass { HonestlyChecked checked.old (λ f F. (v : Value) → Holds f F F.top.0 v
+        → checked.new.asked ≤ checked.old.asked + (reply_bytes checked.old.certificate.keys v query.now + pass_left F measures.old)) }
+    ensures asks_left { OnOk result (HonestlyChecked checked.old (λ f F. (v : Value) → Holds f F F.top.0 v
+        → checked.new.asked + pass_left F measures.new
+        ≤ checked.old.asked + (reply_bytes checked.old.certificate.keys v query.now + pass_left F measures.old))) }
     ensures exact { HonestlyChecked checked.old (λ f F. IfSome measures.old (AreMeasuresOf checked.old) → (v : Value)
         → Holds f F F.top.0 v → GivesCursor (λ told. (told ≡ reply v query.now)
         × IfSome measures.new (AreMeasuresOf checked.old)) result) }
@@ -141,6 +152,8 @@ pub fn answer<S: Source>(
     ensures reads { OnlyReadsFile (cursor_read result) checked.old checked.new }
     ensures asks { HonestlyChecked checked.old (λ f F. IsUnsized query.now → (v : Value) → Holds f F F.top.0 v
         → checked.new.asked ≤ checked.old.asked + reply_bytes checked.old.certificate.keys v query.now) }
+    ensures asks_pass { HonestlyChecked checked.old (λ f F. (v : Value) → Holds f F F.top.0 v
+        → checked.new.asked ≤ checked.old.asked + (reply_bytes checked.old.certificate.keys v query.now + pass_bytes F)) }
     ensures exact { HonestlyChecked checked.old (λ f F. (v : Value) → Holds f F F.top.0 v
         → GivesCursor (λ told. told ≡ reply v query.now) result) }
     ensures unchanged { IsTrue checked.old.source.honest → GivesCursor (λ _. ⊤) result }
@@ -162,6 +175,8 @@ pub fn answer_all<S: Source>(
     ensures reads { OnlyReadsFile (cursor_read result) checked.old checked.new }
     ensures asks { HonestlyChecked checked.old (λ f F. All IsUnsized queries.now → (v : Value) → Holds f F F.top.0 v
         → checked.new.asked ≤ checked.old.asked + sum_by (reply_bytes checked.old.certificate.keys v) queries.now) }
+    ensures asks_pass { HonestlyChecked checked.old (λ f F. (v : Value) → Holds f F F.top.0 v
+        → checked.new.asked ≤ checked.old.asked + (sum_by (reply_bytes checked.old.certificate.keys v) queries.now + pass_bytes F)) }
     ensures exact { HonestlyChecked checked.old (λ f F. (v : Value) → Holds f F F.top.0 v
         → GivesCursor (λ replies. replies.items ≡ map (reply v) queries.now) result) }
     ensures unchanged { IsTrue checked.old.source.honest → GivesCursor (λ _. ⊤) result }

@@ -3,12 +3,13 @@
 //! The objects are counted in the order of their heights, in which each comes after those to which it refers. `sizes`
 //! uses the same order.
 
-ghost use Rattle.std.specs.Prelude.{◌≡◌, ℕ, ◌+◌, ◌<◌, List, length, slice_index, sum_by, Err, IfOk, IfErr};
+ghost use Rattle.std.specs.Prelude.{◌≡◌, ℕ, ◌+◌, ◌*◌, ◌<◌, ◌≤◌, List, length, slice_index, sum_by, Err, IfOk, IfErr};
 ghost use Rattle.std.specs.List.{AllByRecursion};
 ghost use Rattle.bplist_cursor.specs.Prelude.{HonestlyChecked, Value, Content, Spells, refs, content_at, Holds};
 ghost use Rattle.bplist_cursor.specs.Prelude.{IsSafeHead, IsValid, IsVouchedBy, GivesRead, read_failed, GivesCursor};
 ghost use Rattle.bplist_cursor.specs.Prelude.{cursor_read, OnlyReadsFile, cap, nodes, AreInside, IsOrder, IsCounted};
-ghost use Rattle.bplist_cursor.specs.Prelude.{AreCounted, AreHigher, Memory};
+ghost use Rattle.bplist_cursor.specs.Prelude.{AreCounted, AreHigher, AreOnce, Memory, TakeOctets, Takes, pass_bytes};
+ghost use Rattle.bplist_cursor.specs.Prelude.{ref_count};
 ghost use Rattle.bplist_cursor.specs.declared.faults.CursorFault.TheVariants.{Changed};
 
 use crate::faults::{CursorFault, Unread};
@@ -24,6 +25,7 @@ fn higher_than<S: Source>(
     checked: &Checked<S>,
     height: u32,
 ) -> Result<Vec<u32>, CursorFault>
+    ensures once { IfOk result (λ order. AreOnce checked.now.frame.objects order.items) }
     ensures higher { IfOk result (λ order. AreHigher checked.now.certificate.heights height checked.now.frame.objects order.items) }
     ensures memory { IfErr result (λ e. e ≡ Memory) }
 {
@@ -45,6 +47,7 @@ pub(crate) fn in_order<S: Source>(
     checked: &Checked<S>,
     height: u32,
 ) -> Result<Vec<u32>, CursorFault>
+    ensures once { IfOk result (λ order. AreOnce checked.now.frame.objects order.items) }
     ensures order { IfOk result (λ order. IsOrder checked.now.certificate.heights height order.items) }
     ensures inside { IfOk result (λ order. AreInside order.items checked.now.frame.objects) }
     ensures memory { IfErr result (λ e. e ≡ Memory) }
@@ -85,6 +88,7 @@ fn count_refs<S: Source>(
 ) -> Result<u64, Unread>
     requires { IsSafeHead checked.old.frame head.now }
     ensures reads { OnlyReadsFile (read_failed result) checked.old checked.new }
+    ensures asks { checked.new.asked ≤ checked.old.asked + ref_count head.now.kind head.now.count * checked.old.frame.ref_size }
     ensures exact { HonestlyChecked checked.old (λ f F. GivesRead
         (λ total. total ≡ cap (1 + sum_by (slice_index counts.now) (refs (content_at f F head.now)))) result) }
 {
@@ -104,6 +108,7 @@ fn count_object<S: Source>(
 ) -> Result<u64, Unread>
     requires { n.0 < checked.old.frame.objects }
     ensures reads { OnlyReadsFile (read_failed result) checked.old checked.new }
+    ensures asks { HonestlyChecked checked.old (λ f F. (e : ℕ) → Takes f F n.0 e → checked.new.asked ≤ checked.old.asked + (28 + e)) }
     ensures exact { HonestlyChecked checked.old (λ f F. (v : Value) → Holds f F n.0 v
         → ((c : Content) → Spells f F n.0 c → AllByRecursion (IsCounted f F counts.now) (refs c))
         → GivesRead (λ count. count ≡ cap (nodes v)) result) }
@@ -122,6 +127,8 @@ fn count_in_order<S: Source>(
     requires inside { AreInside order.now checked.old.frame.objects }
     requires count { length counts.old ≡ checked.old.frame.objects }
     ensures reads { OnlyReadsFile (read_failed result) checked.old checked.new }
+    ensures asks { HonestlyChecked checked.old (λ f F. (t : ℕ) → TakeOctets f F order.now t
+        → checked.new.asked ≤ checked.old.asked + (28 * length order.now + t)) }
     ensures exact { HonestlyChecked checked.old (λ f F. (heights : List ℕ) → IsValid f F heights → IsOrder heights 1 order.now
         → AreCounted f F heights order.now 0 counts.old
         → GivesRead (λ _. AreCounted f F heights order.now (length order.now) counts.new) result) }
@@ -135,6 +142,7 @@ fn count_in_order<S: Source>(
 /// Returns the counts of all vouched objects.
 fn count_all<S: Source>(alloc: Global, checked: &mut Checked<S>) -> Result<Vec<u64>, CursorFault>
     ensures reads { OnlyReadsFile (cursor_read result) checked.old checked.new }
+    ensures asks { HonestlyChecked checked.old (λ f F. checked.new.asked ≤ checked.old.asked + pass_bytes F) }
     ensures exact { HonestlyChecked checked.old (λ f F. GivesCursor (λ counts. (n : ℕ)
         → IsVouchedBy checked.old.certificate.heights n → IsCounted f F counts.items n) result) }
 {
@@ -158,6 +166,7 @@ pub fn count_nodes<S: Source>(
     node: Node,
 ) -> Result<u64, CursorFault>
     ensures reads { OnlyReadsFile (cursor_read result) checked.old checked.new }
+    ensures asks { HonestlyChecked checked.old (λ f F. checked.new.asked ≤ checked.old.asked + pass_bytes F) }
     ensures exact { HonestlyChecked checked.old (λ f F. IsVouchedBy checked.old.certificate.heights node.object.0
         → (v : Value) → Holds f F node.object.0 v → GivesCursor (λ count. count ≡ cap (nodes v)) result) }
     ensures unvouched { (IsVouchedBy checked.old.certificate.heights node.object.0 → ⊥) → result ≡ Err Changed }

@@ -3,11 +3,12 @@
 //! `measure` finds the sizes of all values of a checked file in one pass over its objects, each after those to which it
 //! refers, so a value in many places is measured once. Texts are read in blocks, and never into memory as a whole.
 
-ghost use Rattle.std.specs.Prelude.{◌≡◌, ◌≤◌, length, flat_map, ◌<◌, ℕ, Option, Some, List};
+ghost use Rattle.std.specs.Prelude.{◌≡◌, ◌≤◌, ◌+◌, ◌*◌, length, flat_map, ◌<◌, ℕ, Option, Some, List};
 ghost use Rattle.bplist_cursor.specs.Prelude.{joined, HonestlyChecked, IsSafeBody, IsTextKind, GivesRead, read_failed};
 ghost use Rattle.bplist_cursor.specs.Prelude.{OnlyReadsFile, cap, Value, Leaf, Content, Spells, leaf, refs, content_at};
 ghost use Rattle.bplist_cursor.specs.Prelude.{Holds, IsSafeHead, IsValid, GivesCursor, cursor_read, leaf_text};
 ghost use Rattle.bplist_cursor.specs.Prelude.{form_of_text, size_of, size_in, added, IsSized, AreMeasures};
+ghost use Rattle.bplist_cursor.specs.Prelude.{TakeOctets, Takes, item_size, pass_bytes, ref_count};
 ghost use Rattle.bplist_cursor.specs.Prelude.{punctuation_of, AreInside, IsOrder, IsEmpty, AreSet, Size as size};
 ghost use Rattle.bplist_cursor.specs.Sizes.{both, nodes_in, form_in};
 ghost use Rattle.std.specs.Char.{is_ascii_alphanumeric};
@@ -156,6 +157,7 @@ pub(crate) fn text_length<S: Source>(checked: &mut Checked<S>, head: &Head) -> R
     requires kind { IsTextKind head.now.kind }
     requires head { IsSafeBody (length checked.old.source.octets) head.now }
     ensures reads { OnlyReadsFile (read_failed result) checked.old checked.new }
+    ensures asks { checked.new.asked ≤ checked.old.asked + head.now.count * item_size 1 head.now.kind }
     ensures exact { GivesRead (λ n. HonestlyChecked checked.old
         (λ f _. n ≡ cap (length (texts.text_of_units (units_of f head.now))))) result }
 {
@@ -206,6 +208,7 @@ fn add_refs<S: Source>(
 ) -> Result<Size, Unread>
     requires { IsSafeHead checked.old.frame head.now }
     ensures reads { OnlyReadsFile (read_failed result) checked.old checked.new }
+    ensures asks { checked.new.asked ≤ checked.old.asked + ref_count head.now.kind head.now.count * checked.old.frame.ref_size }
     ensures exact { HonestlyChecked checked.old (λ f F. (whole : size)
         → added sizes.now start (refs (content_at f F head.now)) ≡ Some whole → GivesRead (λ s. s ≡ whole) result) }
 {
@@ -235,6 +238,7 @@ fn punctuation(head: &Head) -> Form
 fn leaf_form<S: Source>(checked: &mut Checked<S>, head: &Head) -> Result<Form, Unread>
     requires { IsSafeBody (length checked.old.source.octets) head.now }
     ensures reads { OnlyReadsFile (read_failed result) checked.old checked.new }
+    ensures asks { checked.new.asked ≤ checked.old.asked + head.now.count * item_size 1 head.now.kind }
     ensures exact { GivesRead (λ form. HonestlyChecked checked.old (λ f F. (l : Leaf) → leaf l ≡ content_at f F head.now
         → form ≡ form_of_text (leaf_text l))) result }
 {
@@ -253,6 +257,7 @@ fn size_of_object<S: Source>(
 ) -> Result<Size, Unread>
     requires { n.0 < checked.old.frame.objects }
     ensures reads { OnlyReadsFile (read_failed result) checked.old checked.new }
+    ensures asks { HonestlyChecked checked.old (λ f F. (e : ℕ) → Takes f F n.0 e → checked.new.asked ≤ checked.old.asked + (28 + e)) }
     ensures exact { HonestlyChecked checked.old (λ f F. (v : Value) → Holds f F n.0 v
         → ((c : Content) → Spells f F n.0 c → AllByRecursion (IsSized f F sizes.now) (refs c))
         → GivesRead (λ s. s ≡ size_of v) result) }
@@ -282,6 +287,8 @@ fn measure_in_order<S: Source>(
     requires inside { AreInside order.now checked.old.frame.objects }
     requires count { length sizes.old ≡ checked.old.frame.objects }
     ensures reads { OnlyReadsFile (read_failed result) checked.old checked.new }
+    ensures asks { HonestlyChecked checked.old (λ f F. (t : ℕ) → TakeOctets f F order.now t
+        → checked.new.asked ≤ checked.old.asked + (28 * length order.now + t)) }
     ensures exact { HonestlyChecked checked.old (λ f F. (heights : List ℕ) → IsValid f F heights → IsOrder heights 0 order.now
         → IsEmpty sizes.old → GivesRead (λ _. AreSet f F heights order.now (length order.now) sizes.new) result) }
 {
@@ -301,6 +308,7 @@ fn measure_in_order<S: Source>(
 /// honest.
 pub fn measure<S: Source>(alloc: Global, checked: &mut Checked<S>) -> Result<Measures, CursorFault>
     ensures reads { OnlyReadsFile (cursor_read result) checked.old checked.new }
+    ensures asks { HonestlyChecked checked.old (λ f F. checked.new.asked ≤ checked.old.asked + pass_bytes F) }
     ensures exact { HonestlyChecked checked.old
         (λ f F. GivesCursor (AreMeasures f F checked.old.certificate.heights) result) }
 {

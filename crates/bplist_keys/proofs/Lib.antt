@@ -3,6 +3,7 @@ pub mod Digits
 pub mod PivotWeights
 pub mod Groups
 pub mod GroupParts
+pub mod TextOctets
 pub mod TextUnits
 pub mod Listed
 pub mod RankLaws

@@ -18,6 +18,7 @@ use Rattle.bplist_objects.specs.Spelled.{refs_at}
 use Rattle.bplist_cert.specs.declared.refusal.Refusal.{Refusal}
 use Rattle.bplist_cert.specs.declared.refusal.Refusal.TheVariants as cert_refusals
 use Rattle.bplist_cert.specs.Refusals.{GivesRefusal}
+use Rattle.bplist_cert.specs.Sorted.{IsAccepted}
 use Rattle.bplist_cert.specs.Valid.{IsVouchedBy}
 use Rattle.bplist_cert.proofs.VouchedObjects.{reached_vouched}
 use Rattle.bplist_lint.specs.declared.answer.LintRefusal.{LintRefusal}
@@ -27,11 +28,10 @@ use Rattle.bplist_lint.specs.declared.walk.Reached.{Reached}
 use Rattle.bplist_lint.specs.Graph.{AreLeast, IsCircleOf}
 use Rattle.bplist_lint.specs.ReachRules.{number_below, references_below, is_marked}
 use Rattle.bplist_lint.specs.FileFault.{IsFileFault, IsFileCircle}
-use Rattle.bplist_lint.specs.Refusals.{no_circle}
-use Rattle.bplist_lint.specs.Trail.{number}
+use Rattle.bplist_lint.specs.Refusals.{Refuses, no_circle}
 use Rattle.bplist_objects.specs.Offsets.{AreOffsets32, AreBelowTable, IsOffsetFault}
 use Rattle.bplist_lint.specs.LeastHeights.{AreLeastHeights}
-use Rattle.bplist_lint.specs.Linted.{HaveReferences, KeepsRules, IsLintedBy, HasNoHeights}
+use Rattle.bplist_lint.specs.Linted.{HaveReferences, KeepsRules, IsLintedBy, HasNoHeights, lint_of}
 use Rattle.bplist_lint.proofs.HeldValues.{formed_holds, holds_formed}
 use Rattle.bplist_lint.proofs.KeptRules.{kept_both, kept_spells}
 use Rattle.bplist_lint.proofs.OffsetSteps.{kept_low, kept_high}
@@ -42,10 +42,6 @@ use Rattle.bplist_lint.proofs.LintAnswers.{formed_by_valid, least_lowest, lint_y
 use Rattle.bplist_lint.proofs.FirstFaults.{fault_not_formed, circle_not_formed}
 
 -- ---- what is said of a fault is said of the refusal
--- P holds of the fault or Q of the circle
-abbrev pub Refuses : (Fault → Type 0) → (List ℕ → Type 0) → LintRefusal → Type 0
-Refuses P Q refusal = elim refusal [ refusals.Fault fault ↦ P fault | refusals.Circle circle ↦ Q (map number circle) | _ ↦ Unit {0} ]
-
 -- a refusal of the checker as one of the linter
 abbrev lint_refusal_of : Refusal → LintRefusal
 lint_refusal_of refusal =
@@ -131,6 +127,27 @@ module _ (f : List ℕ) (F : Frame) where
   circled frame sifted s circle c =
       let kept = s.walked.tallied.kept in
       (F, frame, kept_both f F F.objects kept s.keys, (circle_iff f F (kept_spells f F frame kept) circle).0 c)
+
+-- ---- the linter's yes, of a checked file
+module _ (f : List ℕ) (F : Frame) (lint : Lint) (yes : IsLintedBy f F lint) where
+  -- the certificate is accepted: it has no key lists
+  pub least_accepted : IsAccepted f F lint.certificate
+  least_accepted = record { valid = yes.valid; listed = rw yes.version tt }
+
+  -- the answer is that of its certificate and counts
+  pub least_of : IsLintedBy f F (lint_of F lint.certificate (record { reached = lint.reached; references = lint.references }))
+  least_of = record {
+    value = yes.value;
+    holds = yes.holds;
+    version = yes.version;
+    least = yes.least;
+    valid = yes.valid;
+    lowest = yes.lowest;
+    height = refl;
+    reached = yes.reached;
+    references = yes.references;
+    few = yes.few;
+  }
 
 -- ---- a fault excludes heights and values
 pub fault_decides : (f : List ℕ) (fault : Fault) → IsFileFault f fault → HasNoHeights f

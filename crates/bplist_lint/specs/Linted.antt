@@ -10,7 +10,9 @@ use Rattle.bplist_objects.specs.Value.{Value}
 use Rattle.bplist_objects.specs.File.{FileHolds}
 use Rattle.bplist_objects.specs.Reach.{Reach}
 use Rattle.bplist_cert.specs.CheckRules.{key_rules}
+use Rattle.bplist_cert.specs.Lists.{Lists}
 use Rattle.bplist_cert.specs.Valid.{IsValid}
+use Rattle.bplist_lint.specs.declared.answer.Counts.{Counts}
 use Rattle.bplist_lint.specs.declared.answer.Lint.{Lint}
 use Rattle.bplist_lint.specs.declared.walk.Reached.{Reached}
 use Rattle.bplist_lint.specs.LeastHeights.{AreLeastHeights}
@@ -34,6 +36,15 @@ pub record IsLintedBy (f : List ℕ) (F : Frame) (lint : Lint) : Type 0 where
   pub reached : lint.reached ≡ count_by (nat_lt 0) lint.certificate.heights
   pub references : HaveReferences f F (filter (λ n. nat_lt 0 (slice_index lint.certificate.heights n)) (range_with_len 0 F.objects)) lint.references
   pub few : lint.references + 8 ≤ F.table
+
+-- the linter's answer with this certificate, the height of the top, and these counts
+abbrev pub lint_of : Frame → Lists → Counts → Lint
+lint_of F certificate counts = record {
+  certificate = certificate;
+  height = slice_index certificate.heights F.top.0;
+  reached = counts.reached;
+  references = counts.references;
+}
 
 -- the file has a frame, and the linter's answer is right for it
 abbrev pub IsLinted : List ℕ → Lint → Type 0

@@ -34,12 +34,12 @@ pub use Rattle.bplist_lint.specs.Graph.{AreLeast, AreObjects, AreWhole, Ends, Is
 pub use Rattle.bplist_lint.specs.HeightWalks.{AreClosed, AreLeastOf, Finds, IsHeightWalk, Shows, Standing, first_state, state_at}
 pub use Rattle.bplist_lint.specs.KeyLists.{AreAbove, AreRanked, HaveRanks, IsListed, positions_in, ranks_in}
 pub use Rattle.bplist_lint.specs.LeastHeights.{AreLeastHeights, StandLeast}
-pub use Rattle.bplist_lint.specs.Linted.{HasNoHeights, IsLinted, IsLintedBy, IsLintedWithKind, KeepsRules}
+pub use Rattle.bplist_lint.specs.Linted.{HasNoHeights, IsLinted, IsLintedBy, IsLintedWithKind, KeepsRules, lint_of}
 pub use Rattle.bplist_lint.specs.ReachRules.{IsReachedFault, KeepReached, Tallied, reach_rules}
 pub use Rattle.bplist_lint.specs.ReachSearch.{AreFollowed, AreGood, HasMarks, IsReady, Looked, Searching, index_count, place_index}
 pub use Rattle.bplist_lint.specs.ReachWalk.{AreNamed, HasRoomFor, IsSteady, IsSteadyWalk, IsWalked, IsWalking, Noted, of_object, stop_failed}
 pub use Rattle.bplist_lint.specs.ReferenceGraph.{AreChildless, graph_of, hidden}
-pub use Rattle.bplist_lint.specs.Refusals.{Lints, lint_failed, no_circle}
+pub use Rattle.bplist_lint.specs.Refusals.{Lints, Refuses, read_of_refusal, lint_failed, no_circle}
 pub use Rattle.bplist_lint.specs.Tallies.{IsRoomy}
 pub use Rattle.bplist_lint.specs.Trail.{AllHave, IsFirstIndex, number, object}
 pub use Rattle.bplist_lint.specs.UpgradeAnswers.{Upgrades, upgrade_failed}

@@ -27,6 +27,15 @@ pub struct Lint {
     pub references: u64,
 }
 
+/// What the linter counts in a file that holds a value.
+#[derive(Clone, Copy, Debug, PartialEq, Eq, Drop)]
+pub struct Counts {
+    /// How many objects the top reaches, including the top itself.
+    pub reached: u64,
+    /// How many references the reached objects have together.
+    pub references: u64,
+}
+
 /// Why the linter returns no certificate.
 #[derive(Debug, Drop)]
 pub enum LintRefusal {

@@ -11,6 +11,8 @@
 //! }
 //! ```
 //!
+//! To go on with the file, call [`lint_checked`], which returns it as a `Checked`, as `check` does.
+//!
 //! A no is final: no certificate is valid for that file (clause `decisive` of [`lint`], law [`fault_is_final`]).
 //! docs/DESIGN.md describes the passes, docs/RULES.md the order of the rules.
 //!
@@ -18,8 +20,9 @@
 //!
 //! | module | what it is about | public items |
 //! |---|---|---|
-//! | answer | yes, no, and why an upgrade fails | [`Lint`], [`LintRefusal`], [`ObjectNos`], [`UpgradeFault`] |
+//! | answer | yes, no, and why an upgrade fails | [`Lint`], [`Counts`], [`LintRefusal`], [`ObjectNos`], [`UpgradeFault`] |
 //! | linter | the passes of the linter, in their order | [`lint`], [`lint_with_kind`] |
+//! | checked | a linted file as a `Checked` | [`lint_checked`] |
 //! | walk | the one walk over the reached objects: rules 14 to 20 and 31 | |
 //! | tally | sums over the reached objects: rule 31; and the first fault of these rules, if the walk met one | |
 //! | reach | which objects are reached, if the walk met a fault | |
@@ -34,6 +37,7 @@
 
 mod answer;
 mod bit_set;
+mod checked;
 mod circle;
 mod graph;
 mod heights;
@@ -45,7 +49,8 @@ mod tally;
 mod upgrader;
 mod walk;
 
-pub use answer::{Lint, LintRefusal, ObjectNos, UpgradeFault};
+pub use answer::{Counts, Lint, LintRefusal, ObjectNos, UpgradeFault};
+pub use checked::lint_checked;
 pub use laws::{
     circle_iff_not_founded, fault_has_no_value, fault_is_final, holds_iff_well_formed,
     least_heights_are_valid, least_is_least, one_file_fault, valid_iff_well_formed, value_or_fault,

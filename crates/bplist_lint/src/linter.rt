@@ -117,6 +117,7 @@ fn heights_or_circle<P: Offsets>(
     requires fits { HasRoomFor (frame_in (P.means src.old)) reached }
     requires sifted { HonestlyIn (P.means src.old) (λ f F. KeepsRules f F reached) }
     ensures reads { OnlyReads (lint_failed result) (P.means src.old) (P.means src.new) }
+    ensures count { IfOk result (λ lint. length lint.certificate.heights ≡ (frame_in (P.means src.old)).objects) }
     ensures exact { HonestlyIn (P.means src.old) (λ f F. Lints (IsLintedBy f F) Never (IsFileCircle f) result) }
 {
     let frame = src.frame();
@@ -160,6 +161,7 @@ fn lint_reached<S: Source>(
     requires all { length places.items ≡ frame.objects }
     requires placed { Honestly (S.means src.old) (λ f. AreOffsets32 f frame frame.objects places.items) }
     ensures reads { OnlyReads (lint_failed result) (S.means src.old) (S.means src.new) }
+    ensures count { IfOk result (λ lint. length lint.certificate.heights ≡ frame.objects) }
     ensures exact { Honestly (S.means src.old)
         (λ f. Lints (IsLintedBy f frame) (IsFileFault f) (IsFileCircle f) result) }
 {
@@ -207,6 +209,20 @@ fn read_places<S: Source>(alloc: Global, src: &mut S) -> Result<(Frame, Vec<u32>
     Ok((frame, places))
 }
 
+/// Returns the linter's answer for a file, and its frame. Over any source, honest or not, the frame fits it and the
+/// certificate has one height for each object.
+pub fn lint_file<S: Source>(alloc: Global, src: &mut S) -> Result<(Lint, Frame), LintRefusal>
+    ensures reads { OnlyReads (lint_failed result) (S.means src.old) (S.means src.new) }
+    ensures safe { IfOk result (λ known. IsSafeFrame (length (S.means src.old).octets) known.1) }
+    ensures count { IfOk result (λ known. length known.0.certificate.heights ≡ known.1.objects) }
+    ensures exact { Honestly (S.means src.old)
+        (λ f. Lints (λ known. IsLintedBy f known.1 known.0) (IsFileFault f) (IsFileCircle f) result) }
+{
+    let (frame, places) = read_places(alloc, src)?;
+    let lint = lint_reached(alloc, src, frame, places)?;
+    Ok((lint, frame))
+}
+
 /// The same as `lint`, with the kind of the top, so that no caller has to read it again.
 pub fn lint_with_kind<S: Source>(alloc: Global, src: &mut S) -> Result<(Lint, Kind), LintRefusal>
     ensures reads { OnlyReads (lint_failed result) (S.means src.old) (S.means src.new) }
@@ -215,8 +231,7 @@ pub fn lint_with_kind<S: Source>(alloc: Global, src: &mut S) -> Result<(Lint, Ki
         (IsFileFault (S.means src.old).octets) (IsFileCircle (S.means src.old).octets) result }
     ensures sound { Honestly (S.means src.old) (λ f. IfOk result (λ _. ∥ IsSound f ∥₁)) }
 {
-    let (frame, places) = read_places(alloc, src)?;
-    let lint = lint_reached(alloc, src, frame, places)?;
+    let (lint, frame) = lint_file(alloc, src)?;
     let kind = top_kind(src, &frame)?;
     Ok((lint, kind))
 }
@@ -242,6 +257,6 @@ pub fn lint<S: Source>(alloc: Global, src: &mut S) -> Result<Lint, LintRefusal>
     ensures never { IsTrue (S.means src.old).honest → (v : Value) → FileHolds (S.means src.old).octets v
         → Lints (λ _. ⊤) Never no_circle result }
 {
-    let (lint, _kind) = lint_with_kind(alloc, src)?;
+    let (lint, _frame) = lint_file(alloc, src)?;
     Ok(lint)
 }

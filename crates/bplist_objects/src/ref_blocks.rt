@@ -1,6 +1,6 @@
 //! The references of an object, block by block.
 
-ghost use Rattle.std.specs.Prelude.{◌≡◌, ◌≤◌, ◌<◌, ◌+◌, ℕ, IfOk, OnOk, OnErr, IsTrue, false, length};
+ghost use Rattle.std.specs.Prelude.{◌≡◌, ◌≤◌, ◌<◌, ◌+◌, ◌*◌, ℕ, IfOk, OnOk, OnErr, IsTrue, false, length};
 ghost use Rattle.std.specs.Prelude.{slice_index, take};
 ghost use Rattle.std.specs.Result.{result_err};
 ghost use Rattle.bplist_objects.specs.Safe.{IsSafeHead, ref_count};
@@ -47,6 +47,7 @@ fn read_front<P: Framed>(
     requires within { from + count ≤ ref_count head.now.kind head.now.count }
     requires room { count ≤ length into.old }
     ensures reads { OnlyReads (result_err result) (P.means src.old) (P.means src.new) }
+    ensures asks { P.asked src.new ≤ P.asked src.old + count * (frame_in (P.means src.old)).ref_size }
     ensures numbers { HonestlyIn (P.means src.old) (λ f F. OnOk result ((k : ℕ) → k < count
         → slice_index (take count into.new) k ≡ ref f F head.now (from + k))) }
 {
@@ -95,6 +96,10 @@ impl RefBlocks {
     pub fn read<P: Framed>(&mut self, src: &mut P) -> Result<bool, ReadFault>
         requires { IsSafeHead (frame_in (P.means src.old)) self.old.head }
         ensures reads { OnlyReads (result_err result) (P.means src.old) (P.means src.new) }
+        ensures asks { P.asked src.new + self.old.next * (frame_in (P.means src.old)).ref_size
+            ≤ P.asked src.old + self.old.bound * (frame_in (P.means src.old)).ref_size }
+        ensures asks_block { IfOk result (λ _. P.asked src.new + self.old.next * (frame_in (P.means src.old)).ref_size
+            ≤ P.asked src.old + self.new.next * (frame_in (P.means src.old)).ref_size) }
         ensures same { AreOf self.old.head self.old.bound self.new }
         ensures stays { OnErr result (self.new.next ≡ self.old.next) }
         ensures next { IfOk result (λ more. IsTrue more

@@ -1,9 +1,10 @@
 //! The units of a text, block by block.
 
-ghost use Rattle.std.specs.Prelude.{◌≡◌, ◌≤◌, ◌+◌, IfOk, OnOk, OnErr, IsTrue, false, length, take};
+ghost use Rattle.std.specs.Prelude.{◌≡◌, ◌≤◌, ◌+◌, ◌*◌, IfOk, OnOk, OnErr, IsTrue, false, length, take};
 ghost use Rattle.std.specs.Result.{result_err};
 ghost use Rattle.bplist_octets.specs.Meaning.{OnlyReads, Honestly};
 ghost use Rattle.bplist_octets.specs.Octets.{part};
+ghost use Rattle.bplist_objects.specs.Announced.{item_size};
 ghost use Rattle.bplist_objects.specs.Safe.{IsSafeBody};
 ghost use Rattle.bplist_objects.specs.Units.{IsTextKind, units_of};
 
@@ -41,6 +42,7 @@ fn read_front<S: Source>(
     requires within { from + count ≤ head.now.count }
     requires room { count ≤ length into.old }
     ensures reads { OnlyReads (result_err result) (S.means src.old) (S.means src.new) }
+    ensures asks { S.asked src.new ≤ S.asked src.old + count * item_size 1 head.now.kind }
     ensures units { OnOk result (Honestly (S.means src.old)
         (λ f. take count into.new ≡ part (units_of f head.now) from count)) }
 {
@@ -71,6 +73,10 @@ impl UnitBlocks {
         requires kind { IsTextKind self.old.head.kind }
         requires head { IsSafeBody (length (S.means src.old).octets) self.old.head }
         ensures reads { OnlyReads (result_err result) (S.means src.old) (S.means src.new) }
+        ensures asks { S.asked src.new + self.old.next * item_size 1 self.old.head.kind
+            ≤ S.asked src.old + self.old.head.count * item_size 1 self.old.head.kind }
+        ensures asks_block { IfOk result (λ _. S.asked src.new + self.old.next * item_size 1 self.old.head.kind
+            ≤ S.asked src.old + self.new.next * item_size 1 self.old.head.kind) }
         ensures same { self.new.head ≡ self.old.head }
         ensures stays { OnErr result (self.new.next ≡ self.old.next) }
         ensures next { IfOk result (λ more. IsTrue more

@@ -5,7 +5,7 @@ use Rattle.std.proofs.lemmas.Result.{err_from_is_err_and}
 use Rattle.bplint_engine.specs.declared.tree_walk.Listing.{Listing}
 use Rattle.bplint_engine.specs.Names.{name_in}
 use Rattle.bplint_engine.specs.Tree.{tree_lines}
-use Rattle.bplint_engine.specs.TreeWalks.{GoesOn}
+use Rattle.bplint_engine.specs.TreeWalks.{ListsOnIn}
 use Rattle.bplint_engine.proofs.TreeSteps.{step_fail, step_more}
 use Rattle.bplist_cursor.proofs.SameFiles.{same_file}
 use Rattle.bplint_engine.proofs.tree_walk.list.Goals as goal
@@ -14,7 +14,7 @@ pub loop-opened-init : goal.loop-opened-init
 loop-opened-init g c = record {
   same = c.in_ok-begin.ensures.reads;
   stack = c.in_ok-begin.ensures.stack;
-  lines = λ t w held. subst (GoesOn c.args.style c.args.checked.now _ _ _ _) (append-nil (tree_lines c.args.style (name_in c.args.listing.now.names c.args.top.name) w))
+  lines = λ t w held. subst (ListsOnIn c.args.style c.args.checked.now _ _ _ _) (append-nil (tree_lines c.args.style (name_in c.args.listing.now.names c.args.top.name) w))
       (c.in_ok-begin.ensures.exact t w held [] (rw c.requires.begins refl));
 }
 

@@ -8,7 +8,7 @@ use Rattle.bplint_engine.specs.declared.tree_walk.Listing.{Listing}
 use Rattle.bplint_engine.specs.declared.tree_walk.Opened.{Opened}
 use Rattle.bplint_engine.specs.Names.{name_in}
 use Rattle.bplint_engine.specs.Tree.{joined_lines, tree_lines}
-use Rattle.bplint_engine.specs.TreeWalks.{StackLeft}
+use Rattle.bplint_engine.specs.TreeWalks.{AllLinesLeftIn}
 use Rattle.bplint_engine.proofs.Puts.{cursor_stops, excused_stops}
 use Rattle.bplint_engine.proofs.TreeSteps.{left_next, open_in_all, step_ends, step_goes}
 use Rattle.bplint_engine.proofs.tree_walk.step.Goals as goal
@@ -51,4 +51,4 @@ returns-clause-exact g c = λ honest left stands.
     let begins = (rw c.in_ok-at.ensures.reads at c.begin.ensures.exact) honest member.0 member.2 in
     let mid : Listing = record { alloc = kept.alloc; stack = c.push.new.self; names = kept.names; line = kept.line; room = kept.room; sink = kept.sink } in
     step_goes c.args.style file (g.W.Write.contents c.args.out.now) (g.W.Write.contents c.begin.new.out) c.begin.result c.args.listing.now mid c.begin.new.listing left (tree_lines c.args.style name member.0) next.rest
-    next.is c.in_ok-at.ensures.rest.sink c.in_ok-at.ensures.rest.room (subst (λ os. StackLeft c.args.style file kept.names os next.rest) (sym items) pushed) begins
+    next.is c.in_ok-at.ensures.rest.sink c.in_ok-at.ensures.rest.room (subst (λ os. AllLinesLeftIn c.args.style file kept.names os next.rest) (sym items) pushed) begins

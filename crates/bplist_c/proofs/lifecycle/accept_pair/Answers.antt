@@ -1,8 +1,8 @@
 use Rattle.std.proofs.Common.{◌≡◌, Err, Ok, ap, refl}
 use Rattle.bplist_lint.specs.declared.answer.LintRefusal.TheVariants as lint_refusals
+use Rattle.bplist_lint.specs.Linted.{lint_of}
 use Rattle.bplist_c.specs.declared.status.Status.TheVariants as statuses
 use Rattle.bplist_c.specs.declared.verdict.BplistVerdict.{BplistVerdict}
-use Rattle.bplist_c.specs.Lifecycle.{lint_of}
 use Rattle.bplist_c.specs.Verdicts.{refused_told}
 use Rattle.bplist_c.proofs.OpenedHandles.{accepts, is_pair}
 use Rattle.bplist_c.proofs.lifecycle.accept_pair.Goals as goal
@@ -11,10 +11,10 @@ pub returns-in-Ok : goal.returns-in-Ok
 returns-in-Ok c =
     let checked = c.in-Ok.checked in
     let is = c.in-Ok.ensures in
-    let lint = lint_of checked.frame checked.certificate 0 0 in (
+    let lint = lint_of checked.frame checked.certificate (record { reached = 0; references = 0 }) in (
       Ok lint,
       is_pair c.args.file checked is.0 is.3 c.args.certificate.now is.1 is.2,
-      accepts c.args.file checked is.0 is.3 lint c.with_verdict.result refl c.with_verdict.ensures,
+      accepts c.args.file checked is.3 lint c.with_verdict.result refl c.with_verdict.ensures,
     )
 
 pub returns-in-Err-Fault : goal.returns-in-Err-Fault

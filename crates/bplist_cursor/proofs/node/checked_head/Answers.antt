@@ -19,3 +19,8 @@ returns-clause-exact g c = λ honest content s.
 pub returns-clause-body : goal.returns-clause-body
 returns-clause-body g c =
     safe_body (length c.args.checked.now.source.octets) c.args.checked.now.frame c.in_ok-shape_of.field-0 c.frame-frame.ensures.checked.safe.safe (rw c.frame-frame.ensures.frame at c.in_ok-shape_of.ensures.safe)
+
+pub returns-clause-shape : goal.returns-clause-shape
+returns-clause-shape g c = λ honest.
+    let is = c.frame-frame.ensures.checked.framed honest in
+    (rw c.frame-frame.ensures.frame at c.in_ok-shape_of.ensures.exact) honest is

@@ -7,6 +7,7 @@ use Rattle.bplist_cursor.specs.NodeCounts.{IsCounted}
 use Rattle.bplist_cursor.proofs.Causes.{unread_excused}
 use Rattle.bplist_cursor.proofs.CountSteps.{counted_all, counted_none, counted_prop}
 use Rattle.bplist_cursor.proofs.OrderSteps.{excused_prop}
+use Rattle.bplist_cursor.proofs.PassSteps.{pass_fits, within_prop}
 use Rattle.bplist_cursor.proofs.node_counts.count_all.Goals as goal
 
 pub returns-in_err-count_in_order-clause-exact : goal.returns-in_err-count_in_order-clause-exact
@@ -31,3 +32,17 @@ returns-clause-exact g c = λ honest.
     counted_all f F H a.valid c.in_ok-order.order.items c.in_ok-order.ensures.order c.count_in_order.new.counts
     ((rw c.deref.ensures.value at c.in_ok-count_in_order.ensures.exact) honest H a.valid c.in_ok-order.ensures.order
     (counted_none f F H a.valid c.in_ok-order.order.items c.in_ok-order.ensures.order c.deref_mut.result.now ones))))
+
+pub returns-in_err-count_in_order-clause-asks : goal.returns-in_err-count_in_order-clause-asks
+returns-in_err-count_in_order-clause-asks g c = λ honest.
+    let checked = c.args.checked.now in
+    ∥∥₁_elim (c.frame-objects.ensures.checked.accepted honest) (within_prop _ _) (λ a.
+    let pass = pass_fits checked.source.octets checked.frame checked.certificate.heights c.in_ok-order.order.items 1 a.valid c.in_ok-order.ensures.order c.in_ok-order.ensures.once in
+    omega (arith, pass.2, (rw c.deref.ensures.value at c.in_err-count_in_order.ensures.asks) honest pass.0 pass.1))
+
+pub returns-clause-asks : goal.returns-clause-asks
+returns-clause-asks g c = λ honest.
+    let checked = c.args.checked.now in
+    ∥∥₁_elim (c.frame-objects.ensures.checked.accepted honest) (within_prop _ _) (λ a.
+    let pass = pass_fits checked.source.octets checked.frame checked.certificate.heights c.in_ok-order.order.items 1 a.valid c.in_ok-order.ensures.order c.in_ok-order.ensures.once in
+    omega (arith, pass.2, (rw c.deref.ensures.value at c.in_ok-count_in_order.ensures.asks) honest pass.0 pass.1))

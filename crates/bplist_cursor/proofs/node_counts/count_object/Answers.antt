@@ -1,6 +1,7 @@
-use Rattle.std.proofs.Common.{◌∙◌}
+use Rattle.std.proofs.Common.{arith, ◌∙◌}
 use Rattle.std.proofs.lemmas.Result.{err_from_is_err_and}
 use Rattle.bplist_cursor.proofs.CountSteps.{read_weaker, value_counted}
+use Rattle.bplist_cursor.proofs.PassSteps.{refs_fit}
 use Rattle.bplist_cursor.proofs.StepReferences.{content_of_value}
 use Rattle.bplist_cursor.proofs.node_counts.count_object.Goals as goal
 
@@ -16,3 +17,10 @@ returns-clause-exact g c = λ honest v h counted.
     let F = c.args.checked.now.frame in
     let total = (rw c.in_ok-head.ensures.reads at c.count_refs.ensures.exact) honest in
     read_weaker _ _ c.count_refs.result (λ x e. e ∙ value_counted f F c.args.counts.now v c.args.n.0 c.in_ok-head.head h (c.in_ok-head.ensures.exact honest) counted) total
+
+pub returns-clause-asks : goal.returns-clause-asks
+returns-clause-asks g c = λ honest e takes.
+    let f = c.args.checked.now.source.octets in
+    let F = c.args.checked.now.frame in
+    let fits = refs_fit f F c.args.n.0 e c.in_ok-head.head (c.in_ok-head.ensures.shape honest) takes in
+    omega (arith, fits, c.in_ok-head.ensures.asks, rw c.in_ok-head.ensures.reads at c.count_refs.ensures.asks)

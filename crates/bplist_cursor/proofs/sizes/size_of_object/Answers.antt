@@ -1,9 +1,10 @@
-use Rattle.std.proofs.Common.{rules, ap, ◌∙◌}
+use Rattle.std.proofs.Common.{rules, arith, ap, ◌∙◌}
 use Rattle.std.proofs.lemmas.Result.{err_from_is_err_and}
 use Rattle.bplist_objects.specs.Heads.{refs, content_at}
 use Rattle.bplist_cursor.specs.Sizes.{size_of, added}
 use Rattle.bplist_cursor.proofs.StepReferences.{content_of_value}
 use Rattle.bplist_cursor.proofs.ObjectSteps.{container_total, leaf_total}
+use Rattle.bplist_cursor.proofs.PassSteps.{leaf_fits, refs_fit}
 use Rattle.bplist_cursor.proofs.sizes.size_of_object.Goals as goal
 
 pub returns-in_err-head-clause-exact : goal.returns-in_err-head-clause-exact
@@ -26,8 +27,21 @@ returns-in_ok-form-in_default g c =
     let head = c.in_ok-head.head in
     record {
       reads = search rules;
+      asks = λ honest e takes.
+          let fits = leaf_fits c.args.checked.now.source.octets c.args.checked.now.frame c.args.n.0 e head (c.in_ok-head.ensures.shape honest) takes c.in_default.not-Array c.in_default.not-Set c.in_default.not-Dict in
+          omega (arith, fits, c.in_ok-head.ensures.asks, c.in_ok-form-in_default.ensures.asks);
       exact = λ honest v h sized.
           leaf_total c.args.checked.now.source.octets c.args.checked.now.frame head.kind head.count head.body c.args.n.0 v c.in_ok-form-in_default.form
           c.in_default.not-Array c.in_default.not-Set c.in_default.not-Dict h (c.in_ok-head.ensures.exact honest)
           ((rw c.in_ok-head.ensures.reads at c.in_ok-form-in_default.ensures.exact) honest);
     }
+
+pub returns-in-Array-clause-asks : goal.returns-in-Array-clause-asks
+returns-in-Array-clause-asks g c = λ honest e takes.
+    let fits = refs_fit c.args.checked.now.source.octets c.args.checked.now.frame c.args.n.0 e c.in_ok-head.head (c.in_ok-head.ensures.shape honest) takes in
+    omega (arith, fits, c.in_ok-head.ensures.asks, rw c.in_ok-head.ensures.reads at c.add_refs.ensures.asks)
+
+pub returns-in_err-form-in_default-clause-asks : goal.returns-in_err-form-in_default-clause-asks
+returns-in_err-form-in_default-clause-asks g c = λ honest e takes.
+    let fits = leaf_fits c.args.checked.now.source.octets c.args.checked.now.frame c.args.n.0 e c.in_ok-head.head (c.in_ok-head.ensures.shape honest) takes c.in_default.not-Array c.in_default.not-Set c.in_default.not-Dict in
+    omega (arith, fits, c.in_ok-head.ensures.asks, c.in_err-form-in_default.ensures.asks)

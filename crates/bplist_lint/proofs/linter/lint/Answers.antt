@@ -1,4 +1,6 @@
+use Rattle.std.proofs.lemmas.Grind.{merely}
 use Rattle.std.proofs.lemmas.Result.{err_from_is_err_and}
+use Rattle.bplist_cert.proofs.VouchedObjects.{sound}
 use Rattle.bplist_lint.proofs.Passes.{refusal_means, fault_decides, circle_decides, fault_never, circle_never}
 use Rattle.bplist_lint.proofs.linter.lint.Goals as goal
 
@@ -16,5 +18,8 @@ returns-in_err-lint-clause-never g c = λ honest v holds.
 
 pub returns-clause-exact : goal.returns-clause-exact
 returns-clause-exact g c = λ honest.
-    let h = c.in_ok-lint.ensures.exact honest in
-    (h.0, h.1, h.2)
+    let here = c.in_ok-lint.ensures.exact honest in
+    (_, here.valid.frame, here)
+
+pub returns-clause-sound : goal.returns-clause-sound
+returns-clause-sound g c = λ honest. merely (sound _ _ _ (c.in_ok-lint.ensures.exact honest).valid)

@@ -6,7 +6,8 @@ use Rattle.bplist_objects.specs.Answers.{Never}
 use Rattle.bplist_objects.specs.Framed.{HonestlyIn}
 use Rattle.bplist_lint.specs.FileFault.{IsFileCircle}
 use Rattle.bplist_lint.specs.Linted.{KeepsRules}
-use Rattle.bplist_lint.proofs.Passes.{Refuses, check_means, circle_passed}
+use Rattle.bplist_lint.specs.Refusals.{Refuses}
+use Rattle.bplist_lint.proofs.Passes.{check_means, circle_passed}
 use Rattle.bplist_lint.proofs.linter.lint_reached.Goals as goal
 
 pub returns-in_err-reached-clause-exact : goal.returns-in_err-reached-clause-exact

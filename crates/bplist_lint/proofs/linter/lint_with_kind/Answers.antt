@@ -5,37 +5,24 @@ use Rattle.bplist_objects.specs.Reach.{top}
 use Rattle.bplist_objects.proofs.HeadTies.{spells_head}
 use Rattle.bplist_cert.proofs.VouchedObjects.{sound}
 use Rattle.bplist_lint.specs.FileFault.{IsFileFault, IsFileCircle}
-use Rattle.bplist_lint.proofs.Passes.{check_means, fault_passed}
+use Rattle.bplist_lint.proofs.Passes.{check_means}
 use Rattle.bplist_lint.proofs.linter.lint_with_kind.Goals as goal
-
-pub returns-in_err-frame-clause-exact : goal.returns-in_err-frame-clause-exact
-returns-in_err-frame-clause-exact g c = λ honest.
-    let f = (g.S.Source.means c.args.src.now).octets in
-    let p = err_from_is_err_and c.from_residual.result c.from_residual.ensures.1 in
-    rw (p.1, p.2) (check_means _ _ (IsFileCircle f) c.in_err-frame.field-0.0 (λ fault h. h) (c.in_err-frame.ensures.exact honest))
-
-pub returns-in_err-lint-clause-exact : goal.returns-in_err-lint-clause-exact
-returns-in_err-lint-clause-exact g c = λ honest.
-    let p = err_from_is_err_and c.from_residual-in_err-lint.result c.from_residual-in_err-lint.ensures.1 in
-    rw (p.1, p.2) (fault_passed _ _ c.in_ok-frame.ensures.reads c.in_err-lint.field-0.0 c.in_err-lint.ensures.exact honest)
 
 pub returns-in_err-kind-clause-exact : goal.returns-in_err-kind-clause-exact
 returns-in_err-kind-clause-exact g c = λ honest.
     let f = (g.S.Source.means c.args.src.now).octets in
-    let here = (rw c.in_ok-frame.ensures.reads at c.in_ok-lint.ensures.exact) honest in
+    let here = c.in_ok-lint.ensures.exact honest in
     let spelled = here.least.least _ top in
-    let told = (rw (c.in_ok-lint.ensures.reads, c.in_ok-frame.ensures.reads) at c.in_err-kind.ensures.exact) honest here.valid.frame spelled.1.shape spelled.1.has in
+    let told = (rw c.in_ok-lint.ensures.reads at c.in_err-kind.ensures.exact) honest here.valid.frame spelled.1.shape spelled.1.has in
     let p = err_from_is_err_and c.from_residual-in_err-kind.result c.from_residual-in_err-kind.ensures.1 in
     rw (p.1, p.2) (check_means Never (IsFileFault f) (IsFileCircle f) c.in_err-kind.field-0.0 (λ fault h. absurd h) told)
 
 pub returns-clause-exact : goal.returns-clause-exact
 returns-clause-exact g c = λ honest.
-    let here = (rw c.in_ok-frame.ensures.reads at c.in_ok-lint.ensures.exact) honest in
+    let here = c.in_ok-lint.ensures.exact honest in
     let spelled = here.least.least _ top in
-    let told = (rw (c.in_ok-lint.ensures.reads, c.in_ok-frame.ensures.reads) at c.in_ok-kind.ensures.exact) honest here.valid.frame spelled.1.shape spelled.1.has in
+    let told = (rw c.in_ok-lint.ensures.reads at c.in_ok-kind.ensures.exact) honest here.valid.frame spelled.1.shape spelled.1.has in
     (_, here.valid.frame, here, (spelled.1.shape, spells_head _ _ _ spelled.0 spelled.1, told))
 
 pub returns-clause-sound : goal.returns-clause-sound
-returns-clause-sound g c = λ honest.
-    let here = (rw c.in_ok-frame.ensures.reads at c.in_ok-lint.ensures.exact) honest in
-    merely (sound _ _ _ here.valid)
+returns-clause-sound g c = λ honest. merely (sound _ _ _ (c.in_ok-lint.ensures.exact honest).valid)

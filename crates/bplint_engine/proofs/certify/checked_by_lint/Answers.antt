@@ -1,6 +1,0 @@
-use Rattle.std.proofs.Common.{arith}
-use Rattle.std.proofs.lemmas.Grind.{common_steps}
-use Rattle.bplint_engine.proofs.certify.checked_by_lint.Goals as goal
-
-pub new-requires : goal.new-requires
-new-requires g c = grind (arith, common_steps)

@@ -1,0 +1,15 @@
+use Rattle.std.proofs.lemmas.Result.{err_from_is_err_and}
+use Rattle.bplist_lint.specs.FileFault.{IsFileCircle}
+use Rattle.bplist_lint.proofs.Passes.{check_means, fault_passed}
+use Rattle.bplist_lint.proofs.linter.lint_file.Goals as goal
+
+pub returns-in_err-frame-clause-exact : goal.returns-in_err-frame-clause-exact
+returns-in_err-frame-clause-exact g c = λ honest.
+    let f = (g.S.Source.means c.args.src.now).octets in
+    let p = err_from_is_err_and c.from_residual.result c.from_residual.ensures.1 in
+    rw (p.1, p.2) (check_means _ _ (IsFileCircle f) c.in_err-frame.field-0.0 (λ fault h. h) (c.in_err-frame.ensures.exact honest))
+
+pub returns-in_err-lint-clause-exact : goal.returns-in_err-lint-clause-exact
+returns-in_err-lint-clause-exact g c = λ honest.
+    let p = err_from_is_err_and c.from_residual-in_err-lint.result c.from_residual-in_err-lint.ensures.1 in
+    rw (p.1, p.2) (fault_passed _ _ c.in_ok-frame.ensures.reads c.in_err-lint.field-0.0 c.in_err-lint.ensures.exact honest)
