@@ -11,4 +11,3 @@ pub mod LongRanks
 pub mod Singles
 pub mod LookUps
 pub mod RunSteps
-pub mod TextOctets
