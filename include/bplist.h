@@ -26,6 +26,9 @@
  *   sorted keys it keeps 4 more bytes for each object and 4 for each pair of a
  *   dictionary.
  *
+ *   Where a description says how many bytes of the file a call reads at most, this is
+ *   proved of the code that reads them, over a source that counts what it is asked for.
+ *
  * RETURN VALUES
  *   Each call except bplist_version returns a status. BPLIST_OK means that the answer
  *   is in the outputs. With any other status the outputs are unchanged, unless the
@@ -377,7 +380,9 @@ bplist_status bplist_certificate(bplist_handle *handle, uint8_t *buffer, size_t 
  * digits. "~0" stands for '~', and "~1" for '/'. Takes memory in proportion to the length
  * of the path. In each dictionary it compares the key with all keys, one by one, up to the
  * one that it finds. If the handle has sorted keys, it compares with as many as the count
- * of the dictionary has binary digits.
+ * of the dictionary has binary digits. Reads at most 36 bytes for each step. In a
+ * dictionary it reads at most 36 more, and 2 for each unit of the step, for each key, or
+ * with sorted keys for each of those binary digits.
  *
  * BPLIST_OK: the object is `out->object`. BPLIST_NO_KEY, BPLIST_NO_INDEX,
  * BPLIST_NOT_STEPPABLE: step `out->step` fails. BPLIST_PATH_TEXT: the path text is wrong
@@ -391,7 +396,7 @@ bplist_status bplist_find(bplist_handle *handle, const uint8_t *file, size_t len
 /*
  * Takes one step from an object. For a dictionary the step is a key: `count` UTF-16
  * units at `units`, which may be any units. For an array it is an index in decimal digits.
- * Compares as many keys as bplist_find.
+ * Compares as many keys as bplist_find, and reads as many bytes.
  *
  * BPLIST_OK: `*out` is the object of the value or member. BPLIST_NO_KEY, BPLIST_NO_INDEX,
  * BPLIST_NOT_STEPPABLE, BPLIST_NO_OBJECT.
@@ -477,7 +482,8 @@ bplist_status bplist_units(bplist_handle *handle, const uint8_t *file, size_t le
 
 /*
  * Measures the value of an object. Looks at every object of the file once, and takes
- * memory in proportion to their number. BPLIST_NO_OBJECT. BPLIST_MEMORY.
+ * memory in proportion to their number. Reads at most 28 bytes for each object, and no
+ * byte before the offset table a second time. BPLIST_NO_OBJECT. BPLIST_MEMORY.
  */
 bplist_status bplist_size(bplist_handle *handle, const uint8_t *file, size_t length,
                           uint32_t object, bplist_sizes *out)
@@ -493,7 +499,8 @@ bplist_status bplist_size(bplist_handle *handle, const uint8_t *file, size_t len
  * written, and a member that is not described is 0. BPLIST_MEMORY. BPLIST_NO_OBJECT.
  *
  * Takes the time and memory of bplist_size. It also takes memory in proportion to the
- * depth of the value and, if the text fits, to its length.
+ * depth of the value and, if the text fits, to its length. Of a value that has a text it
+ * reads at most 36 bytes more than bplist_size, and 40 for each byte of a text that fits.
  */
 bplist_status bplist_text(bplist_handle *handle, const uint8_t *file, size_t length,
                           uint32_t object, char *buffer, size_t room, bplist_written *out)
