@@ -160,6 +160,10 @@ fn thousand_keys_by_halving(rt: HostRuntime) -> Result<(), Fail> {
     Ok(())
 }
 
+/// The largest number of bytes that measuring the file of 1,000 keys asks for: what `pass_bytes` is for 1,002 objects
+/// and an offset table at 9013.
+const MOST_OF_A_PASS: u64 = 37069;
+
 /// Returns the number of bytes asked for by a call with this many queries for the size of the file's value.
 fn asked_for_sizes(alloc: Global, row: &Row, sizes: usize) -> Result<u64, Fail> {
     let mut checked = row.checked(alloc, CountingSource::new(SliceSource::new(&row.octets)))?;
@@ -177,7 +181,7 @@ fn sizes_are_measured_once(rt: HostRuntime) -> Result<(), Fail> {
     let alloc = rt.alloc();
     let row = thousand_keys(alloc)?;
     let once = asked_for_sizes(alloc, &row, 1)?;
-    assert!(rt; once >= 1000, "{once} bytes");
+    assert!(rt; once >= 1000 && once <= MOST_OF_A_PASS, "{once} bytes");
     let thrice = asked_for_sizes(alloc, &row, 3)?;
     assert!(rt;
         thrice < once.saturating_mul(2),
