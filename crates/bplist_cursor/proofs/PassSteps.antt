@@ -2,7 +2,6 @@
 use Rattle.std.proofs.Common.{arith, ◌≡◌, ◌≢◌, ℕ, zero, suc, ◌+◌, ◌*◌, ◌<◌, ◌≤◌, List, [], ◌∷◌, ◌++◌, length, take, slice_index, slice_index_or, Contains, ◌⊎◌, inl, inr, true, false, refl, sym, ap, ◌∙◌, subst}
 use Rattle.std.proofs.Math.Dec.{eqb}
 use Rattle.std.proofs.Props.{props}
-use Rattle.std.specs.List.{AllByRecursion, AllPairs}
 use Rattle.std.specs.List.Sorted.{IsPermutation}
 use Rattle.std.proofs.Math.Nat.{mul_assoc, mul_comm}
 use Rattle.std.proofs.lemmas.Bool.Decides.{Decides-eqb, eqb_tells}
@@ -19,7 +18,6 @@ use Rattle.bplist_objects.specs.declared.head.Kind.TheVariants as kinds
 use Rattle.bplist_objects.specs.Announced.{item_size}
 use Rattle.bplist_objects.specs.Extents.{TakeOctets, Takes}
 use Rattle.bplist_objects.specs.Heads.{HasShape}
-use Rattle.bplist_objects.specs.Holds.{AreDistinct}
 use Rattle.bplist_objects.specs.Safe.{ref_count}
 use Rattle.bplist_objects.proofs.ExtentSums.{shape_extent}
 use Rattle.bplist_objects.proofs.Fronts.{one_shape}
