@@ -501,6 +501,8 @@ bplist_status bplist_size(bplist_handle *handle, const uint8_t *file, size_t len
  * Takes the time and memory of bplist_size. It also takes memory in proportion to the
  * depth of the value and, if the text fits, to its length. Of a value that has a text it
  * reads at most 36 bytes more than bplist_size, and 40 for each byte of a text that fits.
+ * Of any other value it reads at most 36 bytes more for each object, and 8 for each byte
+ * before the offset table.
  */
 bplist_status bplist_text(bplist_handle *handle, const uint8_t *file, size_t length,
                           uint32_t object, char *buffer, size_t room, bplist_written *out)

@@ -1,5 +1,6 @@
 pub mod WriteSteps
 pub mod WalkSteps
 mod AskSteps
+mod SearchAsks
 mod SearchSteps
 mod PrintSteps

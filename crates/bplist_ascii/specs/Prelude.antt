@@ -2,12 +2,12 @@
 pub use Rattle.bplist_octets.specs.Octets.{part}
 pub use Rattle.bplist_objects.specs.Heads.{Content, Spells, content_at}
 pub use Rattle.bplist_objects.specs.Holds.{Holds}
-pub use Rattle.bplist_objects.specs.Safe.{IsSafeBody, IsSafeHead}
+pub use Rattle.bplist_objects.specs.Safe.{IsSafeBody, IsSafeHead, ref_count}
 pub use Rattle.bplist_objects.specs.Units.{IsTextKind, units_of}
 pub use Rattle.bplist_objects.specs.Value.{Value}
 pub use Rattle.bplist_objects.specs.declared.head.Kind.TheVariants.{Bytes}
 pub use Rattle.bplist_cert.specs.CheckedFile.{HonestlyChecked}
-pub use Rattle.bplist_cert.specs.Valid.{IsVouchedBy}
+pub use Rattle.bplist_cert.specs.Valid.{IsValid, IsVouchedBy}
 pub use Rattle.bplist_cursor.specs.Causes.{GivesRead, read_failed}
 pub use Rattle.bplist_cursor.specs.Formless.{IsFormless}
 pub use Rattle.bplist_cursor.specs.Found.{IsHeld}
@@ -17,7 +17,7 @@ pub use Rattle.bplist_cursor.specs.Sizes.{AreMeasures, form_in}
 pub use Rattle.bplist_cursor.specs.Texts.{quoted, text_of_bytes, text_of_units}
 pub use Rattle.bplist_cursor.specs.declared.faults.Unread.TheVariants.{Read}
 pub use Rattle.bplist_cursor.specs.declared.sizes.Form.TheVariants.{NoForm}
-pub use Rattle.bplist_ascii.specs.Asked.{print_bytes}
+pub use Rattle.bplist_ascii.specs.Asked.{print_bytes, search_bytes}
 pub use Rattle.bplist_ascii.specs.BoundedWrites.{AddFails, Adds, AddsSome, AddsText, FailsWithin, StaysWithin, TakesWithin, fits, hex_digits, is_unquoted_text, print_read, styled}
 pub use Rattle.bplist_ascii.specs.FormlessSearch.{HasSameFormless}
 pub use Rattle.bplist_ascii.specs.Printed.{IsPrinted, IsPut}

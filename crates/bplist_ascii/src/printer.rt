@@ -3,11 +3,11 @@
 //! The measures tell beforehand whether the value has a text and how long it is. So nothing is written if it has none,
 //! or if the text is too long.
 
-ghost use Rattle.std.specs.Prelude.{◌≡◌, ℕ, ◌+◌, ◌≤◌, List, Some, length, Err, OnOk, OnErr};
+ghost use Rattle.std.specs.Prelude.{◌≡◌, ℕ, ◌+◌, ◌≤◌, List, Some, None, length, Err, OnOk, OnErr};
 ghost use Rattle.bplist_cursor.specs.declared.faults.Unread.TheVariants.{Changed as unread_changed};
 ghost use Rattle.bplist_ascii.specs.Prelude.{Read as unread_read, PrintFault as print_fault, HonestlyChecked, Value};
 ghost use Rattle.bplist_ascii.specs.Prelude.{Holds, IsVouchedBy, OnlyReadsFile, AreMeasures, AtMost, Takes, print_read};
-ghost use Rattle.bplist_ascii.specs.Prelude.{IsPut, IsPrinted, print_bytes, value_text};
+ghost use Rattle.bplist_ascii.specs.Prelude.{IsPut, IsPrinted, print_bytes, search_bytes, value_text};
 ghost use Rattle.bplist_ascii.specs.declared.printer.PrintFault.TheVariants as print_faults;
 ghost use Rattle.bplist_ascii.specs.declared.printer.PrintFault.TheVariants.{Changed};
 
@@ -113,6 +113,9 @@ pub fn print_into<S: Source, W: Write>(
     ensures asks { HonestlyChecked checked.old (λ f F. IsVouchedBy checked.old.certificate.heights node.object.0
         → (v : Value) → Holds f F node.object.0 v → (text : List ℕ) → value_text v ≡ Some text
         → checked.new.asked ≤ checked.old.asked + print_bytes limit (length text)) }
+    ensures asks_search { HonestlyChecked checked.old (λ f F. IsVouchedBy checked.old.certificate.heights node.object.0
+        → (v : Value) → Holds f F node.object.0 v → value_text v ≡ None
+        → checked.new.asked ≤ checked.old.asked + search_bytes F) }
     ensures exact { HonestlyChecked checked.old (λ f F. IsVouchedBy checked.old.certificate.heights node.object.0
         → (v : Value) → Holds f F node.object.0 v
         → IsPut (W.contents out.old) (W.contents out.new) sink.old sink.new f F node.object.0 v limit result) }
@@ -169,6 +172,9 @@ pub fn print<S: Source, W: Write>(
     ensures asks { HonestlyChecked checked.old (λ f F. IsVouchedBy checked.old.certificate.heights node.object.0
         → (v : Value) → Holds f F node.object.0 v → (text : List ℕ) → value_text v ≡ Some text
         → checked.new.asked ≤ checked.old.asked + print_bytes limit (length text)) }
+    ensures asks_search { HonestlyChecked checked.old (λ f F. IsVouchedBy checked.old.certificate.heights node.object.0
+        → (v : Value) → Holds f F node.object.0 v → value_text v ≡ None
+        → checked.new.asked ≤ checked.old.asked + search_bytes F) }
     ensures exact { HonestlyChecked checked.old (λ f F. IsVouchedBy checked.old.certificate.heights node.object.0
         → (v : Value) → Holds f F node.object.0 v
         → IsPrinted (W.contents out.old) (W.contents out.new) f F node.object.0 v limit result) }
