@@ -1,5 +1,5 @@
 -- What the search for the first object without a text asks for: it comes to lower and lower objects, so to none twice.
-use Rattle.std.proofs.Common.{arith, ◌≡◌, ◌≢◌, ℕ, zero, suc, ◌+◌, ◌*◌, ◌<◌, ◌≤◌, List, [], ◌∷◌, length, slice_index, Contains, ◌⊎◌, inl, inr, true, false, refl, sym, ap, ◌∙◌, subst}
+use Rattle.std.proofs.Common.{arith, ◌≡◌, ◌≢◌, ℕ, zero, suc, ◌+◌, ◌*◌, ◌<◌, ◌≤◌, List, [], ◌∷◌, length, slice_index, Contains, ◌⊎◌, inl, inr, true, false, refl, sym, ◌∙◌, subst}
 use Rattle.std.proofs.Math.Dec.{eqb}
 use Rattle.std.proofs.Math.Nat.{mul-le-mul_left}
 use Rattle.std.proofs.lemmas.Bool.Decides.{Decides-eqb, eqb_tells}
