@@ -55,7 +55,7 @@ EACH_OF = {
     # A split parts one key from all others, and each visit of a key reads its head and its next units: two jumps.
     "keys_that_peel": {"certify --sorted FILE": 350},
     "keys_of_one_length_that_peel": {"lint FILE": 200, "check FILE, version 1": 200, "certify --sorted FILE": 400},
-    # To get its rank, a long key is compared with up to thirteen others, and each comparison reads both.
+    # At 64 kB the keys are just too short for a rank, so that each pair is compared.
     "pairs_of_keys": {"check-2": 20},
 }
 
