@@ -29,7 +29,7 @@ use Rattle.bplist_objects.proofs.References.{length-nums_at, all_refs, each_ref}
 use Rattle.bplist_objects.proofs.HeadTies.{kept_announces, kept_spells, spells_keeps, shape_announced}
 use Rattle.bplist_objects.proofs.FirstFaults.{no_frame}
 use Rattle.bplist_objects.specs.Scan.{ref}
-use Rattle.bplist_cert.specs.Lists.{Keyed, Lists, lists, IsWhole, list_of}
+use Rattle.bplist_cert.specs.Lists.{Keyed, Lists, lists, IsCompleteList, list_of}
 use Rattle.bplist_cert.specs.Valid.{IsVouchedBy, IsVouched, IsValid}
 use Rattle.bplist_cert.specs.Sorted.{IsSorted, IsAccepted}
 use Rattle.bplist_cert.specs.Looks.{KeepBeforeKeysBelow}
@@ -104,7 +104,7 @@ sorted f F head list all texts order =
 abbrev AreListed : List ℕ → Frame → List ℕ → Option Keyed → Type 0
 AreListed f F heights keys =
     IfSome keys (λ keyed. (n : ℕ) (ks ms : List ℕ) → IsVouchedBy heights n → Spells f F n (dict ks ms)
-    → IsWhole keyed n (length ks) × IsSorted f F ks (list_of keyed n (length ks)))
+    → IsCompleteList keyed n (length ks) × IsSorted f F ks (list_of keyed n (length ks)))
 
 -- the lists of vouched dictionaries
 listed : (f : List ℕ) (F : Frame) (heights : List ℕ) (keys : Option Keyed) → IsFrame f F → length heights ≡ F.objects
@@ -121,7 +121,7 @@ listed f F heights (Some keyed) frame all kept = λ n ks ms v s.
     let order = known.1 in
     let many = length-nums_at f head.body F.ref_size head.count in
     let whole : length (list_of keyed n head.count) ≡ head.count = length-take-le head.count (drop (slice_index keyed.starts n) keyed.positions) (omega (arith, length-drop (slice_index keyed.starts n) keyed.positions, order.0)) in
-    subst (λ ks. IsWhole keyed n (length ks) × IsSorted f F ks (list_of keyed n (length ks))) (sym is.1) (
+    subst (λ ks. IsCompleteList keyed n (length ks) × IsSorted f F ks (list_of keyed n (length ks))) (sym is.1) (
       omega (arith, order.0, many),
       subst (λ c. IsSorted f F (key_refs f F head) (part keyed.positions (slice_index keyed.starts n) c)) (sym many) (sorted f F head (list_of keyed n head.count) whole texts order.1),
     )

@@ -16,7 +16,7 @@ use Rattle.bplist_objects.specs.Scan.{ref}
 use Rattle.bplist_keys.specs.LongRanks.{IsRankedAs}
 use Rattle.bplist_keys.specs.Texts.{HasTextShape, text_units}
 use Rattle.bplist_keys.proofs.TextUnits.{text_units-head, units_there}
-use Rattle.bplist_cert.specs.Lists.{Keyed, IsWhole}
+use Rattle.bplist_cert.specs.Lists.{Keyed, IsCompleteList}
 use Rattle.bplist_cert.specs.Valid.{IsVouchedBy}
 use Rattle.bplist_cert.specs.Looks.{KeepsBeforeKeys, KeepBeforeKeysBelow}
 use Rattle.bplist_cert.specs.KeysLooks.{IsListed}
@@ -159,7 +159,7 @@ module _ (f : List ℕ) (F : Frame) where
       (shapes_texts framed head (keys_inside f F n (seen_own f F heights n (seen n within vouched)) head has dict) (sound_keys f F heights seen n within vouched head has dict) keys.0, keys.1)
 
   -- a list of an object without references that starts among the positions is good
-  pub low_listed : (heights : List ℕ) (n : ℕ) → KeepsBeforeKeys f F heights n → (keyed : Keyed) → slice_index heights n ≤ 1 → IsWhole keyed n 0 → IsListed f F keyed n
+  pub low_listed : (heights : List ℕ) (n : ℕ) → KeepsBeforeKeys f F heights n → (keyed : Keyed) → slice_index heights n ≤ 1 → IsCompleteList keyed n 0 → IsListed f F keyed n
   low_listed heights n seen keyed least start head has dict =
       (λ k low. absurd (none_there k low), (omega (arith, start, none_at), λ j l. absurd (none_there j l)))
     where
@@ -169,7 +169,7 @@ module _ (f : List ℕ) (F : Frame) where
       none_at : head.count ≡ 0
       none_at = elim (cases_lt 0 head.count) [ inl some ↦ absurd (none_there 0 some) | inr none ↦ omega (arith, none) ]
 
-  pub low_list : (heights : List ℕ) (n : ℕ) → KeepsBeforeKeys f F heights n → (keyed : Keyed) → slice_index heights n ≤ 1 → IsWhole keyed n 0 → HasGoodKeys f F (Some keyed) n
+  pub low_list : (heights : List ℕ) (n : ℕ) → KeepsBeforeKeys f F heights n → (keyed : Keyed) → slice_index heights n ≤ 1 → IsCompleteList keyed n 0 → HasGoodKeys f F (Some keyed) n
   low_list heights n seen keyed least start head has dict =
       ((good_low f F heights n seen least head has dict).0, (low_listed heights n seen keyed least start head has dict).1)
 

@@ -21,7 +21,7 @@ use Rattle.bplist_keys.specs.Texts.{text_units}
 use Rattle.bplist_keys.specs.Ranks.{AreClasses}
 use Rattle.bplist_keys.specs.declared.class_table.KeyDefect.{KeyDefect}
 use Rattle.bplist_keys.specs.declared.class_table.KeyDefect.TheVariants as defects
-use Rattle.bplist_keys.specs.Classes.{HasNamedKeys, AreClassed, HaveClasses, AreApart, IsKeyDefect, IsWrongFault}
+use Rattle.bplist_keys.specs.Classes.{HasNamedKeys, AreClassed, HaveClasses, HaveOwnClasses, IsKeyDefect, IsWrongFault}
 use Rattle.bplist_objects.specs.Claims.{FailsAt}
 use Rattle.bplist_objects.proofs.ClaimLaws.{fails_too}
 use Rattle.bplist_keys.proofs.RankLaws.{none_marked, classes_same}
@@ -113,7 +113,7 @@ module _ (f : List ℕ) (F : Frame) where
     units_at : (k : ℕ) (key : Head) → IsText f F (ref f F head k) key → text_units f F (ref f F head k) ≡ units_of f key
     units_at k key is = text_units-head f F (ref f F head k) key (is.is.0, is.kind)
 
-    pub apart_differ : (count : ℕ) → count ≤ head.count → AreApart (ref f F head) classes count → KeysDiffer f F head count
+    pub apart_differ : (count : ℕ) → count ≤ head.count → HaveOwnClasses (ref f F head) classes count → KeysDiffer f F head count
     apart_differ count few apart i j low high a b is_a is_b same =
         let i_low : i < head.count = omega (arith, few, low, high) in
         let j_low : j < head.count = omega (arith, few, high) in
@@ -124,7 +124,7 @@ module _ (f : List ℕ) (F : Frame) where
     texts_classed count few texts k low = let t = texts k low in class_at k (omega (arith, few, low)) t.0 t.1
 
     module _ (texts : KeysAreTexts f F head head.count) where
-      differ_apart : (count : ℕ) → count ≤ head.count → KeysDiffer f F head count → AreApart (ref f F head) classes count
+      differ_apart : (count : ℕ) → count ≤ head.count → KeysDiffer f F head count → HaveOwnClasses (ref f F head) classes count
       differ_apart count few differ i j low high same =
           let i_low : i < head.count = omega (arith, few, low, high) in
           let j_low : j < head.count = omega (arith, few, high) in
@@ -134,8 +134,8 @@ module _ (f : List ℕ) (F : Frame) where
           (sym (units_at i a.0 a.1) ∙ (classed.same i j i_low j_low (class_at i i_low a.0 a.1) (class_at j j_low b.0 b.1)).0 same ∙ units_at j b.0 b.1)
 
       -- the first class that comes again is that of the first key that comes twice
-      pub again_twice : (j : ℕ) → FailsAt (AreApart (ref f F head) classes) head.count j → IsFirstTwice f F head j
-      again_twice = fails_too (AreApart (ref f F head) classes) (KeysDiffer f F head) head.count apart_differ differ_apart
+      pub again_twice : (j : ℕ) → FailsAt (HaveOwnClasses (ref f F head) classes) head.count j → IsFirstTwice f F head j
+      again_twice = fails_too (HaveOwnClasses (ref f F head) classes) (KeysDiffer f F head) head.count apart_differ differ_apart
 
       -- if keys that are texts are wrong, then because one comes twice
       pub twice_fault : (n : ObjectNo) (wrong : KeyDefect) (fault : Fault) → IsKeyDefect (ref f F head) classes head.count wrong → IsWrongFault F n head wrong fault → IsTwiceFault f F n.0 head fault

@@ -18,7 +18,7 @@ use Rattle.bplist_objects.proofs.ProperLeaves.{spells_bodies}
 use Rattle.bplist_objects.proofs.HeadTies.{shape_announced}
 use Rattle.bplist_cert.specs.DictKeys.{IsText}
 use Rattle.bplist_cert.specs.declared.caches.Stretch.{Stretch}
-use Rattle.bplist_cert.specs.LowBytes.{IsLow, stretch_at, AreLow}
+use Rattle.bplist_cert.specs.LowBytes.{IsLow, stretch_at, AreLowStretches}
 
 -- no stretch
 abbrev pub no_stretch : Stretch
@@ -28,14 +28,14 @@ abbrev LowStretch : List ℕ → Stretch → Type 0
 LowStretch f x = IsLow f x.from x.to
 
 -- a stretch that is put
-pub low_put : (f : List ℕ) (slots : List Stretch) (r : ℕ) (x : Stretch) → r < length slots → AreLow f slots → IsLow f x.from x.to → AreLow f (set slots r x)
+pub low_put : (f : List ℕ) (slots : List Stretch) (r : ℕ) (x : Stretch) → r < length slots → AreLowStretches f slots → IsLow f x.from x.to → AreLowStretches f (set slots r x)
 low_put f slots r x within old new i = elim (cases_eq i r) [
   | inl e ↦ subst (λ j. LowStretch f (stretch_at (set slots r x) j)) (sym e) (subst (LowStretch f) (sym (get_or-set_same slots r x no_stretch within)) new)
   | inr d ↦ subst (LowStretch f) (sym (get_or-set_other slots r i x no_stretch d)) (old i)
 ]
 
 -- a table without stretches
-pub low_none : (f : List ℕ) (n : ℕ) → AreLow f (replicate n no_stretch)
+pub low_none : (f : List ℕ) (n : ℕ) → AreLowStretches f (replicate n no_stretch)
 low_none f n i = elim (cases_lt i n) [
   | inl within ↦ subst (LowStretch f) (sym (get_or-replicate n i no_stretch no_stretch within)) (λ k from l. absurd (omega (arith, l)))
   | inr past ↦ subst (LowStretch f) (sym (get_or_past (replicate n no_stretch) i no_stretch (omega (arith, past, length-replicate {A = Stretch} n no_stretch)))) (λ k from l. absurd (omega (arith, l)))

@@ -16,7 +16,7 @@ use Rattle.bplist_objects.specs.ObjectRules.{KeepsByObject, BreaksByObject, obje
 use Rattle.bplist_objects.specs.Extents.{IsOverfull}
 use Rattle.bplist_objects.specs.Claims.{FailsAt}
 use Rattle.bplist_objects.specs.Scan.{ref}
-use Rattle.bplist_cert.specs.Lists.{Keyed, Lists, IsWhole, list_of}
+use Rattle.bplist_cert.specs.Lists.{Keyed, Lists, IsCompleteList, list_of}
 use Rattle.bplist_cert.specs.Valid.{IsVouchedBy}
 use Rattle.bplist_cert.specs.DictKeys.{KeysAreTexts, KeysDiffer, AreInOrder, IsKeylessFault, IsTwiceFault}
 
@@ -35,14 +35,14 @@ check_rules keys = rules_before_keys ++ key_rules keys
 -- the key list of dictionary n is complete and in order
 abbrev pub HasOrder : List ℕ → Frame → Keyed → ℕ → Head → Type 0
 HasOrder f F keyed n head =
-    IsWhole keyed n head.count × AreInOrder f F head (list_of keyed n head.count) head.count
+    IsCompleteList keyed n head.count × AreInOrder f F head (list_of keyed n head.count) head.count
 
 -- the key list is incomplete, or number j is its first that is out of order; the place is that in the certificate
 abbrev pub BreaksOrder : List ℕ → Frame → ℕ → Keyed → ℕ → Head → ℕ → Type 0
 BreaksOrder f F count keyed n head place =
     ((length keyed.positions < slice_index keyed.starts n + head.count)
     × (place ≡ 16 + 4 * count + 4 * n))
-    ⊎ (IsWhole keyed n head.count
+    ⊎ (IsCompleteList keyed n head.count
     × ((j : ℕ) × FailsAt (AreInOrder f F head (list_of keyed n head.count)) head.count j
     × (place ≡ 16 + 8 * count + 4 * (slice_index keyed.starts n + j))))
 

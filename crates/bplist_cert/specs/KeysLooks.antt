@@ -11,7 +11,7 @@ use Rattle.bplist_cert.specs.Valid.{IsVouchedBy}
 use Rattle.bplist_cert.specs.CheckRules.{HasOrder}
 use Rattle.bplist_cert.specs.KeyPairs.{AreKnown, HaveTextShapes}
 use Rattle.bplist_cert.specs.KeyRepeats.{HaveNamedKeys}
-use Rattle.bplist_cert.specs.LowBytes.{AreLow}
+use Rattle.bplist_cert.specs.LowBytes.{AreLowStretches}
 
 -- if object n is a dictionary, its keys are texts by marker and count, and its key list has them in order
 abbrev pub IsListed : List ℕ → Frame → Keyed → ℕ → Type 0
@@ -19,7 +19,7 @@ IsListed f F keyed n = (head : Head) → HasHead f F n head → head.kind ≡ Di
 
 -- the caches that keys are looked up in are true of the file
 abbrev pub AreLearnt : List ℕ → Frame → KeyListFindings → Type 0
-AreLearnt f F look = AreKnown f F look.pairs × AreLow f look.low.slots
+AreLearnt f F look = AreKnown f F look.pairs × AreLowStretches f look.low.slots
 
 -- the caches are true of the file, and if the walk found all key lists good, then those below a bound are
 pub record HaveGoodLists (f : List ℕ) (F : Frame) (heights : List ℕ) (keyed : Keyed) (bound : ℕ) (look : KeyListFindings) : Type 0 where

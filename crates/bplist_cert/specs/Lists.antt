@@ -8,8 +8,8 @@ pub record Keyed : Type 0 where
   pub positions : List ℕ
 
 -- the key list of object n, with `count` positions, is complete
-abbrev pub IsWhole : Keyed → ℕ → ℕ → Type 0
-IsWhole keyed n count = slice_index keyed.starts n + count ≤ length keyed.positions
+abbrev pub IsCompleteList : Keyed → ℕ → ℕ → Type 0
+IsCompleteList keyed n count = slice_index keyed.starts n + count ≤ length keyed.positions
 
 -- the key list of object n
 abbrev pub list_of : Keyed → ℕ → ℕ → List ℕ

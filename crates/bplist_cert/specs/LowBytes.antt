@@ -12,5 +12,5 @@ abbrev pub stretch_at : List Stretch → ℕ → Stretch
 stretch_at slots i = slice_index_or slots i (record { from = 0; to = 0 })
 
 -- each slot has such a stretch of this file
-abbrev pub AreLow : List ℕ → List Stretch → Type 0
-AreLow f slots = (i : ℕ) → IsLow f (stretch_at slots i).from (stretch_at slots i).to
+abbrev pub AreLowStretches : List ℕ → List Stretch → Type 0
+AreLowStretches f slots = (i : ℕ) → IsLow f (stretch_at slots i).from (stretch_at slots i).to

@@ -9,7 +9,7 @@
 
 ghost use Rattle.std.specs.Prelude.{◌≡◌, ◌+◌, ◌*◌, ℕ, List, IsTrue, ◌↔◌, ◌≤◌, ◌<◌, length, IfOk};
 ghost use Rattle.std.specs.Result.{result_err};
-ghost use Rattle.bplist_cert.specs.Prelude.{Frame as frame, Ascends, AreKnown, OnlyReads, Honestly, IsLow, AreLow};
+ghost use Rattle.bplist_cert.specs.Prelude.{Frame as frame, Ascends, AreKnown, OnlyReads, Honestly, IsLow, AreLowStretches};
 
 use bplist_keys::{LongTexts, RunCache};
 use bplist_objects::first_high_in;
@@ -88,7 +88,7 @@ pub(crate) struct LowBytesCache {
 impl LowBytesCache {
     /// Returns an empty cache for a file of `len` bytes.
     pub(crate) fn new(len: u64) -> LowBytesCache
-        ensures { (f : List ℕ) → AreLow f result.slots }
+        ensures { (f : List ℕ) → AreLowStretches f result.slots }
     {
         LowBytesCache {
             slots: [Stretch { from: 0, to: 0 }; STRETCHES],
@@ -106,8 +106,8 @@ impl LowBytesCache {
         requires order { from ≤ to }
         requires within { to ≤ length (S.means src.old).octets }
         ensures reads { OnlyReads (result_err result) (S.means src.old) (S.means src.new) }
-        ensures exact { Honestly (S.means src.old) (λ f. AreLow f self.old.slots
-            → IfOk result (λ low. AreLow f self.new.slots × (IsTrue low ↔ IsLow f from to))) }
+        ensures exact { Honestly (S.means src.old) (λ f. AreLowStretches f self.old.slots
+            → IfOk result (λ low. AreLowStretches f self.new.slots × (IsTrue low ↔ IsLow f from to))) }
     {
         // The slot of the part that the first byte is in.
         let slot = (from / self.part.max(1) % STRETCHES as u64) as usize;

@@ -10,7 +10,7 @@ ghost use Rattle.std.specs.Prelude.{◌≡◌, ◌↔◌, IsTrue, ℕ, ◌+◌, 
 ghost use Rattle.std.specs.Prelude.{None};
 ghost use Rattle.std.specs.Result.{result_err};
 ghost use Rattle.bplist_cert.specs.Prelude.{OnlyReads, frame_in, HonestlyIn, IsSafeHead, Gives, read_failed, KeyKind};
-ghost use Rattle.bplist_cert.specs.Prelude.{Dict, Head as head_record, IsText, KeysAreTexts, IsKeylessFault, AreLow};
+ghost use Rattle.bplist_cert.specs.Prelude.{Dict, Head as head_record, IsText, KeysAreTexts, IsKeylessFault, AreLowStretches};
 ghost use Rattle.bplist_cert.specs.Prelude.{FailsAt, HasHead, ref};
 ghost use Rattle.bplist_cert.specs.Prelude.{Head as head, HaveNamedKeys, AreClassed, IsStamped, IsNew};
 ghost use Rattle.bplist_cert.specs.Prelude.{lists, KeepBeforeKeysBelow, IsVouchedBy, HasGoodKeys};
@@ -50,8 +50,8 @@ struct KeyTables {
 /// 128.
 fn is_text<P: Offsets>(src: &mut P, low: &mut LowBytesCache, m: u64) -> Result<bool, ReadFault>
     ensures reads { OnlyReads (result_err result) (P.means src.old) (P.means src.new) }
-    ensures exact { HonestlyIn (P.means src.old) (λ f F. AreLow f low.old.slots
-        → IfOk result (λ text. AreLow f low.new.slots × (IsTrue text ↔ ((key : head_record) × IsText f F m key)))) }
+    ensures exact { HonestlyIn (P.means src.old) (λ f F. AreLowStretches f low.old.slots
+        → IfOk result (λ text. AreLowStretches f low.new.slots × (IsTrue text ↔ ((key : head_record) × IsText f F m key)))) }
 {
     let frame = src.frame();
     let _len = src.len();
@@ -80,7 +80,7 @@ fn first_keyless<P: Offsets>(
     ensures inside { IfOk result (λ found. IfSome found (λ i. i < from + length refs.now)) }
     ensures exact { HonestlyIn (P.means src.old) (λ f F. (head : head_record)
         → ((k : ℕ) → k < length refs.now → slice_index refs.now k ≡ ref f F head (from + k))
-        → KeysAreTexts f F head from → AreLow f low.old.slots → IfOk result (λ found. AreLow f low.new.slots
+        → KeysAreTexts f F head from → AreLowStretches f low.old.slots → IfOk result (λ found. AreLowStretches f low.new.slots
         × MatchOption found (KeysAreTexts f F head (from + length refs.now))
         (FailsAt (KeysAreTexts f F head) (from + length refs.now)))) }
 {
@@ -101,8 +101,8 @@ pub(crate) fn check_texts<P: Offsets>(
 ) -> Result<(), ObjectFault>
     requires head { IsSafeHead (frame_in (P.means src.old)) dict.now.head }
     ensures reads { OnlyReads (read_failed result) (P.means src.old) (P.means src.new) }
-    ensures exact { HonestlyIn (P.means src.old) (λ f F. AreLow f low.old.slots
-        → Gives (λ _. AreLow f low.new.slots × KeysAreTexts f F dict.now.head dict.now.head.count)
+    ensures exact { HonestlyIn (P.means src.old) (λ f F. AreLowStretches f low.old.slots
+        → Gives (λ _. AreLowStretches f low.new.slots × KeysAreTexts f F dict.now.head dict.now.head.count)
         (IsKeylessFault f F dict.now.n.0 dict.now.head) result) }
 {
     let mut keys = RefBlocks::keys_of(&dict.head);
@@ -131,8 +131,8 @@ fn check_dict_repeats<P: Offsets>(
     ensures exact { HonestlyIn (P.means src.old) (λ f F. n < seen.now.bound → IsVouchedBy seen.now.heights.now n
         → KeepBeforeKeysBelow f F seen.now.heights.now seen.now.bound
         → ((head : head) → HasHead f F n head → head.kind ≡ Dict → AreClassed f F look.old.table.classes.table.items head)
-        → IsNew look.old.table.seen.items n → AreLow f look.old.low.slots
-        → Judges (λ _. AreLow f look.new.low.slots × HasGoodKeys f F None n) (BreaksKeys f F F.objects None n) result) }
+        → IsNew look.old.table.seen.items n → AreLowStretches f look.old.low.slots
+        → Judges (λ _. AreLowStretches f look.new.low.slots × HasGoodKeys f F None n) (BreaksKeys f F F.objects None n) result) }
 {
     let frame = src.frame();
     let head = object_shape(src, n)?;

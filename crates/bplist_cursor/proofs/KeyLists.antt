@@ -10,7 +10,7 @@ use Rattle.bplist_objects.specs.Heads.{Spells, leaf, dict}
 use Rattle.bplist_objects.specs.Units.{compare_units}
 use Rattle.bplist_objects.proofs.Fronts.{one_head}
 use Rattle.bplist_objects.proofs.UnitOrder.{compare_units-less_less}
-use Rattle.bplist_cert.specs.Lists.{Keyed, IsWhole, list_of}
+use Rattle.bplist_cert.specs.Lists.{Keyed, IsCompleteList, list_of}
 use Rattle.bplist_cert.specs.Valid.{IsVouchedBy, SpellsText}
 use Rattle.bplist_cert.specs.Sorted.{IsSorted}
 use Rattle.bplist_cert.specs.CheckedFile.{CheckedFile, IsChecked}
@@ -59,7 +59,7 @@ module _ (f : List ℕ) (F : Frame) where
 module _ (checked : CheckedFile) (is : IsChecked checked) (honest : IsTrue checked.source.honest) (n : ℕ) (ks ms : List ℕ)
     (vouched : IsVouchedBy checked.certificate.heights n) (spells : Spells checked.source.octets checked.frame n (dict ks ms))
     (keyed : Keyed) (has : checked.certificate.keys ≡ Some keyed) where
-  listed : ∥ IsWhole keyed n (length ks) × IsSorted checked.source.octets checked.frame ks (list_of keyed n (length ks)) ∥₁
+  listed : ∥ IsCompleteList keyed n (length ks) × IsSorted checked.source.octets checked.frame ks (list_of keyed n (length ks)) ∥₁
   listed = ∥∥₁_map (is.accepted honest) (λ a. (rw has at a.listed) n ks ms vouched spells)
 
   pub list_room : slice_index keyed.starts n + length ks ≤ length keyed.positions

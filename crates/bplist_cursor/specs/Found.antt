@@ -12,8 +12,8 @@ use Rattle.bplist_cursor.specs.declared.node.Found.{Found}
 use Rattle.bplist_cursor.specs.declared.node.Found.TheVariants.{At, Missing}
 
 -- the units of steps
-abbrev pub units_of : List (Vec ℕ Global) → List (List ℕ)
-units_of steps = map (λ step. step.items) steps
+abbrev pub units_of_steps : List (Vec ℕ Global) → List (List ℕ)
+units_of_steps steps = map (λ step. step.items) steps
 
 -- object n is vouched for and holds v
 abbrev pub IsHeld : CheckedFile → ℕ → Value → Type 0

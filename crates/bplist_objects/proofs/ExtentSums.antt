@@ -7,7 +7,7 @@ use Rattle.bplist_objects.specs.declared.head.Head.{Head}
 use Rattle.bplist_objects.specs.Frame.{off}
 use Rattle.bplist_objects.specs.Heads.{HasShape}
 use Rattle.bplist_objects.specs.Holds.{AreDistinct}
-use Rattle.bplist_objects.specs.Extents.{TakeOctets, AtMost, Sums, HaveRoom, IsOverfull}
+use Rattle.bplist_objects.specs.Extents.{TakeOctets, TakeAtMost, Sums, HaveRoom, IsOverfull}
 use Rattle.bplist_objects.specs.Markers.{markers_of}
 use Rattle.bplist_objects.proofs.AnnouncedHeads.{announced_short}
 use Rattle.bplist_objects.proofs.HeadLaws.{head_parts}
@@ -87,17 +87,17 @@ module _ (f : List ℕ) (F : Frame) where
           }
 
   -- the steps of a running sum over the objects in order
-  pub most_none : (S : ℕ → Type 0) → AtMost f F (λ m. S m × (m < 0)) 0
+  pub most_none : (S : ℕ → Type 0) → TakeAtMost f F (λ m. S m × (m < 0)) 0
   most_none S [] r d a t = omega (arith, t)
   most_none S (x ∷ xs) r d a t = absurd (omega (arith, a.0.1))
 
-  pub most_more : (S : ℕ → Type 0) (n e t : ℕ) → HasExtent n e → AtMost f F (λ m. S m × (m < n)) t → AtMost f F (λ m. S m × (m < suc n)) (t + e)
+  pub most_more : (S : ℕ → Type 0) (n e t : ℕ) → HasExtent n e → TakeAtMost f F (λ m. S m × (m < n)) t → TakeAtMost f F (λ m. S m × (m < suc n)) (t + e)
   most_more S n e t h most ns r d a w =
       let l = left S n e h ns r d a w in
       let b = most l.rest l.sum l.differ l.below l.take in
       omega (arith, l.most, b)
 
-  most_same : (S : ℕ → Type 0) (n t : ℕ) → (S n → ⊥) → AtMost f F (λ m. S m × (m < n)) t → AtMost f F (λ m. S m × (m < suc n)) t
+  most_same : (S : ℕ → Type 0) (n t : ℕ) → (S n → ⊥) → TakeAtMost f F (λ m. S m × (m < n)) t → TakeAtMost f F (λ m. S m × (m < suc n)) t
   most_same S n t no1 most ns r d a w =
       most ns r d (all_from _ ns (λ m c.
       let p = all_at _ ns m a c in

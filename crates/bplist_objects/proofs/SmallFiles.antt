@@ -8,7 +8,7 @@ use Rattle.bplist_objects.specs.declared.rule.Rule.TheVariants.{Magic, RefNarrow
 use Rattle.bplist_objects.specs.Value.{boolean, text, leaf, array, value, no_values, dict, pair, no_pairs}
 use Rattle.bplist_objects.specs.Heads.{Content, Spells}
 use Rattle.bplist_objects.specs.Reach.{Reach}
-use Rattle.bplist_objects.specs.Extents.{HaveRoom, AtMost}
+use Rattle.bplist_objects.specs.Extents.{HaveRoom, TakeAtMost}
 use Rattle.bplist_objects.specs.File.{FileHolds}
 use Rattle.bplist_objects.specs.SmallFiles.{small_file}
 use Rattle.bplist_objects.proofs.Lists.{all_weaker}
@@ -36,7 +36,7 @@ small_frame f begins n ref offset =
     trailer_is_frame f (n.large, (n.short, (magic, (n.objects, (n.top, (n.table_early, (n.table_late, (n.offset_size, (n.ref_size, (n.whole, (ref, (offset, (n.offsets, tt)))))))))))))
 
 -- the bytes that all objects take bound those that the reachable objects take
-reached_room : (f : List ℕ) (F : Frame) (t : ℕ) → F.top.0 < F.objects → AtMost f F (λ m. Reach f F m × (m < F.objects)) t → t + 8 ≤ F.table → HaveRoom f F (Reach f F)
+reached_room : (f : List ℕ) (F : Frame) (t : ℕ) → F.top.0 < F.objects → TakeAtMost f F (λ m. Reach f F m × (m < F.objects)) t → t + 8 ≤ F.table → HaveRoom f F (Reach f F)
 reached_room f F t top most room ns r d a taken =
     let b = most ns r d (all_weaker (Reach f F) _ (λ m e. (e, reach_within f F top m e)) ns a) taken in
     omega (arith, b, room)
@@ -74,7 +74,7 @@ true_0 = record {
   means = refl;
 }
 
-true_most : AtMost row_true (trailer row_true) (λ m. Reach row_true (trailer row_true) m × (m < 1)) 1
+true_most : TakeAtMost row_true (trailer row_true) (λ m. Reach row_true (trailer row_true) m × (m < 1)) 1
 unfolding num true_0
 true_most =
     let f = row_true in
@@ -138,7 +138,7 @@ array_1 = record {
   means = refl;
 }
 
-array_most : AtMost row_array (trailer row_array) (λ m. Reach row_array (trailer row_array) m × (m < 2)) 4
+array_most : TakeAtMost row_array (trailer row_array) (λ m. Reach row_array (trailer row_array) m × (m < 2)) 4
 unfolding num array_0 array_1
 array_most =
     let f = row_array in
@@ -215,7 +215,7 @@ dict_2 = record {
   means = refl;
 }
 
-dict_most : AtMost row_dict (trailer row_dict) (λ m. Reach row_dict (trailer row_dict) m × (m < 3)) 6
+dict_most : TakeAtMost row_dict (trailer row_dict) (λ m. Reach row_dict (trailer row_dict) m × (m < 3)) 6
 unfolding num dict_0 dict_1 dict_2
 dict_most =
     let f = row_dict in

@@ -18,8 +18,8 @@ module _ (f : List ℕ) (F : Frame) where
   TakeOctets (n ∷ ns) t = (e r : ℕ) × Takes n e × TakeOctets ns r × (t ≡ e + r)
 
   -- no distinct objects of S take more than t bytes together
-  abbrev pub AtMost : (ℕ → Type 0) → ℕ → Type 0
-  AtMost S t = (ns : List ℕ) (r : ℕ) → AreDistinct ns → AllByRecursion S ns → TakeOctets ns r → r ≤ t
+  abbrev pub TakeAtMost : (ℕ → Type 0) → ℕ → Type 0
+  TakeAtMost S t = (ns : List ℕ) (r : ℕ) → AreDistinct ns → AllByRecursion S ns → TakeOctets ns r → r ≤ t
 
   -- together the objects of S below n take t bytes
   pub record Sums (S : ℕ → Type 0) (n t : ℕ) : Type 0 where
@@ -27,7 +27,7 @@ module _ (f : List ℕ) (F : Frame) where
     pub differ : AreDistinct objects
     pub inside : AllByRecursion (λ m. S m × (m < n)) objects
     pub take_all : TakeOctets objects t
-    pub most : AtMost (λ m. S m × (m < n)) t
+    pub most : TakeAtMost (λ m. S m × (m < n)) t
 
   -- any distinct objects of S fit between the header and the table
   abbrev pub HaveRoom : (ℕ → Type 0) → Type 0

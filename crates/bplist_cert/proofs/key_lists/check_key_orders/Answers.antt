@@ -3,7 +3,7 @@ use Rattle.std.proofs.lemmas.Bool.{cases_eq}
 use Rattle.std.proofs.lemmas.Result.{err_from_is_err_and}
 use Rattle.bplist_objects.specs.declared.frame.Frame.{Frame}
 use Rattle.bplist_objects.specs.Framed.{frame_in}
-use Rattle.bplist_cert.specs.Lists.{Keyed, IsWhole}
+use Rattle.bplist_cert.specs.Lists.{Keyed, IsCompleteList}
 use Rattle.bplist_cert.specs.Valid.{IsVouchedBy}
 use Rattle.bplist_cert.specs.Looks.{KeepBeforeKeysBelow}
 use Rattle.bplist_cert.specs.KeyRepeats.{HasGoodKeys, BreaksKeys}
@@ -78,7 +78,7 @@ loop-n-preserved g c =
                     let positions = ap (λ (x : Keyed). length x.positions) c.keys.view_is in
                     let none = c.may_be_wrong.ensures.none w.if-may_be_wrong.false (omega (arith, c.height_at-height.ensures, here)) in
                     let low_height : slice_index heights n ≤ 1 = omega (arith, c.height_at-height.ensures, none.0) in
-                    let whole : IsWhole c.args.keys.now n 0 = omega (arith, c.height_at.ensures ∙ ap (λ xs. slice_index xs n) starts, none.1, c.len.ensures, positions) in
+                    let whole : IsCompleteList c.args.keys.now n 0 = omega (arith, c.height_at.ensures ∙ ap (λ xs. slice_index xs n) starts, none.1, c.len.ensures, positions) in
                     subst (HasGoodKeys f F (Some c.args.keys.now)) (sym e) (low_list f F heights n (seen n c.loop-n-test.true here) c.args.keys.now low_height whole)
                 | inr d ↦ before.1 m (omega (arith, low, d)) vouched
               ],

@@ -3,7 +3,7 @@ use Rattle.std.proofs.lemmas.Bool.{cases_eq, cases_lt, false≢true}
 use Rattle.std.proofs.lemmas.Result.{err_from_is_err_and}
 use Rattle.bplist_objects.specs.declared.frame.Frame.{Frame}
 use Rattle.bplist_objects.specs.Framed.{frame_in}
-use Rattle.bplist_cert.specs.Lists.{Keyed, IsWhole}
+use Rattle.bplist_cert.specs.Lists.{Keyed, IsCompleteList}
 use Rattle.bplist_cert.specs.Valid.{IsVouchedBy}
 use Rattle.bplist_cert.specs.KeysLooks.{IsListed}
 use Rattle.bplist_cert.proofs.KeyRepeats.{seen_own}
@@ -36,7 +36,7 @@ loop-i-preserved-then-not-may_be_wrong g c =
                   let here = subst (IsVouchedBy heights) e vouched in
                   let none = c.may_be_wrong.ensures.none c.if-not-may_be_wrong.true (omega (arith, height, here)) in
                   let low_height : slice_index heights n ≤ 1 = omega (arith, height, none.0) in
-                  let whole : IsWhole keyed n 0 = omega (arith, start, none.1, c.len.ensures, positions) in
+                  let whole : IsCompleteList keyed n 0 = omega (arith, start, none.1, c.len.ensures, positions) in
                   subst (IsListed f F keyed) (sym e) (low_listed f F heights n (seen n (omega (arith, under)) here) keyed low_height whole)
               | inr d ↦ before.good good m (omega (arith, low, d)) vouched
             ];

@@ -1,7 +1,7 @@
 use Rattle.std.proofs.Common.{◌≡◌, ℕ, ◌≤◌, None, slice_index, IsTrue}
 use Rattle.bplist_objects.specs.Framed.{HonestlyIn}
 use Rattle.bplist_cert.specs.Looks.{KeepBeforeKeysBelow}
-use Rattle.bplist_cert.specs.LowBytes.{AreLow}
+use Rattle.bplist_cert.specs.LowBytes.{AreLowStretches}
 use Rattle.bplist_cert.specs.KeyRepeats.{HaveNamedKeys, HaveGoodKeys}
 use Rattle.bplist_cert.proofs.key_rules.check_named.Given as goal
 
@@ -15,5 +15,5 @@ invariant-loop-n g l =
       stamps : IsTrue m.honest → (x : ℕ) → slice_index l.look.table.seen.items x ≤ l.n;
       exact : HonestlyIn m (λ f F. KeepBeforeKeysBelow f F l.seen.heights.now l.seen.bound
           → HaveNamedKeys f F l.seen.heights.now l.seen.bound l.fn.named.marks.items
-          → AreLow f l.look.low.slots × HaveGoodKeys f F l.seen.heights.now None l.n);
+          → AreLowStretches f l.look.low.slots × HaveGoodKeys f F l.seen.heights.now None l.n);
     }

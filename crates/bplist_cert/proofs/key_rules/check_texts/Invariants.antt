@@ -1,7 +1,7 @@
 use Rattle.std.proofs.Common.{◌≡◌, ◌-◌}
 use Rattle.bplist_objects.specs.Framed.{HonestlyIn}
 use Rattle.bplist_objects.specs.RefBlocks.{AreOf}
-use Rattle.bplist_cert.specs.LowBytes.{AreLow}
+use Rattle.bplist_cert.specs.LowBytes.{AreLowStretches}
 use Rattle.bplist_cert.specs.DictKeys.{KeysAreTexts}
 use Rattle.bplist_cert.proofs.key_rules.check_texts.Given as goal
 
@@ -12,7 +12,7 @@ invariant-loop-src g l =
     record {
       same : means l.src ≡ means l.fn.src;
       of : AreOf l.dict.head l.dict.head.count l.keys;
-      texts : HonestlyIn (means l.fn.src) (λ f F. AreLow f l.fn.low.slots → AreLow f l.low.slots × KeysAreTexts f F l.dict.head l.keys.next);
+      texts : HonestlyIn (means l.fn.src) (λ f F. AreLowStretches f l.fn.low.slots → AreLowStretches f l.low.slots × KeysAreTexts f F l.dict.head l.keys.next);
     }
 
 abbrev pub decreases-loop-src : goal.decreases-loop-src

@@ -2,7 +2,7 @@ use Rattle.std.proofs.Common.{◌≡◌, ℕ, ◌+◌, ◌<◌, length, slice_in
 use Rattle.bplist_objects.specs.declared.head.Head.{Head}
 use Rattle.bplist_objects.specs.Framed.{HonestlyIn}
 use Rattle.bplist_objects.specs.Scan.{ref}
-use Rattle.bplist_cert.specs.LowBytes.{AreLow}
+use Rattle.bplist_cert.specs.LowBytes.{AreLowStretches}
 use Rattle.bplist_cert.specs.DictKeys.{KeysAreTexts}
 use Rattle.bplist_cert.proofs.key_rules.first_keyless.Given as goal
 
@@ -13,5 +13,5 @@ invariant-loop-k g l =
     record {
       same : means l.src ≡ means l.fn.src;
       texts : HonestlyIn (means l.fn.src) (λ f F. (head : Head) → ((k : ℕ) → k < length l.refs → slice_index l.refs k ≡ ref f F head (l.from + k))
-          → KeysAreTexts f F head l.from → AreLow f l.fn.low.slots → AreLow f l.low.slots × KeysAreTexts f F head (l.from + l.k));
+          → KeysAreTexts f F head l.from → AreLowStretches f l.fn.low.slots → AreLowStretches f l.low.slots × KeysAreTexts f F head (l.from + l.k));
     }
