@@ -1,24 +1,24 @@
 -- A line is long enough for what its value asks for.
-use Rattle.std.proofs.Common.{arith, ◌≡◌, ◌≤◌, ◌<◌, ◌+◌, ◌*◌, ◌++◌, ◌∷◌, [], ℕ, zero, suc, Bool, true, false, List, length, codes, cond, if◌then◌else◌, map, flat_map, Option, Some, ℤ, pos, negsuc, refl, sym, ap, subst, ◌∙◌}
+use Rattle.std.proofs.Common.{arith, ◌≡◌, ◌≤◌, ◌+◌, ◌*◌, ◌++◌, ◌∷◌, [], ℕ, zero, suc, Bool, true, false, List, length, codes, cond, if◌then◌else◌, map, flat_map, Option, Some, ℤ, pos, negsuc, refl, sym, ap, subst, ◌∙◌}
 use Rattle.std.specs.Prelude.{◌/◌, ◌%◌, ◌==◌, ◌&&◌, ◌||◌, nat_le, nat_lt, encode_utf8, encode_utf8_all}
 use Rattle.std.specs.List.{list_all, list_any}
 use Rattle.std.specs.Option.{unwrap_or}
 use Rattle.std.specs.Fmt.{decimal, digit_glyph, digits, digits_onto, signed_decimal}
 use Rattle.std.specs.Char.{is_ascii_alphanumeric}
-use Rattle.std.specs.Char.Utf16.{has_unpaired_surrogate, is_high_surrogate, is_low_surrogate, lone_unit_char, surrogate_pair_char, utf16_chars, utf16_lossy_chars}
+use Rattle.std.specs.Char.Utf16.{has_unpaired_surrogate, lone_unit_char, surrogate_pair_char, utf16_chars, utf16_lossy_chars}
 use Rattle.std.proofs.lemmas.Bool.{ltb-true}
 use Rattle.std.proofs.lemmas.Grind.{flat_map-append}
 use Rattle.std.proofs.lemmas.List.{length-append}
-use Rattle.std.proofs.lemmas.Str.{len_utf8_bounds, length-encode, utf16_chars-nil}
+use Rattle.std.proofs.lemmas.Str.{len_utf8_bounds, length-encode}
 use Rattle.hex.specs.Hex.{encode_lower, lower_digits}
 use Rattle.hex.proofs.HexLemmas.{length-encode_with}
-use Rattle.bplist_objects.specs.Value.{Value, Leaf, leaf, array, set, dict, null, boolean, int, real, date, bytes, text, uid, Values, no_values, value, Pairs, no_pairs, pair, keys}
-use Rattle.bplist_cursor.specs.Asked.{face_bytes, leaf_bytes}
+use Rattle.bplist_objects.specs.Value.{Value, leaf, array, set, dict, null, boolean, int, real, date, bytes, text, uid, Values, no_values, value, Pairs, no_pairs, pair, keys}
+use Rattle.bplist_cursor.specs.Asked.{leaf_bytes}
 use Rattle.bplist_cursor.specs.Members.{members}
 use Rattle.bplist_cursor.specs.Path.{escaped}
 use Rattle.bplist_cursor.specs.Replies.{face}
 use Rattle.bplist_cursor.specs.Texts.{quoted, quoted_unit, text_of_bytes, text_of_units}
-use Rattle.bplint_lines.specs.MemberNames.{bracketed, index_name, key_name, unshown_name}
+use Rattle.bplint_lines.specs.MemberNames.{bracketed, index_name, key_name}
 use Rattle.bplint_lines.specs.OutputLines.{face_line}
 use Rattle.bplint_lines.specs.Texts.{is_surrogate, is_unshown, starts_pair, text_in, utf8_text, utf8_unit, utf8_units}
 use Rattle.bplint_lines.specs.declared.texts.Style.{Style}

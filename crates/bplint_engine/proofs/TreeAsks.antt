@@ -1,8 +1,7 @@
 -- How many bytes a recursive listing asks for, step by step.
-use Rattle.std.proofs.Common.{IsTrue, ◌≡◌, ◌≤◌, ◌<◌, ◌+◌, ◌*◌, ◌++◌, ◌∷◌, [], ◌∙◌, ℕ, zero, suc, List, drop, length, map, None, Some, Option, ap, arith, refl, subst, sym}
-use Rattle.std.specs.Prelude.{get_or, reverse, slice_get}
+use Rattle.std.proofs.Common.{IsTrue, ◌≡◌, ◌≤◌, ◌<◌, ◌+◌, ◌*◌, ◌∷◌, [], ◌∙◌, ℕ, zero, suc, List, length, map, None, Some, Option, ap, arith, refl, subst, sym}
+use Rattle.std.specs.Prelude.{get_or, slice_get}
 use Rattle.std.specs.List.{enumerate_from}
-use Rattle.std.proofs.lemmas.List.{reverse-append}
 use Rattle.bplist_objects.specs.Value.{Value, leaf, array, set, dict, text, Values, no_values, value, Pairs, no_pairs, pair, keys}
 use Rattle.bplist_cert.specs.CheckedFile.{CheckedFile}
 use Rattle.bplist_cursor.specs.Asked.{face_bytes}

@@ -5,7 +5,7 @@ use Rattle.std.specs.Char.Utf16.{has_unpaired_surrogate}
 use Rattle.bplist_objects.specs.declared.frame.Frame.{Frame}
 use Rattle.bplist_objects.specs.Value.{Value, leaf, array, set, dict, Values, no_values, value, Pairs, no_pairs, pair, keys}
 use Rattle.bplist_cert.specs.CheckedFile.{CheckedFile}
-use Rattle.bplist_cursor.specs.Asked.{face_bytes, leaf_bytes}
+use Rattle.bplist_cursor.specs.Asked.{leaf_bytes}
 use Rattle.bplint_lines.specs.declared.texts.Style.{Style}
 use Rattle.bplint_lines.specs.declared.texts.Style.TheVariants.{OldStyle, Utf8}
 use Rattle.bplint_lines.specs.Texts.{is_unshown}

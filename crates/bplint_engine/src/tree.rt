@@ -1,6 +1,6 @@
 //! The command `ls --recursive`: lists a value and everything inside it, in a file that has no certificate.
 
-ghost use Rattle.std.specs.Prelude.{◌≡◌, ◌+◌, ◌*◌, ◌≤◌, Err, IsTrue, Ok, ℕ};
+ghost use Rattle.std.specs.Prelude.{◌≡◌, ◌+◌, ◌≤◌, Err, IsTrue, Ok, ℕ};
 ghost use Rattle.bplist_cert.specs.CheckedFile.{HonestlyChecked};
 ghost use Rattle.bplist_cursor.specs.Asked.{pass_bytes, path_bytes};
 ghost use Rattle.bplist_cursor.specs.declared.node.Why.{Why as why};
