@@ -52,9 +52,14 @@ static PyObject *looks_like(PyObject *module, PyObject *owner)
     return ascii_of(NULL, words.text, words.count);
 }
 
-/* Returns true if a class is a subclass of one of the module's own. Otherwise raises TypeError. */
+/* Returns true if a class is a subclass of one of the module's own. Otherwise raises TypeError, or that the
+   module was cleared. */
 static int is_below(PyObject *class, PyObject *own)
 {
+    if (own == NULL) {
+        raise_cleared();
+        return 0;
+    }
     if (PyType_IsSubtype((PyTypeObject *)class, (PyTypeObject *)own))
         return 1;
     PyErr_Format(PyExc_TypeError, "%R is no subclass of %R", class, own);

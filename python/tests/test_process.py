@@ -156,6 +156,56 @@ class Threads(Child):
         """)
 
 
+    def test_longer_certificate(self):
+        """A certificate that becomes longer while it is read, because look-ups have the keys sorted, is whole."""
+        keys = [f"key number {i}" for i in range(20_000)]
+        file = plistlib.dumps(dict.fromkeys(keys, True), fmt=plistlib.FMT_BINARY)
+
+        def read():
+            while not done:
+                certificates.append(plist.certificate)
+
+        for _ in range(20):
+            plist, certificates, done = bplist.loads(file), [], []
+            thread = threading.Thread(target=read)
+            thread.start()
+            for key in keys[:40]:
+                self.assertTrue(plist.value[key])
+            done.append(1)
+            thread.join()
+            self.assertTrue(plist.certificate.startswith(b"bplcert2"))
+            for certificate in {*certificates}:
+                self.assertTrue(bplist.loads(file, certificate=certificate).value[keys[-1]])
+
+
+class Cleared(Child):
+    def test_cleared(self):
+        """A call that needs a class of the module raises an exception after the collector has cleared the module."""
+        self.run_child("""
+            import ctypes, datetime, plistlib, sys
+            import bplist
+            tree = {"a": [1], "d": datetime.datetime(2020, 2, 29), "u": plistlib.UID(7)}
+            file = plistlib.dumps(tree, fmt=plistlib.FMT_BINARY)
+            plist = bplist.loads(file)
+            value = plist.value
+            definition = ctypes.pythonapi.PyModule_GetDef
+            definition.restype, definition.argtypes = ctypes.c_void_p, [ctypes.py_object]
+            module = sys.modules["bplist._bplist"]
+            # Its member m_clear stands behind eleven words.
+            clear = ctypes.c_void_p.from_address(definition(module) + 11 * 8).value
+            ctypes.PYFUNCTYPE(ctypes.c_int, ctypes.py_object)(clear)(module)
+            calls = [lambda path=path: plist.at(path) for path in ("", "/a", "/d", "/u")]
+            calls += [plist.plain, lambda: iter(value), lambda: value["a"], lambda: bplist.loads(file)]
+            calls += [lambda: bplist.open(sys.executable, map=True)]
+            for number, call in enumerate(calls):
+                try:
+                    call()
+                    assert False, number
+                except RuntimeError as fault:
+                    assert "cleared" in str(fault), fault
+        """)
+
+
 class Import(Child):
     def test_replaced_datetime(self):
         """What replaces datetime.datetime while the package is imported makes no call crash."""

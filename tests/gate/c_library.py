@@ -9,7 +9,7 @@ Compiles the C programs against libbplist.a, with all warnings as errors, and ru
 - c_changing.c calls the library on mapped files that change: between calls, one byte after the other, and during calls,
   by another thread and another process.
 - c_threads.c calls the library from several threads, under valgrind's helgrind if it is installed.
-- The example prints values.
+- The example prints values. The program of docs/LIBRARY.md prints each member once, and ends.
 - The library exports the calls of bplist.h, has no variables that it writes, and in its own functions no instruction
   that ends the process.
 
@@ -31,6 +31,7 @@ sys.path.insert(0, str(ROOT / "tests"))
 from helpers.contents import doubling, expression  # noqa: E402
 from helpers.harness import closing, lacks  # noqa: E402
 from helpers.sample_files import table_files, written_files  # noqa: E402
+from snippets import pieces_of  # noqa: E402
 
 HERE = pathlib.Path(__file__).resolve().parent
 PROGRAM = ROOT / "crates/bplint/out/bplint"
@@ -71,6 +72,9 @@ RACED = {
     "many": plistlib.dumps({f"k{i}": [i, f"text {i}", i / 2] for i in range(600)}, fmt=plistlib.FMT_BINARY),
 }
 RACE_MILLISECONDS = 1500
+
+# Values for the program of docs/LIBRARY.md, which reads 64 members at a time: some have none, and some end with a block.
+WALKED = [{}, "text", *([True] * count for count in (0, 1, 63, 64, 65, 128))]
 
 # What the example prints of a file under a path.
 PRINTED = [
@@ -246,6 +250,17 @@ class Tests:
         right = (ran.returncode, ran.stdout, ran.stderr) == (0, expected, b"")
         self.count(f"print_value {file} {path}", "" if right else f"{ran}")
 
+    def walk_by_page(self):
+        """The program of docs/LIBRARY.md prints a line for each member of an array, and none of an empty value or a text."""
+        text = next(piece.text for piece in pieces_of("docs/LIBRARY.md") if piece.name == "members.c")
+        program = built(self.folder, self.file("members.c", text.encode()), f"-I{ROOT / 'include'}", LIBRARY)
+        for value in WALKED:
+            path = self.file("members.plist", plistlib.dumps(value, fmt=plistlib.FMT_BINARY))
+            ran = subprocess.run([program, path, ""], capture_output=True, text=True, timeout=SECONDS, check=False)
+            count = len(value) if isinstance(value, list) else 0
+            right = (ran.returncode, ran.stderr, len(ran.stdout.splitlines())) == (0, "", count)
+            self.count(f"members of {type(value).__name__} {count}", "" if right else f"{ran}")
+
     def see_symbols(self):
         calls = set(re.findall(r"^\w+ (bplist_\w+)\(", (ROOT / "include/bplist.h").read_text(), re.MULTILINE))
         shown = {name for name, kind in symbols(SHARED, "-D", "--defined-only") if kind == "T"}
@@ -269,6 +284,7 @@ def main():
         tests.run_threads()
         tests.change_files()
         tests.print_values()
+        tests.walk_by_page()
         tests.see_symbols()
     print(closing(tests.passed, tests.failed, tests.skipped))
     return 1 if tests.failed else 0

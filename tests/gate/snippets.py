@@ -36,7 +36,8 @@ from helpers.harness import closing, is_gate, lacks  # noqa: E402
 from helpers.installed import install  # noqa: E402
 from helpers.session import PROMPT, printed, write_files  # noqa: E402
 
-PAGES = ["README.md", "SECURITY.md", "docs/PROGRAM.md", "docs/LIBRARY.md", "include/bplist.h", "rust/bplist/README.md"]
+PAGES = ["README.md", "SECURITY.md", "docs/PROGRAM.md", "docs/LIBRARY.md", "include/bplist.h"]
+PAGES += ["python/README.md", "rust/bplist/README.md"]
 # readme.py runs the session of README.md.
 LEFT = {"README.md": ("console",)}
 FENCE = re.compile(r"```(\w*) ?(\S*)$")
