@@ -210,14 +210,15 @@ class Sorting(unittest.TestCase):
                 self.assertLess(self.seconds(lambda: call(plist.value)), 20 * quick + 0.5)
 
     def test_when(self):
-        """Few look-ups do not sort, more do. Then the answers are the same, and the certificate has sorted keys."""
+        """The 14th look-up sorts, as LIBRARY.md says. Then answers are the same, and the certificate has sorted keys."""
         with bplist.loads(self.file) as plist:
-            for _ in range(5):
+            for _ in range(13):
                 self.assertEqual(plist.value["key number 777"], 777)
             self.assertFalse(self.is_sorted(plist))
+            self.assertEqual(plist.value["key number 777"], 777)
+            self.assertTrue(self.is_sorted(plist))
             for i in range(40):
                 self.assertEqual(plist.value[f"key number {i}"], i)
-            self.assertTrue(self.is_sorted(plist))
             self.assertNotIn("key number x", plist.value)
             self.assertEqual(plist.at("/key number 29999"), 29_999)
             self.assertEqual(bplist.loads(self.file, certificate=plist.certificate).value["key number 3"], 3)
