@@ -4,6 +4,7 @@ The files are those of the repository's tables (tests/vectors) and of other writ
 """
 import collections.abc
 import contextlib
+import copy
 import datetime
 import gc
 import io
@@ -607,6 +608,14 @@ class Package(unittest.TestCase):
                 made.__new__(made)
             with self.assertRaises(TypeError):
                 object.__new__(made)
+
+    def test_not_copied(self):
+        """What reads a file is neither copied nor pickled: its handle has one owner."""
+        plist = bplist.loads(plistlib.dumps({"a": [1]}, fmt=plistlib.FMT_BINARY))
+        for made in (plist, plist.value, plist.value["a"], iter(plist.value)):
+            for call in (copy.copy, copy.deepcopy, pickle.dumps):
+                with self.assertRaises(TypeError):
+                    call(made)
 
     def test_looks_like(self):
         """What a file looks like is a call of its own, and a part of the exception."""

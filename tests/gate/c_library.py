@@ -10,6 +10,7 @@ Compiles the C programs against libbplist.a, with all warnings as errors, and ru
   by another thread and another process.
 - c_threads.c calls the library from several threads, under valgrind's helgrind if it is installed.
 - The example prints values. The program of docs/LIBRARY.md prints each member once, and ends.
+- bplist.h compiles by itself in each version of C and C++.
 - The library exports the calls of bplist.h, has no variables that it writes, and in its own functions no instruction
   that ends the process.
 
@@ -38,6 +39,7 @@ PROGRAM = ROOT / "crates/bplint/out/bplint"
 LIBRARY = ROOT / "crates/bplist_c/out/libbplist.a"
 SHARED = ROOT / "crates/bplist_c/out/libbplist.so.0"
 STRICT = ["-std=c11", "-Wall", "-Wextra", "-Werror", "-pedantic", "-O2", "-g"]
+VERSIONS = {"gcc": ["c89", "c99", "c11", "c17", "c2x"], "g++": ["c++98", "c++11", "c++14", "c++17", "c++20"]}
 BATCH = 60
 SECONDS = 900
 MOST_GROWTHS = 2000
@@ -261,6 +263,18 @@ class Tests:
             right = (ran.returncode, ran.stderr, len(ran.stdout.splitlines())) == (0, "", count)
             self.count(f"members of {type(value).__name__} {count}", "" if right else f"{ran}")
 
+    def see_header(self):
+        source = self.file("header.c", b"#include <bplist.h>\n")
+        for compiler, versions in VERSIONS.items():
+            if lacks(compiler):
+                self.skip("bplist.h in C++", compiler)
+                continue
+            language = "c" if compiler == "gcc" else "c++"
+            words = [compiler, "-Wall", "-Wextra", "-Wpedantic", "-Werror", "-fsyntax-only", f"-I{ROOT / 'include'}"]
+            for version in versions:
+                ran = subprocess.run([*words, f"-std={version}", "-x", language, source], capture_output=True, check=False)
+                self.count(f"bplist.h, {version}", ran.stderr.decode())
+
     def see_symbols(self):
         calls = set(re.findall(r"^\w+ (bplist_\w+)\(", (ROOT / "include/bplist.h").read_text(), re.MULTILINE))
         shown = {name for name, kind in symbols(SHARED, "-D", "--defined-only") if kind == "T"}
@@ -285,6 +299,7 @@ def main():
         tests.change_files()
         tests.print_values()
         tests.walk_by_page()
+        tests.see_header()
         tests.see_symbols()
     print(closing(tests.passed, tests.failed, tests.skipped))
     return 1 if tests.failed else 0
