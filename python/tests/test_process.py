@@ -5,6 +5,7 @@ import plistlib
 import subprocess
 import sys
 import textwrap
+import threading
 import time
 import unittest
 import weakref
