@@ -258,7 +258,7 @@ class Tests:
         program = built(self.folder, self.file("members.c", text.encode()), f"-I{ROOT / 'include'}", LIBRARY)
         for value in WALKED:
             path = self.file("members.plist", plistlib.dumps(value, fmt=plistlib.FMT_BINARY))
-            ran = subprocess.run([program, path, ""], capture_output=True, text=True, timeout=SECONDS, check=False)
+            ran = subprocess.run([program, path, ""], capture_output=True, text=True, timeout=60, check=False)
             count = len(value) if isinstance(value, list) else 0
             right = (ran.returncode, ran.stderr, len(ran.stdout.splitlines())) == (0, "", count)
             self.count(f"members of {type(value).__name__} {count}", "" if right else f"{ran}")
