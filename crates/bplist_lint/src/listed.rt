@@ -14,7 +14,7 @@ use crate::upgrader::list_by_ranks;
 use crate::walk::Reached;
 use bplist_cert::{Certificate, Refusal};
 use bplist_keys::{KeyNumbers, ranks_of};
-use bplist_objects::{OffsetTable, Offsets};
+use bplist_objects::{Objects, Offsets};
 use bplist_octets::Source;
 use std::alloc::Global;
 
@@ -27,9 +27,9 @@ fn rank_reached<P: Offsets>(alloc: Global, src: &mut P) -> Result<(Reached, KeyN
         (λ known. KeepsRules f F known.0 × RankKeys f F (Reach f F) known.1.table.items) (IsFileFault f) result) }
 {
     let _frame = src.frame();
-    let (reached, named) = find_reached(alloc, src)?;
+    let (reached, named) = find_reached(alloc, src)?; // rules 14 to 20 and 31
     let ranks = ranks_of(alloc, src, named)?;
-    let ranks = check_numbers(alloc, src, &reached.marks, &reached.childless, ranks)?;
+    let ranks = check_numbers(alloc, src, &reached.marks, &reached.childless, ranks)?; // rules 21 and 22
     Ok((reached, ranks))
 }
 
@@ -43,8 +43,8 @@ fn list_reached<P: Offsets>(
         (λ f F. Lints (Upgrades (IsLintedWithLists f)) (IsFileFault f) (IsFileCircle f) result) }
     ensures sound { HonestlyIn (P.means src.old) (λ f F. IfOk result (λ _. ∥ IsSound f ∥₁)) }
 {
-    let (reached, ranks) = rank_reached(alloc, src)?;
-    let lint = heights_or_circle(alloc, src, reached)?;
+    let (reached, ranks) = rank_reached(alloc, src)?; // rules 14 to 22 and 31
+    let lint = heights_or_circle(alloc, src, reached)?; // rule 23
     let heights = lint.certificate.heights;
     Ok(list_by_ranks(alloc, src, heights, ranks))
 }
@@ -69,6 +69,6 @@ pub fn lint_with_lists<S: Source>(
     ensures never { IsTrue (S.means src.old).honest → (v : Value) → FileHolds (S.means src.old).octets v
         → Lints (λ _. ⊤) Never no_circle result }
 {
-    let (frame, places) = read_places(alloc, src)?;
-    list_reached(alloc, &mut OffsetTable::new(src, frame, &places))
+    let (frame, mut places) = read_places(alloc, src)?; // rules 1 to 13
+    list_reached(alloc, &mut Objects::new(src, frame, &mut places))
 }

@@ -9,7 +9,7 @@ use crate::graph::shape_there;
 use crate::key_rules::KeySorting;
 use bplist_cert::{Certificate, Checked, KeyLists, vouched_keys};
 use bplist_keys::{KeyNumbers, ranks_of};
-use bplist_objects::{Framed, Kind, OffsetTable, Offsets, offsets_of};
+use bplist_objects::{Framed, Kind, Objects, Offsets, offsets_of};
 use bplist_octets::Source;
 use std::alloc::Global;
 
@@ -110,10 +110,10 @@ pub fn upgrade<S: Source>(
 {
     let frame = checked.frame();
     let heights = checked.certificate().heights.to_vec(alloc)?;
-    let places = offsets_of(alloc, checked, &frame)?;
+    let mut places = offsets_of(alloc, checked, &frame)?;
     list_vouched(
         alloc,
-        &mut OffsetTable::new(checked, frame, &places),
+        &mut Objects::new(checked, frame, &mut places),
         heights,
     )
 }
