@@ -33,7 +33,7 @@ fn rank_reached<P: Offsets>(alloc: Global, src: &mut P) -> Result<(Reached, KeyN
     Ok((reached, ranks))
 }
 
-/// Returns what `lint_with_lists` does for a file that keeps rules 1 to 13.
+/// Returns what `lint_with_lists` does for a file that was opened.
 fn list_reached<P: Offsets>(
     alloc: Global,
     src: &mut P,
@@ -43,7 +43,7 @@ fn list_reached<P: Offsets>(
         (λ f F. Lints (Upgrades (IsLintedWithLists f)) (IsFileFault f) (IsFileCircle f) result) }
     ensures sound { HonestlyIn (P.means src.old) (λ f F. IfOk result (λ _. ∥ IsSound f ∥₁)) }
 {
-    let (reached, ranks) = rank_reached(alloc, src)?; // rules 14 to 22 and 31
+    let (reached, ranks) = rank_reached(alloc, src)?;
     let lint = heights_or_circle(alloc, src, reached)?; // rule 23
     let heights = lint.certificate.heights;
     Ok(list_by_ranks(alloc, src, heights, ranks))
