@@ -324,12 +324,20 @@ class Costs(unittest.TestCase):
     def test_lone_surrogates(self):
         """Four million halves of surrogate pairs take little longer than four million other units."""
         units = 4_000_000
-        count = b"\x6f\x12" + units.to_bytes(4, "big")
-        for unit, wanted in (("\ud800", "\ud800"), ("\udc00", "\udc00")):
-            begun = time.process_time()
-            value = value_of(count + unit.encode("utf-16-be", "surrogatepass") * units)
-            self.assertLess(time.process_time() - begun, 1)
-            self.assertEqual(value, wanted * units)
+
+        def seconds(unit):
+            spelled = b"\x6f\x12" + units.to_bytes(4, "big") + unit.encode("utf-16-be", "surrogatepass") * units
+            taken = []
+            for _ in range(3):
+                begun = time.process_time()
+                value = value_of(spelled)
+                taken.append(time.process_time() - begun)
+                self.assertEqual(value, unit * units)
+            return min(taken)
+
+        usual = seconds("\u20ac")
+        for unit in ("\ud800", "\udc00"):
+            self.assertLess(seconds(unit), 10 * usual + 0.05)
         mixed = "\ud800\udc00\ud800x\udc00\udc00" * 100
         spelled = mixed.encode("utf-16-be", "surrogatepass")
         wanted = spelled.decode("utf-16-be", "surrogatepass")
