@@ -16,7 +16,8 @@ from helpers.contents import chain  # noqa: E402
 
 PAIRS = {"a": 1, "b": [1, {"c": "two"}], "": b"", "\u00e9\U0001f600": 1.5, "last": [1, {"c": "two"}]}
 MEMBERS = [3, "text", [1, [2]], {"a": [1]}, 3, True, b"x", [1, [2]]]
-# Methods that change a dict or a list, or make another one. A container that is read on access has none of them.
+# Methods that change a dict or a list, or make another one, and the order of lists. A container that is read on access
+# has none of them.
 NO_METHODS = {
     dict: "__delitem__ __ior__ __or__ __ror__ __setitem__ clear copy fromkeys pop popitem setdefault update".split(),
     list: "__add__ __delitem__ __iadd__ __imul__ __mul__ __rmul__ __setitem__ append clear copy extend insert pop remove "
