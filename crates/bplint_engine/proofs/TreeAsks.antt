@@ -142,8 +142,12 @@ module _ (checked : CheckedFile) where
         λ on h k c i. (
           after,
           outer,
-          (w, subst (λ x. IsHeadFor checked x w) (sym h) head, subst (λ x. HasMembers x on.count w) (sym k) (subst (λ x. HasMembers o.members x w) (sym c) has),
-          ap (bytes_from w) (sym (i ∙ step))),
+          (
+            w,
+            subst (λ x. IsHeadFor checked x w) (sym h) head,
+            subst (λ x. HasMembers x on.count w) (sym k) (subst (λ x. HasMembers o.members x w) (sym c) has),
+            ap (bytes_from w) (sym (i ∙ step)),
+          ),
           stack,
           refl,
         ),
