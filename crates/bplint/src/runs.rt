@@ -263,7 +263,7 @@ fn do_task<S: Source, W: Write>(
         }
         Task::Show(shown) => shown_on(alloc, shown, src, out),
         Task::Raw(path) => return Ok(show_raw_on(alloc, Borrowed::new(src), path, out).0),
-        Task::Rows(listed) => list_rows_on(alloc, src, listed, out),
+        Task::Rows(listed) => list_rows_on(alloc, Borrowed::new(src), listed, out).0,
     };
     Ok(answer.map_err(RawFault::Run))
 }
