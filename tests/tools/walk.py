@@ -27,7 +27,7 @@ ROOT = pathlib.Path(__file__).resolve().parents[2]
 # Where a way begins, what was made before, what else it leaves out, and what it lists but does not follow.
 WAYS = {
     "lint": ("main", ["File", "SeekSource"], "run_certified:Verb::Get", ""),
-    "get": ("run_certified", ["OutFile", "File", "SeekSource", "Window", "Panes", "Borrowed"], "run_certified:Verb::Lint", "check"),
+    "get": ("run_certified", ["OutFile", "File", "SeekSource", "Window", "Panes"], "run_certified:Verb::Lint", "check"),
 }
 # What a run over that file does not call, by the reason: functions, and `FUNCTION:TEXT`, which is an arm or a block that
 # begins with the text.

@@ -12,7 +12,7 @@ use crate::reasons::{Names, completed, prefix_of};
 use crate::runs::PANES;
 use bplint_engine::{Branch, list_all_on, list_on};
 use bplint_lines::{RunFault, Said, Style};
-use bplist_octets::{Borrowed, Pane, Panes, Sink, SliceSource, Source, Window};
+use bplist_octets::{Pane, Panes, Sink, SliceSource, Source, Window};
 use std::alloc::{AllocError, Global};
 use std::fs::{File, Files};
 use std::io::{self, Write};
@@ -63,13 +63,12 @@ fn show_file<R: Files<File = File> + Print>(
 ) -> Ending {
     let mut out = OutFile::new(rt, "-");
     let answer = match file {
-        Operand::Whole(file) => show_source(alloc, &mut SliceSource::new(&file), prefix, &mut out),
+        Operand::Whole(file) => show_source(alloc, SliceSource::new(&file), prefix, &mut out),
         Operand::File(file) => {
             let mut file = Window::new(file);
             match vec![in alloc; Pane::EMPTY; PANES] {
                 Ok(mut panes) => {
-                    let mut src = Panes::new(&mut file, &mut panes);
-                    show_source(alloc, &mut src, prefix, &mut out)
+                    show_source(alloc, Panes::new(&mut file, &mut panes), prefix, &mut out)
                 }
                 Err(_) => Err(RunFault::Memory),
             }
@@ -130,7 +129,7 @@ impl<'a, W> FirstLines<'a, W> {
 
 /// Lists a binary property list. If there are more lines than are shown, a last one says so. If there are too many to be
 /// counted, only the members of the top have lines.
-fn list<S: Source, W: Write>(alloc: Global, src: &mut S, out: &mut W) -> Result<Said, RunFault> {
+fn list<S: Source + Drop, W: Write>(alloc: Global, src: S, out: &mut W) -> Result<Said, RunFault> {
     let mut lines = FirstLines {
         out,
         left: LINES,
@@ -141,9 +140,10 @@ fn list<S: Source, W: Write>(alloc: Global, src: &mut S, out: &mut W) -> Result<
         limit: u64::MAX,
         style: Style::Utf8,
     };
-    let answer = match list_all_on(alloc, Borrowed::new(src), &whole, &mut lines).0 {
+    let (answer, src) = list_all_on(alloc, src, &whole, &mut lines);
+    let answer = match answer {
         Err(RunFault::TooLong) => {
-            let members = list_on(alloc, Borrowed::new(src), "", Style::Utf8, &mut lines).0;
+            let members = list_on(alloc, src, "", Style::Utf8, &mut lines).0;
             lines.full = lines.full || members.is_ok();
             members
         }
@@ -167,15 +167,16 @@ fn send<W: Write>(out: &mut W, bytes: &[u8]) -> Result<Said, RunFault> {
 }
 
 /// Shows a source. The prefix begins each line, but not those of a file that is written as it is.
-fn show_source<S: Source, W: Write>(
+fn show_source<S: Source + Drop, W: Write>(
     alloc: Global,
-    src: &mut S,
+    src: S,
     prefix: &str,
     out: &mut W,
 ) -> Result<Said, RunFault> {
-    let front = front_of(alloc, src)?;
+    let mut src = src;
+    let front = front_of(alloc, &mut src)?;
     if !front.starts_with(HEADER) {
-        return copy_from(src, out);
+        return copy_from(&mut src, out);
     }
     let labels = Labels { prefix, paths: &[] };
     let mut lines = Labelled::new(alloc, out, labels);
@@ -187,9 +188,9 @@ fn show_source<S: Source, W: Write>(
 }
 
 /// Shows a source that begins as a binary property list does: its lines, or its fault and its first bytes.
-fn show_lines<S: Source, W: Write>(
+fn show_lines<S: Source + Drop, W: Write>(
     alloc: Global,
-    src: &mut S,
+    src: S,
     front: &[u8],
     out: &mut W,
 ) -> Result<Said, RunFault> {
