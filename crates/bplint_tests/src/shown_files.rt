@@ -1,14 +1,16 @@
 //! The calls that show a file without a certificate: over a file that changes while it is read, and with one failing
-//! read.
+//! read; and how many bytes a recursive listing asks for.
 
 use crate::failing_calls::MOST_READS;
 use crate::runs::{line_of_read, outcome};
 use bplint_engine::{Branch, list_all_on, list_on, show_on, show_raw_on, show_text_on};
 use bplint_lines::{RawFault, Style};
 use bplint_map::map_on;
-use bplist_octets::{ReadFault, ShiftingSource, SliceSource, Source};
+use bplist_lint::lint_checked;
+use bplist_octets::{CountingSource, ReadFault, ShiftingSource, SliceSource, Source};
 use bplist_samples::{
     FailingRead, FailingSource, Parts, READ_FAULTS, Row, TWO_TRUES, small, tested_rows,
+    thousand_keys,
 };
 use std::alloc::Global;
 use std::process::Abort;
@@ -181,5 +183,47 @@ fn raw_text_that_changes(rt: HostRuntime) -> Result<(), Fail> {
     let first = small(alloc, PAIR.0, PAIR.1)?;
     let second = small(alloc, LONE_HALF, PAIR.1)?;
     assert!(rt; changes_noticed(&rt, alloc, Show::Raw, "", (&first, &second))? > 0);
+    Ok(())
+}
+
+/// Returns how many bytes the linter asks for, and the most that counting all nodes of this file may ask for, which is
+/// `pass_bytes`.
+fn before_the_lines(alloc: Global, row: &Row) -> Result<(u64, u64), Fail> {
+    let source = CountingSource::new(SliceSource::new(&row.octets));
+    let Ok((checked, _counts)) = lint_checked(alloc, source) else {
+        return Err(Fail::new(row.name));
+    };
+    let frame = checked.frame();
+    let pass = (frame.objects as u64)
+        .saturating_mul(28)
+        .saturating_add(frame.table);
+    Ok((checked.source().asked, pass))
+}
+
+/// After the linter a listing asks for no more than `tree_path` promises. All keys of these files can be shown, so for
+/// the lines that is 13 bytes for each byte. A file that doubles has too many nodes, and no line.
+#[test]
+fn listings_ask_for_few_bytes(rt: HostRuntime) -> Result<(), Fail> {
+    let alloc = rt.alloc();
+    let mut rows = tested_rows(alloc)?;
+    rows.push(thousand_keys(alloc)?)?;
+    for row in rows.iter() {
+        let (before, pass) = before_the_lines(alloc, row)?;
+        let branch = Branch {
+            path: "",
+            limit: 10000,
+            style: Style::OldStyle,
+        };
+        let mut out: Vec<u8> = Vec::new(alloc);
+        let source = CountingSource::new(SliceSource::new(&row.octets));
+        let (_answer, source) = list_all_on(alloc, source, &branch, &mut out);
+        let asked = source.asked.saturating_sub(before);
+        let most = (out.len() as u64).saturating_mul(13).saturating_add(pass);
+        let name = row.name;
+        assert!(rt;
+            asked >= 1 && asked <= most,
+            "{name}: {asked} bytes, not {most}"
+        );
+    }
     Ok(())
 }
