@@ -3,7 +3,7 @@ use Rattle.std.proofs.Common.{arith, ◌≡◌, ◌<◌, ◌∙◌, ℕ, List, l
 use denote.Ref.{Bor}
 use Rattle.bplist_cert.specs.CheckedFile.{CheckedFile}
 use Rattle.bplist_c.specs.declared.handle.BplistHandle.{BplistHandle}
-use Rattle.bplist_c.specs.declared.session.Session.{Session}
+use Rattle.bplist_c.specs.declared.handle.Session.{Session}
 use Rattle.bplist_c.specs.declared.status.Status.{Status}
 use Rattle.bplist_c.specs.Sessions.{IsRefused, OnHandle, checked_of}
 
@@ -26,3 +26,12 @@ module _ {X : Type 0} (file : Bor (List ℕ)) (handle : BplistHandle) (Says : Ch
     | inl r ↦ record { closed = λ e. ap Err r.1; other = λ a b. absurd (a r.0); opened = λ a b t has. absurd (a r.0) }
     | inr r ↦ record { closed = λ e. absurd (r.0 e); other = λ a b. ap Err r.2; opened = λ a b t has. absurd (r.1 b) }
   ]
+
+  -- an answer says of the handle what follows from what it says of the lent file
+  pub on_answer : {P : CheckedFile → Result X Status → Type 0} → ((checked : CheckedFile) (answer : Result X Status) → P checked answer → Says checked answer)
+      → (answer : Result X Status) → OnHandle file handle P answer → OnHandle file handle Says answer
+  on_answer says answer on = record {
+    closed = on.closed;
+    other = on.other;
+    opened = λ a b s has. says (checked_of file s) answer (on.opened a b s has);
+  }

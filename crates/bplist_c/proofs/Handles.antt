@@ -25,8 +25,8 @@ use Rattle.std.proofs.alloc.Global.TheLaws as heap_laws
 use Rattle.std.specs.contracts.impls.GlobalAllocator.TheImpl.{ghosts}
 use Rattle.std_alloc.specs.Box.Ownership.{box_owns}
 use Rattle.bplist_c.specs.Handles.{handle_owns}
-use Rattle.bplist_c.specs.declared.session.Session.{Session}
-use Rattle.bplist_c.specs.contracts.session.Session as session
+use Rattle.bplist_c.specs.declared.handle.Session.{Session}
+use Rattle.bplist_c.specs.contracts.handle.Session as session
 use Rattle.bplist_c.specs.contracts.handle.BplistHeld as handle
 use Rattle.bplist_c.proofs.Values.{both}
 use mathlib.Core.Bool.{Bool, true, false}

@@ -12,7 +12,7 @@ use Rattle.bplist_lint.specs.declared.answer.Lint.{Lint}
 use Rattle.bplist_lint.specs.declared.answer.LintRefusal.{LintRefusal}
 use Rattle.bplist_c.specs.declared.accepted.Accepted.{Accepted}
 use Rattle.bplist_c.specs.declared.handle.BplistHandle.{BplistHandle}
-use Rattle.bplist_c.specs.declared.session.Session.{Session}
+use Rattle.bplist_c.specs.declared.handle.Session.{Session}
 use Rattle.bplist_c.specs.declared.status.Status.{Status}
 use Rattle.bplist_c.specs.declared.status.Status.TheVariants as statuses
 use Rattle.bplist_c.specs.declared.verdict.BplistVerdict.{BplistVerdict}

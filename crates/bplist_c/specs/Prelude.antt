@@ -40,7 +40,7 @@ pub use Rattle.bplist_c.specs.Texts.{IsTextOf, TellsText, printed_as, text_lengt
 pub use Rattle.bplist_c.specs.Verdicts.{ShowsLint, circle_answer, refused_told}
 pub use Rattle.bplist_c.specs.declared.object.BplistBody.{BplistBody}
 pub use Rattle.bplist_c.specs.declared.object.BplistInteger.{BplistInteger}
-pub use Rattle.bplist_c.specs.declared.session.Session.{Session}
+pub use Rattle.bplist_c.specs.declared.handle.Session.{Session}
 pub use Rattle.bplist_c.specs.declared.sizes.BplistSizes.{BplistSizes}
 pub use Rattle.bplist_c.specs.declared.status.Status.{Status}
 pub use Rattle.bplist_c.specs.declared.status.Status.TheVariants.{Closed, Memory, NoMember, NoRule, NoStatus, Opened}

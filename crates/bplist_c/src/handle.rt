@@ -1,12 +1,48 @@
 //! Handles: sessions in the form in which C holds them.
 
 ghost use Rattle.std.specs.Prelude.{◌≡◌, ◌<◌, Option, Some, None, IsSome, is_some, true};
-ghost use Rattle.bplist_c.specs.declared.session.Session.{Session as session};
+ghost use Rattle.bplist_c.specs.declared.handle.Session.{Session as session};
 
-use crate::loose::Loose;
-use crate::session::Session;
-use std::alloc::Global;
+use bplist_cert::Certificate;
+use bplist_objects::Frame;
+use std::alloc::{Allocator, Global};
 use std::marker::Model;
+
+/// The frame and the certificate of a checked file, without the bytes of the file.
+#[derive(Drop)]
+pub struct Session {
+    pub(crate) frame: Frame,
+    pub(crate) certificate: Certificate,
+}
+
+/// A box as its pointer.
+pub(crate) struct Loose<T, A: Allocator> {
+    pub(crate) at: *mut T,
+    pub(crate) alloc: A,
+    pub(crate) ghost value: { T },
+}
+
+impl<T, A: Allocator> Model for Loose<T, A> {
+    ghost use Rattle.std_alloc.specs.Box.Ownership.{box_owns};
+
+    ghost also_owns = { λ l. box_owns (A.dealloc_token l.alloc) T.row l.at l.value };
+}
+
+impl<T: Drop, A: Allocator> Loose<T, A> {
+    pub(crate) fn of(value: Box<T, A>) -> Loose<T, A>
+        ensures { result.value ≡ value.value }
+    {
+        let (at, alloc) = Box::into_raw_with_allocator(value);
+        Loose { at, alloc }
+    }
+
+    pub(crate) fn into_box(self) -> Box<T, A>
+        ensures { result.value ≡ self.value }
+    {
+        let Loose { at, alloc } = self;
+        unsafe { Box::from_raw(alloc, at) }
+    }
+}
 
 /// A session, or none.
 #[repr(C)]

@@ -21,7 +21,7 @@
 //! | `linter` | `bplist_lint`, `bplist_circle` |
 //! | `accepted` | files that are accepted, with the verdicts on them |
 //! | `hint` | `bplist_looks_like` |
-//! | `session`, `handle`, `loose` | what an open handle holds, and how C holds it |
+//! | `handle` | what an open handle holds, and how C holds it |
 //! | `loan` | lends the checked file of a handle to one call |
 //! | `lifecycle` | `bplist_open`, `bplist_open_certified`, `bplist_close`, `bplist_certificate` |
 //! | `lookup` | `bplist_find`, `bplist_find_key` |
@@ -43,11 +43,9 @@ mod lifecycle;
 mod linter;
 mod loan;
 mod lookup;
-mod loose;
 mod members;
 mod object;
 mod parts;
-mod session;
 mod sizes;
 mod status;
 mod text;

@@ -10,8 +10,7 @@ ghost use Rattle.bplist_c.specs.Prelude.{Accepts, KeepsHandle};
 ghost use Rattle.bplist_cert.specs.declared.certificate.CertRefusal.TheVariants as refusals;
 
 use crate::accepted::{Accepted, accept, with_verdict};
-use crate::handle::BplistHandle;
-use crate::session::Session;
+use crate::handle::{BplistHandle, Session};
 use crate::status::{Status, put_answer};
 use crate::verdict::{BplistVerdict, NO_VERDICT};
 use bplist_cert::{CertRefusal, Certificate, Checked, Refusal, check};

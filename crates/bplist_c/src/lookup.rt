@@ -5,7 +5,7 @@ ghost use Rattle.bplist_c.specs.Prelude.{Status as status, Holds, Value as value
 ghost use Rattle.bplist_c.specs.Prelude.{step_answer, why_status, OnObject, IsFileOf, IsSame, OnHandle, Tells};
 
 use crate::handle::BplistHandle;
-use crate::loan::{give_back, lend};
+use crate::loan::with_checked;
 use crate::status::{self, Status};
 use bplist_cert::Checked;
 use bplist_cursor::{Found, Node, Path, PathFault, Why, locate, step_from};
@@ -96,15 +96,7 @@ pub extern "C" fn bplist_find(
     ensures exact { (answer : Result (Result place ℕ) status) × ((result, out.new) ≡ told_found answer out.old)
         × OnHandle file.entry handle.old (λ checked. FindSays checked path.now) answer }
 {
-    let answer = match lend(alloc, handle, file) {
-        Ok(lent) => {
-            let mut lent = lent;
-            let answer = find(alloc, &mut lent.checked, path);
-            give_back(handle, lent);
-            answer
-        }
-        Err(status) => Err(status),
-    };
+    let answer = with_checked(alloc, handle, file, |checked| find(alloc, checked, path));
     tell_found(answer, out)
 }
 
@@ -147,14 +139,11 @@ pub extern "C" fn bplist_find_key(
         × OnHandle file.entry handle.old (λ checked. OnObject checked object Holds (λ v answer. (found : place)
         × (answer ≡ step_answer found) × IsFound checked object v (units.now ∷ []) found)) answer }
 {
-    let answer = match lend(alloc, handle, file) {
-        Ok(lent) => {
-            let mut lent = lent;
-            let answer = step_of(&mut lent.checked, object, units);
-            give_back(handle, lent);
-            answer
-        }
-        Err(status) => Err(status),
-    };
+    let answer = with_checked(
+        alloc,
+        handle,
+        file,
+        |checked| step_of(checked, object, units),
+    );
     status::tell(answer, out)
 }

@@ -7,7 +7,7 @@ ghost use Rattle.bplist_c.specs.Prelude.{MembersSay, Status as status, NoMember,
 ghost use Rattle.bplist_c.specs.Prelude.{PutsItems, Tells};
 
 use crate::handle::BplistHandle;
-use crate::loan::{give_back, lend};
+use crate::loan::{give_back, lend, with_checked};
 use crate::object::head_of_object;
 use crate::status::{Status, tell};
 use bplist_cert::Checked;
@@ -179,15 +179,7 @@ pub extern "C" fn bplist_member(
         × OnHandle file.entry handle.old (λ checked. OnObject checked object Spells
         (λ content answer. answer ≡ ok_or (member_reference content i) NoMember)) answer }
 {
-    let answer = match lend(alloc, handle, file) {
-        Ok(lent) => {
-            let mut lent = lent;
-            let answer = member_of(&mut lent.checked, object, i);
-            give_back(handle, lent);
-            answer
-        }
-        Err(status) => Err(status),
-    };
+    let answer = with_checked(alloc, handle, file, |checked| member_of(checked, object, i));
     tell(answer, out)
 }
 

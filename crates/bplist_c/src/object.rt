@@ -6,7 +6,7 @@ ghost use Rattle.bplist_c.specs.Prelude.{Status as status, BplistInteger as numb
 ghost use Rattle.bplist_c.specs.Prelude.{kind_number, uid_answer, IsFileOf, IsSame, OnHandle, Tells};
 
 use crate::handle::BplistHandle;
-use crate::loan::{give_back, lend};
+use crate::loan::with_checked;
 use crate::status::{Status, tell};
 use bplist_cert::Checked;
 use bplist_objects::{Frame, Head, Kind, ObjectNo, int_of, shape_at, uid_of};
@@ -158,14 +158,7 @@ pub extern "C" fn bplist_face(
         × OnHandle file.entry handle.old (λ checked. OnObject checked object IsHeadOf
         (λ head answer. answer ≡ Ok (body_of head))) answer }
 {
-    let answer = match lend(alloc, handle, file) {
-        Ok(lent) => {
-            let answer = face_of(&lent.checked, object);
-            give_back(handle, lent);
-            answer
-        }
-        Err(status) => Err(status),
-    };
+    let answer = with_checked(alloc, handle, file, |checked| face_of(checked, object));
     tell(answer, out)
 }
 
@@ -184,14 +177,7 @@ pub extern "C" fn bplist_int(
         × OnHandle file.entry handle.old (λ checked. OnObject checked object Spells
         (λ content answer. answer ≡ int_answer content)) answer }
 {
-    let answer = match lend(alloc, handle, file) {
-        Ok(lent) => {
-            let answer = integer_of(&lent.checked, object);
-            give_back(handle, lent);
-            answer
-        }
-        Err(status) => Err(status),
-    };
+    let answer = with_checked(alloc, handle, file, |checked| integer_of(checked, object));
     tell(answer, out)
 }
 
@@ -210,13 +196,11 @@ pub extern "C" fn bplist_uid(
         × OnHandle file.entry handle.old (λ checked. OnObject checked object Spells
         (λ content answer. answer ≡ uid_answer content)) answer }
 {
-    let answer = match lend(alloc, handle, file) {
-        Ok(lent) => {
-            let answer = uid_of_object(&lent.checked, object);
-            give_back(handle, lent);
-            answer
-        }
-        Err(status) => Err(status),
-    };
+    let answer = with_checked(
+        alloc,
+        handle,
+        file,
+        |checked| uid_of_object(checked, object),
+    );
     tell(answer, out)
 }

@@ -6,7 +6,7 @@ ghost use Rattle.bplist_c.specs.Prelude.{IsSame, OnHandle, sizes_by, Tells, form
 ghost use Rattle.bplist_c.specs.Prelude.{nodes as node_count};
 
 use crate::handle::BplistHandle;
-use crate::loan::{give_back, lend};
+use crate::loan::with_checked;
 use crate::status::{Status, tell};
 use bplist_cert::Checked;
 use bplist_cursor::{Form, Measures, measure};
@@ -96,14 +96,11 @@ pub extern "C" fn bplist_size(
         × OnHandle file.entry handle.old (λ checked. OnObject checked object Holds
         (λ v answer. (answer ≡ Ok (sizes_by (cap (node_count v)) (form_of v))) ⊎ (answer ≡ Err Memory))) answer }
 {
-    let answer = match lend(alloc, handle, file) {
-        Ok(lent) => {
-            let mut lent = lent;
-            let answer = size_of(alloc, &mut lent.checked, object);
-            give_back(handle, lent);
-            answer
-        }
-        Err(status) => Err(status),
-    };
+    let answer = with_checked(
+        alloc,
+        handle,
+        file,
+        |checked| size_of(alloc, checked, object),
+    );
     tell(answer, out)
 }

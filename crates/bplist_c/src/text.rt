@@ -5,7 +5,7 @@ ghost use Rattle.bplist_c.specs.Prelude.{Status as status, Text as text, IsFileO
 ghost use Rattle.bplist_c.specs.Prelude.{IsTextOf, TellsText, printed_as, text_length};
 
 use crate::handle::BplistHandle;
-use crate::loan::{give_back, lend};
+use crate::loan::with_checked;
 use crate::sizes::measures_of;
 use crate::status::{Status, put_all};
 use bplist_ascii::{PrintFault, print};
@@ -129,14 +129,11 @@ pub extern "C" fn bplist_text(
         (λ v. IsTextOf checked.source.octets checked.frame object v (length buffer.old))) answer }
 {
     let room = buffer.len() as u64;
-    let answer = match lend(alloc, handle, file) {
-        Ok(lent) => {
-            let mut lent = lent;
-            let answer = text_of(alloc, &mut lent.checked, object, room);
-            give_back(handle, lent);
-            answer
-        }
-        Err(status) => Err(status),
-    };
+    let answer = with_checked(
+        alloc,
+        handle,
+        file,
+        |checked| text_of(alloc, checked, object, room),
+    );
     tell_text(answer, buffer, out)
 }

@@ -1,14 +1,11 @@
-use Rattle.bplist_c.proofs.HandleSource.{on_lent, on_refused}
+use Rattle.std.proofs.Common.{rules}
+use Rattle.bplist_c.proofs.HandleSource.{on_answer}
 use Rattle.bplist_c.proofs.lookup.bplist_find_key.Goals as goal
-use Rattle.bplist_c.proofs.lookup.bplist_find_key.Goals.{in-Ok, in-Err}
 
 pub returns-clause-exact : goal.returns-clause-exact
 returns-clause-exact c = (
-  c.match-lend.answer,
+  c.with_checked-answer.result,
   c.tell.ensures,
-  elim c.match-lend.branch [
-    | in-Ok w ↦ rw w.answer-is (on_lent c.args.file c.args.handle.now _ w.in-Ok.ensures.2.0 w.in-Ok.lent.checked w.step_of-answer.result
-        w.in-Ok.ensures.0 w.in-Ok.ensures.1 w.in-Ok.ensures.2.1 w.in-Ok.ensures.2.2 w.step_of-answer.ensures.exact)
-    | in-Err w ↦ rw w.answer-is (on_refused c.args.file c.args.handle.now _ w.in-Err.status w.in-Err.ensures.1)
-  ],
+  on_answer c.args.file c.args.handle.now _ (λ checked answer gave. rw (← gave.shows) (search rules)) c.with_checked-answer.result
+      c.with_checked-answer.ensures.exact,
 )

@@ -23,7 +23,7 @@ use Rattle.std.proofs.alloc.Global.TheLaws as heap_laws
 use Rattle.std_alloc.proofs.ResultValues.{and_tt}
 use Rattle.std.proofs.raw_atomic.Walks.{proved_at, leaves}
 use Rattle.bplist_c.specs.contracts.handle.BplistHeld as handle
-use Rattle.bplist_c.specs.declared.session.Session.{Session}
+use Rattle.bplist_c.specs.declared.handle.Session.{Session}
 use Rattle.bplist_c.proofs.Values.{both}
 use Rattle.bplist_c.proofs.Handles.{Z, handle_in}
 use Rattle.bplist_c.specs.contracts.handle.BplistHeld.none.{ended, clauses}

@@ -1,6 +1,6 @@
 use Rattle.std.proofs.Common.{refl}
 use Rattle.bplist_c.proofs.KeptLists.{anywhere}
-use Rattle.bplist_c.proofs.session.Session.lend.Goals as goal
+use Rattle.bplist_c.proofs.handle.Session.lend.Goals as goal
 
 pub new-requires-3 : goal.new-requires-3
 new-requires-3 c =
