@@ -2,7 +2,6 @@ pub mod NumberBytes
 pub mod CertificateBytes
 pub mod Blocks
 pub mod TextObjects
-pub mod KeyOffsets
 pub mod OrderedLists
 pub mod CheckSteps
 pub mod QuickLooks

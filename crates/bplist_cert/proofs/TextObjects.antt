@@ -1,5 +1,6 @@
 -- Objects that are texts, and keys.
-use Rattle.std.proofs.Common.{◌≡◌, ℕ, ◌<◌, List, refl, subst}
+use Rattle.std.proofs.Common.{◌≡◌, ℕ, suc, ◌<◌, ◌≤◌, ◌⊎◌, inl, inr, List, refl, subst, arith}
+use Rattle.std.proofs.lemmas.Bool.{cases_lt}
 use Rattle.bplist_objects.specs.declared.fault.Fault.{Fault}
 use Rattle.bplist_objects.specs.declared.frame.Frame.{Frame}
 use Rattle.bplist_objects.specs.declared.head.Head.{Head}
@@ -15,7 +16,8 @@ use Rattle.bplist_objects.proofs.BodyLaws.{HasHead-unique}
 use Rattle.bplist_objects.proofs.Broken.{no_object_fault}
 use Rattle.bplist_objects.proofs.HeadTies.{kept_spells, shape_announced}
 use Rattle.bplist_objects.proofs.FirstFaults.{no_content}
-use Rattle.bplist_cert.specs.DictKeys.{IsText}
+use Rattle.bplist_objects.specs.Scan.{ref}
+use Rattle.bplist_cert.specs.DictKeys.{IsText, KeysAreTexts}
 
 -- a text that is not Ascii is Wide
 pub wide_text : (kind : Kind) → IsTextKind kind → (kind ≡ kinds.Ascii → ⊥) → kind ≡ kinds.Wide
@@ -41,3 +43,10 @@ module _ (f : List ℕ) (F : Frame) (m : ℕ) where
   -- an object that keeps rules 14 to 20 has no fault by rules 14 to 17
   pub shape_kept : (fault : Fault) → KeepsAll (KeepsByObject f F m) object_rules → IsObjectFault f F m shape_rules fault → ⊥
   shape_kept fault kept h = no_object_fault f F m shape_rules fault (kept.0, (kept.1.0, (kept.1.1.0, (kept.1.1.1.0, tt)))) h
+
+-- one more key is a text
+pub texts_more : (f : List ℕ) (F : Frame) (head : Head) (i : ℕ) → KeysAreTexts f F head i → (key : Head) × IsText f F (ref f F head i) key → KeysAreTexts f F head (suc i)
+texts_more f F head i before here k low = elim (cases_lt k i) [
+  | inl earlier ↦ before k earlier
+  | inr last ↦ let e : i ≡ k = omega (arith, last, low) in subst (λ j. (key : Head) × IsText f F (ref f F head j) key) e here
+]

@@ -11,7 +11,6 @@ pub mod Looks
 pub mod PairFault
 pub mod Refusals
 pub mod CheckedFile
-pub mod KeyOffsets
 pub mod KeyRepeats
 pub mod KeyPairs
 pub mod LowBytes

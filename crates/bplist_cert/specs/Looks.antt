@@ -1,13 +1,18 @@
 -- What a walk finds out about each vouched object. Source: profile.
-use Rattle.std.specs.Prelude.{ℕ, List, None}
+use Rattle.std.specs.Prelude.{◌≡◌, ℕ, ◌+◌, ◌<◌, List, None, length, slice_index}
 use Rattle.bplist_objects.specs.declared.fault.Fault.{Fault}
 use Rattle.bplist_objects.specs.declared.frame.Frame.{Frame}
+use Rattle.bplist_objects.specs.Frame.{off}
 use Rattle.bplist_objects.specs.Rules.{KeepsAll}
 use Rattle.bplist_cert.specs.declared.checker.Pass.{Pass}
 use Rattle.bplist_cert.specs.declared.checker.Pass.TheVariants.{Quick, Exact}
 use Rattle.bplist_cert.specs.Lists.{Lists, lists}
 use Rattle.bplist_cert.specs.Valid.{IsVouchedBy}
 use Rattle.bplist_cert.specs.CheckRules.{KeepsRule, KeepBelow, KeepsCheck, IsCheckFault, rules_before_keys}
+
+-- these are the places of the objects from a number on
+abbrev pub ArePlaces : List ℕ → Frame → ℕ → List ℕ → Type 0
+ArePlaces f F from places = (k : ℕ) → k < length places → slice_index places k ≡ off f F (from + k)
 
 -- vouched object n keeps the rules before those of keys
 abbrev pub KeepsBeforeKeys : List ℕ → Frame → List ℕ → ℕ → Type 0

@@ -34,12 +34,11 @@ pub use Rattle.bplist_cert.specs.CheckedFile.{CheckedFile, IsChecked, meaning_of
 pub use Rattle.bplist_cert.specs.DictKeys.{AreInOrder, IsKeylessFault, IsText, KeysAreTexts, KeysDiffer}
 pub use Rattle.bplist_cert.specs.Encoding.{Fits, IsCertRefusal, IsOctetsFault, magic, octets_of, words}
 pub use Rattle.bplist_cert.specs.Heights.{AreLower, AreMet, AreMetBy, IsFirstUnmetBy, IsHeightFault, IsUnmetFault, Meets, rule_of}
-pub use Rattle.bplist_cert.specs.KeyOffsets.{AreOffsetsOf, ArePlaces, AreRefs, IsFirstOther, IsOffsetOf, ReferToTexts}
 pub use Rattle.bplist_cert.specs.KeyPairs.{AreFewKeys, AreKnown, Ascends, Follows, HaveTextShapes, IsReadKey, IsSafeKey, IsSafeText, IsTextKey}
 pub use Rattle.bplist_cert.specs.KeyRepeats.{BreaksKeys, HasGoodKeys, HaveGoodKeys, HaveNamedKeys, IsFirstKeysFault, IsKeyOf, IsVouchedKey}
 pub use Rattle.bplist_cert.specs.KeysLooks.{AreLearnt, AreSeen, HaveGoodLists, IsListed}
 pub use Rattle.bplist_cert.specs.Lists.{AreWords, HasStarts, IsCertificate, IsWhole, Lists, list_of, lists}
-pub use Rattle.bplist_cert.specs.Looks.{IsShownFault, KeepBeforeKeysBelow}
+pub use Rattle.bplist_cert.specs.Looks.{ArePlaces, IsShownFault, KeepBeforeKeysBelow}
 pub use Rattle.bplist_cert.specs.LowBytes.{AreLow, IsLow}
 pub use Rattle.bplist_cert.specs.PairFault.{AreCheckedBelow, IsCheckedObject, IsPairFault, IsSeenFault, IsVouchedFault, IsWalkFault, KeepsPairRules}
 pub use Rattle.bplist_cert.specs.Refusals.{GivesRefusal, Judges, MayRefuse, is_read, refusal_of, refusal_of_keys, refused_read}

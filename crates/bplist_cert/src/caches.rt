@@ -1,7 +1,11 @@
-//! Caches that save a check from reading the same texts again. One has key pairs known to be in order, so that
-//! dictionaries with the same keys do not compare them again, and the ranks of long keys. The other has stretches of the
-//! file that have only bytes below 128, for rule 18: an Ascii text is not read again if many dictionaries name it, or if
-//! texts overlap.
+//! Caches that save a check from reading the same texts again.
+//!
+//! [`OrderedPairsCache`] has key pairs known to be in order, so that dictionaries with the same keys do not compare them
+//! again, and the ranks of long keys. [`LowBytesCache`] has stretches of the file that have only bytes below 128, for
+//! rule 18: an Ascii text is not read again if many dictionaries name it, or if texts overlap.
+//!
+//! Two parts are there only for pairs of file and certificate that are refused: [`LowBytesCache`], which `check_texts`
+//! alone asks, and the runs in [`OrderedPairsCache`].
 
 ghost use Rattle.std.specs.Prelude.{◌≡◌, ◌+◌, ◌*◌, ℕ, List, IsTrue, ◌↔◌, ◌≤◌, ◌<◌, length, IfOk};
 ghost use Rattle.std.specs.Result.{result_err};
@@ -18,12 +22,15 @@ const PAIR_SLOTS: usize = 2039;
 const STRETCHES: usize = 256;
 
 /// Pairs of objects that are texts, the first before the second. The table takes 16 KiB, and a new pair replaces the
-/// one in its slot. A pair is stored as one number, and 0 means none. The cache also has the runs of texts compared so
-/// far, and the ranks of long keys.
+/// one in its slot. A pair is stored as one number, and 0 means none.
 #[derive(Drop)]
 pub(crate) struct OrderedPairsCache<'a> {
     pub slots: [u64; PAIR_SLOTS],
+    /// The runs of the texts compared so far. They are for texts that overlap. In a file that is accepted, rule 31 bounds
+    /// how much that is, so there they save little.
     pub runs: RunCache,
+    /// The ranks of long keys. There are none until pairs of long keys were compared that together have as many units
+    /// as the file has bytes. Few files come to that, but a sound one can.
     pub long: LongTexts<'a>,
 }
 
@@ -69,7 +76,8 @@ pub(crate) struct Stretch {
     pub to: u64,
 }
 
-/// One stretch for each part of the file: the longest that begins in that part, joined with those that it meets.
+/// One stretch for each part of the file: the longest that begins in that part, joined with those that it meets. Only
+/// `check_texts` asks it, so a pair that is accepted never does.
 #[derive(Drop)]
 pub(crate) struct LowBytesCache {
     pub slots: [Stretch; STRETCHES],

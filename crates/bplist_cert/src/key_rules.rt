@@ -3,36 +3,30 @@
 //! Two texts have the same class if and only if their units are the same. The classes of all named texts are found once
 //! for all dictionaries, so a repeated key is a repeated class.
 //!
-//! References, offset table and objects are far apart in a file. A source with one window reads each of them forward if
-//! they are read in blocks, but not if each key reads all three in turn. So `read_ahead` reads a block of references,
-//! and then the places of the objects that they name.
+//! If a pair of file and certificate is accepted, the classes have decided both rules. [`check_texts`], which reads each
+//! key, runs only for pairs that are refused: after a fault of an earlier rule, or of the classes or a key list.
 
-ghost use Rattle.std.specs.Prelude.{◌≡◌, ◌↔◌, IsTrue, ◌+◌, ◌*◌, ◌<◌, length, IfOk, IfSome, MatchOption, Some};
-ghost use Rattle.std.specs.Prelude.{None, OnOk, ◌≤◌};
+ghost use Rattle.std.specs.Prelude.{◌≡◌, ◌↔◌, IsTrue, ℕ, ◌+◌, ◌<◌, ◌^◌, length, slice_index, IfOk, IfSome, MatchOption};
+ghost use Rattle.std.specs.Prelude.{None};
 ghost use Rattle.std.specs.Result.{result_err};
 ghost use Rattle.bplist_cert.specs.Prelude.{OnlyReads, frame_in, HonestlyIn, IsSafeHead, Gives, read_failed, KeyKind};
 ghost use Rattle.bplist_cert.specs.Prelude.{Dict, Head as head_record, IsText, KeysAreTexts, IsKeylessFault, AreLow};
-ghost use Rattle.bplist_cert.specs.Prelude.{IsOffsetOf, AreOffsetsOf, ReferToTexts, IsFirstOther, HasHead};
+ghost use Rattle.bplist_cert.specs.Prelude.{FailsAt, HasHead, ref};
 ghost use Rattle.bplist_cert.specs.Prelude.{Head as head, HaveNamedKeys, AreClassed, IsStamped, IsNew};
 ghost use Rattle.bplist_cert.specs.Prelude.{lists, KeepBeforeKeysBelow, IsVouchedBy, HasGoodKeys};
-ghost use Rattle.bplist_cert.specs.Prelude.{HaveGoodKeys, BreaksKeys, IsFirstKeysFault, Judges, refused_read, ref_count};
-ghost use Rattle.bplist_cert.specs.Prelude.{AreRefs};
+ghost use Rattle.bplist_cert.specs.Prelude.{HaveGoodKeys, BreaksKeys, IsFirstKeysFault, Judges, refused_read};
 
 use crate::caches::LowBytesCache;
 use crate::heights::height_at;
 use crate::key_lists::VouchedPrefix;
 use crate::key_names::seen_keys;
 use crate::refusal::Refusal;
-use bplist_keys::{ClassTable, KeyDefect, NamedKeys, classes_of, text_head};
+use bplist_keys::{ClassTable, KeyDefect, NamedKeys, classes_of, object_text};
 use bplist_objects::{
-    Framed, Head, Kind, ObjectFault, ObjectNo, OffsetTable, Offsets, object_shape, offsets_of,
-    read_refs,
+    Head, Kind, ObjectFault, ObjectNo, OffsetTable, Offsets, RefBlocks, object_shape, offsets_of,
 };
 use bplist_octets::ReadFault;
 use std::alloc::Global;
-
-/// The most keys that are read ahead.
-const BLOCK: usize = 256;
 
 /// A table of all places is worth its memory if at least one object in this many is a key.
 const OBJECTS_FOR_A_KEY: u32 = 16;
@@ -52,16 +46,10 @@ struct KeyTables {
     low: LowBytesCache,
 }
 
-/// Returns whether object `m`, which is at `place`, spells a text. Reads the bytes of an Ascii text unless `low` knows
-/// that they are below 128.
-fn is_text<P: Framed>(
-    src: &mut P,
-    low: &mut LowBytesCache,
-    m: u64,
-    place: u64,
-) -> Result<bool, ReadFault>
+/// Returns whether object `m` spells a text. Reads the bytes of an Ascii text unless `low` knows that they are below 128.
+fn is_text<P: Offsets>(src: &mut P, low: &mut LowBytesCache, m: u64) -> Result<bool, ReadFault>
     ensures reads { OnlyReads (result_err result) (P.means src.old) (P.means src.new) }
-    ensures exact { HonestlyIn (P.means src.old) (λ f F. AreLow f low.old.slots → IsOffsetOf f F m place
+    ensures exact { HonestlyIn (P.means src.old) (λ f F. AreLow f low.old.slots
         → IfOk result (λ text. AreLow f low.new.slots × (IsTrue text ↔ ((key : head_record) × IsText f F m key)))) }
 {
     let frame = src.frame();
@@ -69,7 +57,7 @@ fn is_text<P: Framed>(
     let Some(key) = frame.object(m) else {
         return Ok(false);
     };
-    let Some(head) = text_head(src, key.0, place)? else {
+    let Some(head) = object_text(src, key.0)? else {
         return Ok(false);
     };
     match head.kind {
@@ -78,58 +66,33 @@ fn is_text<P: Framed>(
     }
 }
 
-/// Returns the index of the first of these objects that is not a text. `offsets` has their places.
-fn first_other<P: Framed>(
+/// Returns the number of the first key of a dictionary that is not a text, among those from number `from` on, to which
+/// `refs` refer. The keys before them are texts.
+fn first_keyless<P: Offsets>(
     src: &mut P,
     low: &mut LowBytesCache,
+    from: u64,
     refs: &[u64],
-    offsets: &[u64],
-) -> Result<Option<usize>, ReadFault>
-    requires { length offsets.now ≡ length refs.now }
+) -> Result<Option<u64>, ReadFault>
+    requires { from + length refs.now < 2 ^ 64 }
     ensures reads { OnlyReads (result_err result) (P.means src.old) (P.means src.new) }
-    ensures exact { HonestlyIn (P.means src.old) (λ f F. AreLow f low.old.slots
-        → AreOffsetsOf f F refs.now offsets.now (length refs.now) → IfOk result (λ found. AreLow f low.new.slots
-        × MatchOption found (ReferToTexts f F refs.now (length refs.now)) (IsFirstOther f F refs.now))) }
-    ensures inside { IfOk result (λ found. IfSome found (λ i. i < length refs.now)) }
+    ensures inside { IfOk result (λ found. IfSome found (λ i. i < from + length refs.now)) }
+    ensures exact { HonestlyIn (P.means src.old) (λ f F. (head : head_record)
+        → ((k : ℕ) → k < length refs.now → slice_index refs.now k ≡ ref f F head (from + k))
+        → KeysAreTexts f F head from → AreLow f low.old.slots → IfOk result (λ found. AreLow f low.new.slots
+        × MatchOption found (KeysAreTexts f F head (from + length refs.now))
+        (FailsAt (KeysAreTexts f F head) (from + length refs.now)))) }
 {
-    for i in 0..refs.len() {
-        if !is_text(src, low, refs[i], offsets[i])? {
-            return Ok(Some(i));
+    for (k, m) in refs.iter().enumerate() {
+        if !is_text(src, low, *m)? {
+            return Ok(Some(from + k as u64));
         }
     }
     Ok(None)
 }
 
-/// Fills `refs` with the references from number `from` on, and `found` with the places of the objects that they name,
-/// or 0 for a number that names no object. Copies the frame once for all of them.
-fn read_ahead<P: Offsets>(
-    src: &mut P,
-    head: &Head,
-    from: u64,
-    refs: &mut [u64],
-    found: &mut [u64],
-) -> Result<(), ReadFault>
-    requires head { IsSafeHead (frame_in (P.means src.old)) head.now }
-    requires within { from + length refs.old ≤ ref_count head.now.kind head.now.count }
-    requires many { length found.old ≡ length refs.old }
-    ensures reads { OnlyReads (result_err result) (P.means src.old) (P.means src.new) }
-    ensures refs { OnOk result (HonestlyIn (P.means src.old) (λ f F. AreRefs f F head.now from refs.new)) }
-    ensures found { OnOk result (HonestlyIn (P.means src.old) (λ f F. AreOffsetsOf f F refs.new found.new (length refs.new))) }
-{
-    let frame = src.frame();
-    read_refs(src, &frame, head, from, refs)?;
-    for k in 0..refs.len() {
-        if let Some(m) = frame.object(refs[k]) {
-            found[k] = src.offset(m.0)?;
-        } else {
-            found[k] = 0;
-        }
-    }
-    Ok(())
-}
-
 /// Checks rule 21 for dictionary `n`, which has this head. The fault is that of the first key that is not a text, at
-/// its reference, counted from the file's first byte. `Read` if a read failed.
+/// its reference, counted from the file's first byte. `Read` if a read failed. Runs only for pairs that are refused.
 pub(crate) fn check_texts<P: Offsets>(
     src: &mut P,
     low: &mut LowBytesCache,
@@ -141,20 +104,12 @@ pub(crate) fn check_texts<P: Offsets>(
         → Gives (λ _. AreLow f low.new.slots × KeysAreTexts f F dict.now.head dict.now.head.count)
         (IsKeylessFault f F dict.now.n.0 dict.now.head) result) }
 {
-    let count = dict.head.count;
-    let mut refs = [0u64; BLOCK];
-    let mut found = [0u64; BLOCK];
-    let mut done = 0u64;
-    while done < count {
-        let now = (count - done).min(BLOCK as u64);
-        let block = &mut refs[..now as usize];
-        let places = &mut found[..now as usize];
-        read_ahead(src, &dict.head, done, block, places)?;
-        if let Some(i) = first_other(src, low, block, places)? {
-            let wrong = KeyDefect::NotText(done + i as u64);
+    let mut keys = RefBlocks::keys_of(&dict.head);
+    while keys.read(src)? {
+        if let Some(i) = first_keyless(src, low, keys.first, keys.block())? {
+            let wrong = KeyDefect::NotText(i);
             return Err(ObjectFault::Fault(wrong.fault(src, dict.n, &dict.head)));
         }
-        done += now;
     }
     Ok(())
 }

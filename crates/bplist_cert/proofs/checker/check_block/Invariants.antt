@@ -1,7 +1,7 @@
 use Rattle.std.proofs.Common.{◌≡◌, ◌+◌}
 use Rattle.bplist_objects.specs.Framed.{HonestlyIn}
 use Rattle.bplist_cert.specs.declared.checker.Pass.TheVariants.{Quick}
-use Rattle.bplist_cert.specs.KeyOffsets.{ArePlaces}
+use Rattle.bplist_cert.specs.Looks.{ArePlaces}
 use Rattle.bplist_cert.specs.PairFault.{AreCheckedBelow}
 use Rattle.bplist_cert.proofs.checker.check_block.Given as goal
 

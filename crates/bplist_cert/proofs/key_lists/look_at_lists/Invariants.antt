@@ -1,7 +1,6 @@
 use Rattle.std.proofs.Common.{◌≡◌, ◌+◌, length}
 use Rattle.bplist_objects.specs.Framed.{HonestlyIn}
-use Rattle.bplist_cert.specs.Looks.{KeepBeforeKeysBelow}
-use Rattle.bplist_cert.specs.KeyOffsets.{ArePlaces}
+use Rattle.bplist_cert.specs.Looks.{ArePlaces, KeepBeforeKeysBelow}
 use Rattle.bplist_cert.specs.KeysLooks.{HaveGoodLists}
 use Rattle.bplist_cert.proofs.key_lists.look_at_lists.Given as goal
 

@@ -1,8 +1,7 @@
 use Rattle.std.proofs.Common.{◌≡◌, ◌⊎◌, ℕ, ◌+◌, length}
 use Rattle.bplist_objects.specs.Framed.{HonestlyIn}
 use Rattle.bplist_keys.specs.Marks.{IsMarked}
-use Rattle.bplist_cert.specs.Looks.{KeepBeforeKeysBelow}
-use Rattle.bplist_cert.specs.KeyOffsets.{ArePlaces}
+use Rattle.bplist_cert.specs.Looks.{ArePlaces, KeepBeforeKeysBelow}
 use Rattle.bplist_cert.specs.KeyRepeats.{HaveNamedKeys, IsVouchedKey}
 use Rattle.bplist_cert.proofs.key_names.name_key_block.Given as goal
 
