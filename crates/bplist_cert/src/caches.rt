@@ -1,8 +1,8 @@
 //! Caches that save a check from reading the same texts again.
 //!
-//! [`OrderedPairsCache`] has key pairs known to be in order, so that dictionaries with the same keys do not compare them
-//! again, and the ranks of long keys. [`LowBytesCache`] has stretches of the file that have only bytes below 128, for
-//! rule 18: an Ascii text is not read again if many dictionaries name it, or if texts overlap.
+//! [`OrderedPairsCache`] has key pairs known to be in order, so that dictionaries with the same keys do not compare
+//! them again, and the ranks of long keys. [`LowBytesCache`] has stretches of the file that have only bytes below 128,
+//! for rule 18: an Ascii text is not read again if many dictionaries name it, or if texts overlap.
 //!
 //! Two parts are there only for pairs of file and certificate that are refused: [`LowBytesCache`], which `check_texts`
 //! alone asks, and the runs in [`OrderedPairsCache`].
@@ -26,8 +26,8 @@ const STRETCHES: usize = 256;
 #[derive(Drop)]
 pub(crate) struct OrderedPairsCache<'a> {
     pub slots: [u64; PAIR_SLOTS],
-    /// The runs of the texts compared so far. They are for texts that overlap. In a file that is accepted, rule 31 bounds
-    /// how much that is, so there they save little.
+    /// The runs of the texts compared so far. They are for texts that overlap. In a file that is accepted, rule 31
+    /// bounds how much that is, so there they save little.
     pub runs: RunCache,
     /// The ranks of long keys. There are none until pairs of long keys were compared that together have as many units
     /// as the file has bytes. Few files come to that, but a sound one can.

@@ -3,8 +3,8 @@
 //! Two texts have the same class if and only if their units are the same. The classes of all named texts are found once
 //! for all dictionaries, so a repeated key is a repeated class.
 //!
-//! If a pair of file and certificate is accepted, the classes have decided both rules. [`check_texts`], which reads each
-//! key, runs only for pairs that are refused: after a fault of an earlier rule, or of the classes or a key list.
+//! If a pair of file and certificate is accepted, the classes have decided both rules. [`check_texts`], which reads
+//! each key, runs only for pairs that are refused: after a fault of an earlier rule, of a class or of a key list.
 
 ghost use Rattle.std.specs.Prelude.{◌≡◌, ◌↔◌, IsTrue, ℕ, ◌+◌, ◌<◌, ◌^◌, length, slice_index, IfOk, IfSome, MatchOption};
 ghost use Rattle.std.specs.Prelude.{None};
@@ -46,7 +46,8 @@ struct KeyTables {
     low: LowBytesCache,
 }
 
-/// Returns whether object `m` spells a text. Reads the bytes of an Ascii text unless `low` knows that they are below 128.
+/// Returns whether object `m` spells a text. Reads the bytes of an Ascii text unless `low` knows that they are below
+/// 128.
 fn is_text<P: Offsets>(src: &mut P, low: &mut LowBytesCache, m: u64) -> Result<bool, ReadFault>
     ensures reads { OnlyReads (result_err result) (P.means src.old) (P.means src.new) }
     ensures exact { HonestlyIn (P.means src.old) (λ f F. AreLow f low.old.slots
