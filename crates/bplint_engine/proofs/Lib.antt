@@ -5,6 +5,7 @@ mod LowerFaults
 mod GetAnswers
 mod HexAnswers
 mod LeftBytes
+mod LineLengths
 mod LintAnswers
 mod MemberLines
 mod OneAnswer
@@ -27,5 +28,6 @@ mod SinkLines
 mod ToldTexts
 mod ToldTrees
 mod ToldValues
+mod TreeAsks
 mod TreeLines
 mod TreeSteps
