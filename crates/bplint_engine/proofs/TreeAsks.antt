@@ -1,5 +1,5 @@
 -- How many bytes a recursive listing asks for, step by step.
-use Rattle.std.proofs.Common.{IsTrue, ◌≡◌, ◌≤◌, ◌<◌, ◌+◌, ◌*◌, ◌++◌, ◌∷◌, [], ◌∙◌, ℕ, zero, suc, List, drop, length, map, Some, Option, ap, arith, refl, subst, sym}
+use Rattle.std.proofs.Common.{IsTrue, ◌≡◌, ◌≤◌, ◌<◌, ◌+◌, ◌*◌, ◌++◌, ◌∷◌, [], ◌∙◌, ℕ, zero, suc, List, drop, length, map, None, Some, Option, ap, arith, refl, subst, sym}
 use Rattle.std.specs.Prelude.{get_or, reverse, slice_get}
 use Rattle.std.specs.List.{enumerate_from}
 use Rattle.std.proofs.lemmas.List.{reverse-append}
@@ -20,17 +20,21 @@ use Rattle.bplint_engine.specs.Tree.{named_members}
 use Rattle.bplint_engine.proofs.TreeLines.{length-named}
 
 -- ---- the bytes of one member, and of those after it
+-- the value of a named member, or another value if there is none
+abbrev value_of : Value → Option (List ℕ × Value) → Value
+value_of other named = elim named [ Some m ↦ m.1 | None ↦ other ]
+
 -- a member that is there
-next_member : (f : ℕ → List ℕ) (k : ℕ) (vs : Values) (i : ℕ) (n : List ℕ) (m : Value) → slice_get (map (λ e. (f e.0, e.1)) (enumerate_from k (members vs))) i ≡ Some (n, m)
+next_member : (f : ℕ → List ℕ) (k : ℕ) (vs : Values) (i : ℕ) (n : List ℕ) (m : Value) → slice_get {X = List ℕ × Value} (map (λ e. (f e.0, e.1)) (enumerate_from k (members vs))) i ≡ Some (n, m)
     → members_bytes_from i vs ≡ 8 + (walk_bytes m + members_bytes_from (suc i) vs)
 next_member f k no_values i n m e = cc e
-next_member f k (value v vs) zero n m e = let same : v ≡ m = cc e in ap (λ x. 8 + (walk_bytes x + members_bytes vs)) same
+next_member f k (value v vs) zero n m e = let same : v ≡ m = ap (value_of v) e in ap (λ x. 8 + (walk_bytes x + members_bytes vs)) same
 next_member f k (value v vs) (suc i) n m e = next_member f (k + 1) vs i n m e
 
-next_pair : (f : ℕ → List ℕ → List ℕ) (k : ℕ) (ps : Pairs) (i : ℕ) (n : List ℕ) (m : Value) → slice_get (map (λ e. (f e.0 e.1.0, e.1.1)) (enumerate_from k (entries ps))) i ≡ Some (n, m)
+next_pair : (f : ℕ → List ℕ → List ℕ) (k : ℕ) (ps : Pairs) (i : ℕ) (n : List ℕ) (m : Value) → slice_get {X = List ℕ × Value} (map (λ e. (f e.0 e.1.0, e.1.1)) (enumerate_from k (entries ps))) i ≡ Some (n, m)
     → pairs_bytes_from i ps ≡ 44 + 2 * length (get_or (keys ps) i []) + (walk_bytes m + pairs_bytes_from (suc i) ps)
 next_pair f k no_pairs i n m e = cc e
-next_pair f k (pair u v ps) zero n m e = let same : v ≡ m = cc e in ap (λ x. 44 + 2 * length u + (walk_bytes x + pairs_bytes ps)) same
+next_pair f k (pair u v ps) zero n m e = let same : v ≡ m = ap (value_of v) e in ap (λ x. 44 + 2 * length u + (walk_bytes x + pairs_bytes ps)) same
 next_pair f k (pair u v ps) (suc i) n m e = next_pair f (k + 1) ps i n m e
 
 -- the bytes from a member on are those of its name, of its value and of the members after it
