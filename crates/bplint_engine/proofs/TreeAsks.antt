@@ -152,10 +152,9 @@ module _ (checked : CheckedFile) where
       )
 
   -- the named member was begun
-  pub step_asks : (file : CheckedFile) (now : ℕ) (os : List Opened) (w m : Value) (i rest left : ℕ) → IsSameFile checked file → file.asked ≤ checked.asked + name_bytes w i
-      → left ≡ name_bytes w i + (walk_bytes m + rest) → AsksOn file now os (walk_bytes m + rest) → AsksOn checked now os left
-  step_asks file now os w m i rest left same asks is (more, stands, on) =
-      (more, subst (λ x. AllBytesLeftIn x os more) same stands, omega (arith, asks, is, on))
+  pub step_asks : (asked now : ℕ) (os : List Opened) (w m : Value) (i rest left : ℕ) → asked ≤ checked.asked + name_bytes w i → left ≡ name_bytes w i + (walk_bytes m + rest)
+      → (more : ℕ) × AllBytesLeftIn checked os more × (now + more ≤ asked + (walk_bytes m + rest)) → AsksOn checked now os left
+  step_asks asked now os w m i rest left asks is (more, stands, on) = (more, stands, omega (arith, asks, is, on))
 
   -- ---- the loop
   pub asks_all : (now : ℕ) (os : List Opened) (all : ℕ) → AsksOn checked now os (all + 0) → AsksOn checked now os all

@@ -47,13 +47,8 @@ returns-clause-exact g c = λ honest w held left stands.
 pub returns-in_err-members-clause-asks : goal.returns-in_err-members-clause-asks
 returns-in_err-members-clause-asks g c = λ honest w held. omega (arith, face_within w, c.in_err-members.ensures.asks honest w held)
 
-pub returns-in-None-clause-asks : goal.returns-in-None-clause-asks
-returns-in-None-clause-asks g c = λ honest w held. omega (arith, face_within w, c.in_ok-members.ensures.asks honest w held)
-
-pub returns-in-None-clause-asks_on : goal.returns-in-None-clause-asks_on
-returns-in-None-clause-asks_on g c = λ honest w held left stands.
-    let is = rw c.in-None.is at (c.in_ok-members.ensures.exact honest w held).1 in
-    leaf_asks c.args.checked.now _ c.args.checked.now.asked _ _ w left refl (ap reverse c.in_ok-members.ensures.stack) is (c.in_ok-members.ensures.asks honest w held) stands
+pub returns-in_default-clause-asks : goal.returns-in_default-clause-asks
+returns-in_default-clause-asks g c = λ honest w held. omega (arith, face_within w, c.in_ok-members.ensures.asks honest w held)
 
 pub returns-in_err-head-clause-asks : goal.returns-in_err-head-clause-asks
 returns-in_err-head-clause-asks g c = λ honest w held.

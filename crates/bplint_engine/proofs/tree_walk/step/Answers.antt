@@ -100,6 +100,6 @@ returns-clause-asks_on g c =
     let member = c.in_ok-at.ensures.exact honest of.0 of.1 of.2 in
     let next = named_asks file c.args.style (name_in c.args.listing.now.names o.name) o (reverse c.args.listing.now.stack.items) stands.0 stands.1 left of.0 _ member.0 of.1 of.2 of.3 stands.3 stands.4 member.1 in
     let pushed = next.1 on refl refl refl refl in
-    step_asks file c.name_member.new.checked _ _ of.0 member.0 o.next next.0 left c.in_ok-at.ensures.reads (c.in_ok-at.ensures.asks honest of.0 of.1 of.2) next.2
+    step_asks file c.name_member.new.checked.asked _ _ of.0 member.0 o.next next.0 left (c.in_ok-at.ensures.asks honest of.0 of.1 of.2) next.2
     ((rw c.in_ok-at.ensures.reads at begins) honest member.0 member.2 next.0 (subst (λ os. AllBytesLeftIn file os next.0) (sym items) pushed)))
     c.begin.ensures.asks_on
