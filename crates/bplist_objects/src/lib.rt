@@ -18,8 +18,7 @@
 //! | rule_texts | [`texts_of`], a sentence and an example for each rule |
 //! | fault | [`Fault`], a broken rule; [`ObjectFault`], that or a failed read; [`Failure`], a failed read or refused memory |
 //! | frame | [`Frame`], the trailer's five numbers: [`trailer_of`] by rules 1 to 12, [`frame_of`] by rules 1 to 13 |
-//! | offsets | places of objects: [`offset_of`], [`read_offsets`], [`offsets_of`], and [`check_offsets`] by rule 13; sources that have them: [`Offsets`], [`OffsetTable`], [`object_shape`] |
-//! | offset_reader | [`OffsetReader`], an [`Offsets`] that reads blocks of the offset table when asked |
+//! | offsets | places of objects: [`offset_of`], [`read_offsets`], [`offsets_of`], and [`check_offsets`] by rule 13; [`Offsets`], a source that gives them; [`object_shape`] |
 //! | head | [`Kind`], the kinds of objects; [`Head`], what marker and count say, by rules 14 to 17: [`shape_of`], and [`shape_at`] for a known place |
 //! | marker | what the marker alone says: the kind, by rule 15, the count and the size |
 //! | body | heads by rules 14 to 20: [`head_of`], [`head_at`]; [`check_body`] |
@@ -27,7 +26,8 @@
 //! | extents | [`Extents`], what objects take together, by rule 31 |
 //! | leaf | the values of leaves: [`int_of`], [`uid_of`], [`octets_at`]; the units of texts: [`unit_at`], [`read_units`]; their order: [`key_cmp`] |
 //! | unit_blocks | the units of a text, block by block: [`UnitBlocks`] |
-//! | framed | [`Framed`], a source that has its frame; [`Plist`], which makes one; the same calls over it, with names that end in `_in`, as [`shape_in`]; [`ref_place`] |
+//! | objects | [`Objects`], a file that was opened: a source with its frame and its places, which are kept or read in blocks |
+//! | framed | [`Framed`], a source that has its frame; the same calls over it, with names that end in `_in`, as [`shape_in`]; [`ref_place`] |
 //! | ref_blocks | [`RefBlocks`], the references of an object over a source with a frame, block by block |
 //! | numbers | numbers of a source, read block by block |
 //! | scan | [`visit_in`], the first look at an object, which finds a [`Visit`] and is enough for most leaves; [`first_high_in`], a search of a text |
@@ -49,7 +49,7 @@ mod leaf;
 mod leaf_laws;
 mod marker;
 mod numbers;
-mod offset_reader;
+mod objects;
 mod offsets;
 mod ref_blocks;
 mod refs;
@@ -62,7 +62,7 @@ pub use body::{check_body, head_at, head_of};
 pub use extents::Extents;
 pub use fault::{Failure, Fault, ObjectFault};
 pub use frame::{Frame, ObjectNo, frame_of, trailer_of};
-pub use framed::{Framed, Plist, head_in, read_offsets_in, read_refs_in, ref_place, shape_in};
+pub use framed::{Framed, head_in, read_offsets_in, read_refs_in, ref_place, shape_in};
 pub use head::{Head, Kind, shape_at, shape_of};
 pub use laws::{
     fault_excludes, founded_has_no_circle, keeps_iff_frame, keeps_iff_spells, kept_iff_head,
@@ -71,10 +71,8 @@ pub use laws::{
 };
 pub use leaf::{int_of, key_cmp, octets_at, read_units, uid_of, unit_at};
 pub use leaf_laws::{leaves_by_parts, units_are_ordered};
-pub use offset_reader::OffsetReader;
-pub use offsets::{
-    OffsetTable, Offsets, check_offsets, object_shape, offset_of, offsets_of, read_offsets,
-};
+pub use objects::Objects;
+pub use offsets::{Offsets, check_offsets, object_shape, offset_of, offsets_of, read_offsets};
 pub use ref_blocks::RefBlocks;
 pub use refs::{read_refs, ref_at, refs_of};
 pub use rule::{Rule, rule_name, rule_number, rule_of_number};
