@@ -16,7 +16,7 @@ use crate::heights::{Wanted, check_heights, check_refs};
 use crate::key_lists::{KeyFindings, VouchedPrefix, key_findings};
 use crate::refusal::Refusal;
 use bplist_objects::{
-    Extents, Fault, Frame, Framed, Head, ObjectFault, ObjectNo, OffsetReader, Offsets, Rule, Visit,
+    Extents, Fault, Frame, Framed, Head, ObjectFault, ObjectNo, Objects, Offsets, Rule, Visit,
     check_body, frame_of, head_in, read_offsets_in, refs_of, visit_in,
 };
 use bplist_octets::Source;
@@ -305,23 +305,24 @@ fn check_lists<S: Source>(alloc: Global, src: &mut S, cert: &Certificate) -> Res
         (λ frame. KeepsPairRules f frame cert.now) (IsPairFault f cert.now) result) }
     ensures safe { IfOk result (λ frame. IsSafeFrame (length (S.means src.old).octets) frame × (length cert.now.heights ≡ frame.objects)) }
 {
-    let frame = frame_of(src)?;
+    let frame = frame_of(src)?; // rules 1 to 13
     if cert.heights.len() as u64 != frame.objects as u64 {
         return Err(Refusal::Fault(Fault {
-            rule: Rule::CertCount,
+            rule: Rule::CertCount, // rule 26
             object: None,
             place: 8,
         }));
     }
     if cert.heights[frame.top.0 as usize] == 0 {
         return Err(Refusal::Fault(Fault {
-            rule: Rule::TopNotVouched,
+            rule: Rule::TopNotVouched, // rule 27
             object: Some(frame.top),
             place: 16 + 4 * frame.top.0 as u64,
         }));
     }
-    let mut plist = OffsetReader::new(src, frame);
-    check_objects(alloc, &mut plist, cert)?;
+    let mut places = Vec::new(alloc);
+    let mut file = Objects::new(src, frame, &mut places);
+    check_objects(alloc, &mut file, cert)?; // rules 14 to 20, 31, 28 and 29; then 21, and 22 or 32
     Ok(frame)
 }
 

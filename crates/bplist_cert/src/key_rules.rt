@@ -22,13 +22,11 @@ use crate::key_lists::VouchedPrefix;
 use crate::key_names::seen_keys;
 use crate::refusal::Refusal;
 use bplist_keys::{ClassTable, KeyDefect, NamedKeys, classes_of, object_text};
-use bplist_objects::{
-    Head, Kind, ObjectFault, ObjectNo, OffsetTable, Offsets, RefBlocks, object_shape, offsets_of,
-};
+use bplist_objects::{Head, Kind, ObjectFault, ObjectNo, Offsets, RefBlocks, object_shape};
 use bplist_octets::ReadFault;
 use std::alloc::Global;
 
-/// A table of all places is worth its memory if at least one object in this many is a key.
+/// All places are worth their memory if at least one object in this many is a key.
 const OBJECTS_FOR_A_KEY: u32 = 16;
 
 /// A dictionary: its object and its head.
@@ -187,7 +185,7 @@ fn check_named<P: Offsets>(
 /// text are read once for its class, and the text is read further only if another has the same fingerprint.
 ///
 /// Without keys there is nothing to check, so neither classes nor places are read. With few keys, places are read when
-/// they are needed, and not kept in a table.
+/// they are needed, and not kept.
 pub(crate) fn check_key_repeats<P: Offsets>(
     alloc: Global,
     src: &mut P,
@@ -201,20 +199,14 @@ pub(crate) fn check_key_repeats<P: Offsets>(
         → Judges (λ _. HaveGoodKeys f F seen.now.heights.now None seen.now.bound)
         (IsFirstKeysFault f F (lists seen.now.heights.now None) seen.now.bound) result) }
 {
-    let frame = src.frame();
+    let objects = src.frame().objects;
     let named = seen_keys(alloc, src, seen.heights, seen.bound, named)?;
     let keys = named.count();
     if keys == 0 {
         return Ok(());
     }
-    if keys < (frame.objects / OBJECTS_FOR_A_KEY) as usize {
-        return check_named(alloc, src, seen, named);
+    if keys >= (objects / OBJECTS_FOR_A_KEY) as usize {
+        src.keep_places(alloc)?;
     }
-    let places = offsets_of(alloc, src, &frame)?;
-    check_named(
-        alloc,
-        &mut OffsetTable::new(src, frame, &places),
-        seen,
-        named,
-    )
+    check_named(alloc, src, seen, named)
 }

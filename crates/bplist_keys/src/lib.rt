@@ -5,8 +5,9 @@
 //! ```
 //! let mut named = NamedKeys::new(alloc, frame.objects)?;
 //! named.insert(key);                                       // each object that is named as a key
-//! let places = offsets_of(alloc, &mut source, &frame)?;
-//! let classes = classes_of(alloc, &mut OffsetTable::new(&mut source, frame, &places), named)?;
+//! let mut places = offsets_of(alloc, &mut source, &frame)?;
+//! let mut file = Objects::new(&mut source, frame, &mut places);
+//! let classes = classes_of(alloc, &mut file, named)?;
 //! let same = classes.table[a] == classes.table[b];         // true if and only if the units are the same
 //! ```
 //!

@@ -18,7 +18,7 @@ returns-in_err-check_objects-clause-exact g c = λ honest.
     let count : length heights ≡ frame.objects = omega (arith, ap (λ (x : Lists). length x.heights) c.cert.view_is, c.len.ensures, c.if-len-frame.false) in
     let same_at = get_or_default_zero c.cert.inside.heights.items frame.top.0 c.index.result.now (omega (arith, c.in_ok-frame.ensures.safe.top, c.len.ensures, c.if-len-frame.false)) in
     let top : IsVouchedBy heights frame.top.0 = omega (arith, ap (λ (x : Lists). slice_index x.heights frame.top.0) c.cert.view_is, c.index.ensures, c.if-index-eq0.false, same_at) in
-    let exact = (rw (c.new-plist.ensures.frame, c.new-plist.ensures.means, c.in_ok-frame.ensures.reads) at c.in_err-check_objects.ensures.exact) honest in
+    let exact = (rw (c.new-file.ensures.frame, c.new-file.ensures.means, c.in_ok-frame.ensures.reads) at c.in_err-check_objects.ensures.exact) honest in
     let p = err_from_is_err_and c.from_residual-in_err-check_objects.result c.from_residual-in_err-check_objects.ensures.1 in
     rw (p.1, p.2) (refused_weaker _ _ c.in_err-check_objects.field-0.0 (λ fault h. inr (frame, c.in_ok-frame.ensures.exact honest, inr (count, top, h))) exact)
 
