@@ -16,7 +16,7 @@ use crate::lines::{add_region, add_row, end_of};
 use crate::object_order::{ObjectOffset, objects_in_order};
 use crate::rows::{Verdict, row_of, verdict_of};
 use bplint_lines::{RunFault, Said};
-use bplist_objects::{Frame, Framed, ObjectFault, Plist, frame_of};
+use bplist_objects::{Frame, Framed, ObjectFault, Objects, frame_of};
 use bplist_octets::{Sink, Source};
 use std::alloc::{AllocError, Global};
 use std::io::Write;
@@ -61,11 +61,12 @@ pub fn map_on<S: Source, W: Write>(
         Err(ObjectFault::Read(fault)) => return Err(RunFault::Read(fault)),
     };
     let verdict = verdict_of(alloc, src)?;
-    let mut plist = Plist::new(src, frame);
-    let objects = objects_in_order(alloc, &mut plist)?;
+    let mut places = Vec::new(alloc);
+    let mut file = Objects::new(src, frame, &mut places);
+    let objects = objects_in_order(alloc, &mut file)?;
     let map = Map { verdict, objects };
     let mut sink = Sink::new();
-    put_map(alloc, &mut plist, &map, &mut sink, out)?;
+    put_map(alloc, &mut file, &map, &mut sink, out)?;
     sink.flush(out)?;
     Ok(Said::All)
 }

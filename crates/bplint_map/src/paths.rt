@@ -11,7 +11,7 @@ use crate::map::{Map, TITLE, back_lines, looked_at_most};
 use crate::object_order::objects_in_order;
 use crate::rows::{Row, Verdict, row_of, verdict_of};
 use bplint_lines::{ObjectPath, ObjectPaths, RunFault, Said, paths_in};
-use bplist_objects::{Failure, Framed, ObjectFault, ObjectNo, Plist, frame_of};
+use bplist_objects::{Failure, Framed, ObjectFault, ObjectNo, Objects, frame_of};
 use bplist_octets::{Sink, Source};
 use std::alloc::Global;
 use std::io::Write;
@@ -38,11 +38,12 @@ pub fn map_paths_on<S: Source, W: Write>(
     };
     let verdict = verdict_of(alloc, src)?;
     let paths = paths_in(alloc, src, &frame, LONGEST)?;
-    let mut plist = Plist::new(src, frame);
-    let objects = objects_in_order(alloc, &mut plist)?;
+    let mut places = Vec::new(alloc);
+    let mut file = Objects::new(src, frame, &mut places);
+    let objects = objects_in_order(alloc, &mut file)?;
     let map = Map { verdict, objects };
     let mut lines = PathLines::new(alloc, out);
-    put_map(alloc, &mut plist, &map, &paths, &mut lines)?;
+    put_map(alloc, &mut file, &map, &paths, &mut lines)?;
     lines.finish()?;
     Ok(Said::All)
 }

@@ -1,5 +1,5 @@
 -- What a quick look at the body of object n shows.
-use Rattle.std.proofs.Common.{◌≡◌, ℕ, List, length, slice_index, Result, Ok, Err, IfOk, ◌<◌, arith, refl, sym, ap, ◌∙◌, subst}
+use Rattle.std.proofs.Common.{◌≡◌, ℕ, List, length, slice_index, Result, Ok, Err, IfOk, arith, refl, sym, ap, ◌∙◌, subst}
 use Rattle.bplist_objects.specs.declared.frame.Frame.{Frame}
 use Rattle.bplist_objects.specs.declared.head.Head.{Head}
 use Rattle.bplist_objects.specs.declared.head.Kind.{Kind}

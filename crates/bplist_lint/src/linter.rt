@@ -10,7 +10,7 @@ ghost use Rattle.bplist_lint.specs.Prelude.{IsLinted, IsLintedWithKind, HasNoHei
 
 use crate::answer::{Lint, LintRefusal, ObjectNos};
 use crate::circle::circle;
-use crate::graph::{Objects, View};
+use crate::graph::{ObjectGraph, View};
 use crate::heights::{least_heights, unmarked};
 use crate::key_rules::check_keys;
 use crate::reach::{Marked, mark_reached};
@@ -19,8 +19,7 @@ use crate::walk::{Reached, walk};
 use bplist_cert::{Certificate, Refusal};
 use bplist_keys::NamedKeys;
 use bplist_objects::{
-    Frame, Framed, Kind, OffsetReader, OffsetTable, Offsets, check_offsets, offsets_of, shape_of,
-    trailer_of,
+    Frame, Framed, Kind, Objects, Offsets, check_offsets, offsets_of, shape_of, trailer_of,
 };
 use bplist_octets::Source;
 use std::alloc::Global;
@@ -44,7 +43,7 @@ fn find_heights<P: Offsets>(
         → Judges (λ heights. AreLeast (refs_at f F) F.top.0 heights.items) Never result) }
 {
     let _frame = src.frame();
-    let mut objects = Objects::new(src, View::Values);
+    let mut objects = ObjectGraph::new(src, View::Values);
     Ok(least_heights(alloc, &mut objects, marks, childless)?)
 }
 
@@ -80,34 +79,6 @@ fn find_reached<P: Offsets>(alloc: Global, src: &mut P) -> Result<(Reached, Name
     ))
 }
 
-/// Checks the reached objects by rules 14 to 20 and 31. If at most a third of all objects are named as keys, checks the
-/// keys too. If more are, returns the named objects: the caller frees the table before it checks the keys.
-fn check_rules_by_table<S: Source>(
-    alloc: Global,
-    src: &mut S,
-    frame: Frame,
-    places: &[u32],
-) -> Result<(Reached, Option<NamedKeys>), Refusal>
-    requires safe { IsSafeFrame (length (S.means src.old).octets) frame }
-    requires framed { Honestly (S.means src.old) (λ f. IsFrame f frame) }
-    requires all { length places.now ≡ frame.objects }
-    requires placed { Honestly (S.means src.old) (λ f. AreOffsets32 f frame frame.objects places.now) }
-    ensures reads { OnlyReads (refused_read result) (S.means src.old) (S.means src.new) }
-    ensures fits { IfOk result (λ known. HasRoomFor frame known.0) }
-    ensures all_named { IfOk result (λ known. IfSome known.1 (λ named. length named.marks.items ≡ frame.objects)) }
-    ensures exact { Honestly (S.means src.old) (λ f. Judges (λ known. IsWalked f frame known.0
-        × MatchOption known.1 (KeepReached f frame (key_rules None) frame.objects) (λ named. AreNamed f frame named.marks.items))
-        (IsFileFault f) result) }
-{
-    let mut table = OffsetTable::new(src, frame, places);
-    let (reached, named) = find_reached(alloc, &mut table)?;
-    if named.count() > places.len() / 3 {
-        return Ok((reached, Some(named)));
-    }
-    check_keys(alloc, &mut table, &reached.marks, &reached.childless, named)?;
-    Ok((reached, None))
-}
-
 /// Returns the linter's answer for a file whose reached objects keep rules 14 to 22 and 31.
 fn heights_or_circle<P: Offsets>(
     alloc: Global,
@@ -130,7 +101,7 @@ fn heights_or_circle<P: Offsets>(
     drop((marks, childless));
     let height = heights[frame.top.0 as usize];
     if height == 0 {
-        let mut objects = Objects::new(src, View::All);
+        let mut objects = ObjectGraph::new(src, View::All);
         let circle = circle(alloc, &mut objects, &heights, frame.top.0)?;
         return Err(LintRefusal::Circle(ObjectNos::new(circle)));
     }
@@ -145,42 +116,27 @@ fn heights_or_circle<P: Offsets>(
     })
 }
 
-/// Returns the linter's answer for a file whose frame and places keep rules 1 to 13. First checks each reached object
-/// by itself, then the keys, and last finds the heights or the circle.
+/// Returns the linter's answer for a file that was opened. First checks each reached object by itself, then the keys,
+/// and last finds the heights or the circle.
 ///
-/// Frees the table of places early if there are many keys, or if more than a quarter of the objects may wait for
-/// others. With the table these passes would take more than 12 bytes an object.
-fn lint_reached<S: Source>(
-    alloc: Global,
-    src: &mut S,
-    frame: Frame,
-    places: Vec<u32>,
-) -> Result<Lint, LintRefusal>
-    requires safe { IsSafeFrame (length (S.means src.old).octets) frame }
-    requires framed { Honestly (S.means src.old) (λ f. IsFrame f frame) }
-    requires all { length places.items ≡ frame.objects }
-    requires placed { Honestly (S.means src.old) (λ f. AreOffsets32 f frame frame.objects places.items) }
-    ensures reads { OnlyReads (lint_failed result) (S.means src.old) (S.means src.new) }
-    ensures count { IfOk result (λ lint. length lint.certificate.heights ≡ frame.objects) }
-    ensures exact { Honestly (S.means src.old)
-        (λ f. Lints (IsLintedBy f frame) (IsFileFault f) (IsFileCircle f) result) }
+/// Gives the places up early if there are many keys, or if more than a quarter of the objects may wait for others. With
+/// the places these passes would take more than 12 bytes an object.
+fn lint_opened<P: Offsets>(alloc: Global, src: &mut P) -> Result<Lint, LintRefusal>
+    ensures reads { OnlyReads (lint_failed result) (P.means src.old) (P.means src.new) }
+    ensures count { IfOk result (λ lint. length lint.certificate.heights ≡ (frame_in (P.means src.old)).objects) }
+    ensures exact { HonestlyIn (P.means src.old)
+        (λ f F. Lints (IsLintedBy f F) (IsFileFault f) (IsFileCircle f) result) }
 {
-    let (reached, many) = check_rules_by_table(alloc, src, frame, &places)?;
-    if let Some(named) = many {
-        drop(places);
-        let mut plist = OffsetReader::new(src, frame);
-        check_keys(alloc, &mut plist, &reached.marks, &reached.childless, named)?;
-        let lint = heights_or_circle(alloc, &mut plist, reached)?;
-        return Ok(lint);
+    let objects = src.frame().objects as usize;
+    let (reached, named) = find_reached(alloc, src)?; // rules 14 to 20 and 31
+    if named.count() > objects / 3 {
+        src.forget_places();
     }
-    if unmarked(&reached.childless) > places.len() / 4 {
-        drop(places);
-        let mut plist = OffsetReader::new(src, frame);
-        let lint = heights_or_circle(alloc, &mut plist, reached)?;
-        return Ok(lint);
+    check_keys(alloc, src, &reached.marks, &reached.childless, named)?; // rules 21 and 22
+    if unmarked(&reached.childless) > objects / 4 {
+        src.forget_places();
     }
-    let mut table = OffsetTable::new(src, frame, &places);
-    let lint = heights_or_circle(alloc, &mut table, reached)?;
+    let lint = heights_or_circle(alloc, src, reached)?; // rule 23
     Ok(lint)
 }
 
@@ -203,9 +159,9 @@ fn read_places<S: Source>(alloc: Global, src: &mut S) -> Result<(Frame, Vec<u32>
     ensures exact { Honestly (S.means src.old) (λ f. Judges
         (λ known. IsFrame f known.0 × AreOffsets32 f known.0 known.0.objects known.1.items) (IsFileFault f) result) }
 {
-    let frame = trailer_of(src)?;
+    let frame = trailer_of(src)?; // rules 1 to 12
     let places = offsets_of(alloc, src, &frame)?;
-    check_offsets(&frame, &places, src.len())?;
+    check_offsets(&frame, &places, src.len())?; // rule 13
     Ok((frame, places))
 }
 
@@ -218,8 +174,9 @@ pub fn lint_file<S: Source>(alloc: Global, src: &mut S) -> Result<(Lint, Frame),
     ensures exact { Honestly (S.means src.old)
         (λ f. Lints (λ known. IsLintedBy f known.1 known.0) (IsFileFault f) (IsFileCircle f) result) }
 {
-    let (frame, places) = read_places(alloc, src)?;
-    let lint = lint_reached(alloc, src, frame, places)?;
+    let (frame, mut places) = read_places(alloc, src)?; // rules 1 to 13
+    let mut file = Objects::new(src, frame, &mut places);
+    let lint = lint_opened(alloc, &mut file)?;
     Ok((lint, frame))
 }
 

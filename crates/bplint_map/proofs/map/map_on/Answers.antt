@@ -32,10 +32,10 @@ returns-in_err-put_map-clause-exact g c = λ honest.
     let F = c.in-Ok.frame in
     let frame = c.in-Ok.ensures.exact honest in
     let linted = rw c.in-Ok.ensures.reads at c.in_ok-verdict.ensures.exact in
-    let objects = rw (c.new-plist.ensures.means, c.new-plist.ensures.frame, c.in_ok-verdict.ensures.reads, c.in-Ok.ensures.reads) at c.in_ok-objects.ensures.exact in
+    let objects = rw (c.new-file.ensures.means, c.new-file.ensures.frame, c.in_ok-verdict.ensures.reads, c.in-Ok.ensures.reads) at c.in_ok-objects.ensures.exact in
     let o = objects honest in
     let same = c.in_ok-objects.ensures.reads in
-    let puts = rw (ap (λ (m : Meaning). m.octets) same, ap (λ (m : Meaning). m.honest) same, ap (λ (m : Meaning). frame_in m) same, c.new-plist.ensures.means, c.new-plist.ensures.frame, c.in_ok-verdict.ensures.reads, c.in-Ok.ensures.reads) at c.in_err-put_map.ensures.exact in
+    let puts = rw (ap (λ (m : Meaning). m.octets) same, ap (λ (m : Meaning). m.honest) same, ap (λ (m : Meaning). frame_in m) same, c.new-file.ensures.means, c.new-file.ensures.frame, c.in_ok-verdict.ensures.reads, c.in-Ok.ensures.reads) at c.in_err-put_map.ensures.exact in
     let findings = findings_of f F frame in
     rw (p.1, p.2) (map_cut f F frame c.in_ok-verdict.verdict (linted honest) o.0 o.1 _ _ c.new-sink.result _ c.new-sink.ensures (puts honest o.0 o.2 findings.0 findings.1))
 
@@ -46,10 +46,10 @@ returns-in_err-flush-clause-exact g c = λ honest.
     let F = c.in-Ok.frame in
     let frame = c.in-Ok.ensures.exact honest in
     let linted = rw c.in-Ok.ensures.reads at c.in_ok-verdict.ensures.exact in
-    let objects = rw (c.new-plist.ensures.means, c.new-plist.ensures.frame, c.in_ok-verdict.ensures.reads, c.in-Ok.ensures.reads) at c.in_ok-objects.ensures.exact in
+    let objects = rw (c.new-file.ensures.means, c.new-file.ensures.frame, c.in_ok-verdict.ensures.reads, c.in-Ok.ensures.reads) at c.in_ok-objects.ensures.exact in
     let o = objects honest in
     let same = c.in_ok-objects.ensures.reads in
-    let puts = rw (ap (λ (m : Meaning). m.octets) same, ap (λ (m : Meaning). m.honest) same, ap (λ (m : Meaning). frame_in m) same, c.new-plist.ensures.means, c.new-plist.ensures.frame, c.in_ok-verdict.ensures.reads, c.in-Ok.ensures.reads) at c.in_ok-put_map.ensures.exact in
+    let puts = rw (ap (λ (m : Meaning). m.octets) same, ap (λ (m : Meaning). m.honest) same, ap (λ (m : Meaning). frame_in m) same, c.new-file.ensures.means, c.new-file.ensures.frame, c.in_ok-verdict.ensures.reads, c.in-Ok.ensures.reads) at c.in_ok-put_map.ensures.exact in
     let findings = findings_of f F frame in
     rw (p.1, p.2) (end_cut f F frame c.in_ok-verdict.verdict (linted honest) o.0 o.1 _ _ _ c.new-sink.result c.put_map.new.sink c.flush.new.self c.new-sink.ensures (puts honest o.0 o.2 findings.0 findings.1) _ c.in_err-flush.ensures.part)
 
@@ -59,9 +59,9 @@ returns-clause-exact g c = λ honest.
     let F = c.in-Ok.frame in
     let frame = c.in-Ok.ensures.exact honest in
     let linted = rw c.in-Ok.ensures.reads at c.in_ok-verdict.ensures.exact in
-    let objects = rw (c.new-plist.ensures.means, c.new-plist.ensures.frame, c.in_ok-verdict.ensures.reads, c.in-Ok.ensures.reads) at c.in_ok-objects.ensures.exact in
+    let objects = rw (c.new-file.ensures.means, c.new-file.ensures.frame, c.in_ok-verdict.ensures.reads, c.in-Ok.ensures.reads) at c.in_ok-objects.ensures.exact in
     let o = objects honest in
     let same = c.in_ok-objects.ensures.reads in
-    let puts = rw (ap (λ (m : Meaning). m.octets) same, ap (λ (m : Meaning). m.honest) same, ap (λ (m : Meaning). frame_in m) same, c.new-plist.ensures.means, c.new-plist.ensures.frame, c.in_ok-verdict.ensures.reads, c.in-Ok.ensures.reads) at c.in_ok-put_map.ensures.exact in
+    let puts = rw (ap (λ (m : Meaning). m.octets) same, ap (λ (m : Meaning). m.honest) same, ap (λ (m : Meaning). frame_in m) same, c.new-file.ensures.means, c.new-file.ensures.frame, c.in_ok-verdict.ensures.reads, c.in-Ok.ensures.reads) at c.in_ok-put_map.ensures.exact in
     let findings = findings_of f F frame in
     all_out f F frame c.in_ok-verdict.verdict (linted honest) o.0 o.1 _ _ _ c.new-sink.result c.put_map.new.sink c.flush.new.self c.new-sink.ensures (puts honest o.0 o.2 findings.0 findings.1) c.in_ok-flush.ensures.taken c.in_ok-flush.ensures.empty

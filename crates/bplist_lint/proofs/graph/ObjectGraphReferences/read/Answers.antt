@@ -2,7 +2,7 @@ use Rattle.std.proofs.Common.{◌≡◌, ◌++◌, List, ℕ, drop, length, arit
 use Rattle.std.proofs.lemmas.Grind.{common_steps}
 use Rattle.std.proofs.lemmas.List.{get_or_append_left}
 use Rattle.bplist_lint.proofs.ObjectReferences.{part_is, part_none}
-use Rattle.bplist_lint.proofs.graph.ObjectsReferences.read.Goals as goal
+use Rattle.bplist_lint.proofs.graph.ObjectGraphReferences.read.Goals as goal
 
 pub returns-in_default-clause-value : goal.returns-in_default-clause-value
 returns-in_default-clause-value g c = λ honest _. part_none _ _ _ _ (rw c.in_default.is at (c.in_ok-head.ensures.shape honest)) _ _
