@@ -2,14 +2,14 @@
 //! that fits it: the one that a caller gives, or the one that the linter makes.
 
 ghost use Rattle.std.specs.Prelude.{◌≡◌, IfOk, IsTrue, false, true, ℕ, List, MatchResult};
-ghost use Rattle.bplint_engine.specs.Prelude.{OnlyReads, octets_of, Lists, IsCertificate, IsUpgraded, read_failed};
-ghost use Rattle.bplint_engine.specs.Prelude.{Answers, CertifySays, written, GivesOrIsExcused, IsRefusal, read_fault_of};
+ghost use Rattle.bplint_engine.specs.Prelude.{OnlyReads, octets_of, IsCertificate, read_failed};
+ghost use Rattle.bplint_engine.specs.Prelude.{Answers, CertifySays, written, IsRefusal, read_fault_of};
 ghost use Rattle.bplint_engine.specs.Prelude.{CheckSays, IsDecoded, LintSays, IsVouchedFor, IsLeastFor};
 
 use crate::output::Output;
 use bplint_lines::{RunFault, Said};
 use bplist_cert::{CertRefusal, Certificate, Checked, check};
-use bplist_lint::{lint, lint_checked, upgrade};
+use bplist_lint::{lint, lint_checked, lint_with_lists};
 use bplist_octets::Source;
 use std::alloc::{AllocError, Global};
 
@@ -23,11 +23,13 @@ pub(crate) fn certify_output<S: Source>(
     ensures source { OnlyReads (read_failed result.0) (S.means src) (S.means result.1) }
     ensures exact { IsTrue (S.means src).honest → Answers (CertifySays sorted hex (S.means src).octets) result.0 }
 {
-    if sorted {
-        return sorted_output(alloc, src, hex);
-    }
     let mut src = src;
-    (least_output(alloc, &mut src, hex), src)
+    let made = if sorted {
+        sorted_output(alloc, &mut src, hex)
+    } else {
+        least_output(alloc, &mut src, hex)
+    };
+    (made, src)
 }
 
 /// Returns the bytes of the certificate of the least heights.
@@ -39,33 +41,13 @@ fn least_output<S: Source>(alloc: Global, src: &mut S, hex: bool) -> Result<Outp
     Ok(output_of(alloc, &found.certificate, hex)?)
 }
 
-/// Returns the bytes of the certificate of the least heights with key lists, and the source. Lists are made from what the
-/// linter vouches for, so its certificate is not checked.
-fn sorted_output<S: Source>(alloc: Global, src: S, hex: bool) -> (Result<Output, RunFault>, S)
-    ensures source { OnlyReads (read_failed result.0) (S.means src) (S.means result.1) }
-    ensures exact { IsTrue (S.means src).honest → Answers (CertifySays true hex (S.means src).octets) result.0 }
+/// Returns the bytes of the certificate of the least heights with key lists. Lists are made from what the linter vouches
+/// for, so its certificate is not checked.
+fn sorted_output<S: Source>(alloc: Global, src: &mut S, hex: bool) -> Result<Output, RunFault>
+    ensures reads { OnlyReads (read_failed result) (S.means src.old) (S.means src.new) }
+    ensures exact { IsTrue (S.means src.old).honest → Answers (CertifySays true hex (S.means src.old).octets) result }
 {
-    match checked_by_lint(alloc, src) {
-        Ok(mut checked) => {
-            let made = output_with_keys(alloc, &mut checked, hex);
-            (made, checked.into_parts().0)
-        }
-        Err((fault, src)) => (Err(fault), src),
-    }
-}
-
-/// Adds key lists to the certificate of a checked file. Returns its bytes.
-fn output_with_keys<S: Source>(
-    alloc: Global,
-    checked: &mut Checked<S>,
-    hex: bool,
-) -> Result<Output, RunFault>
-    ensures reads { OnlyReads (read_failed result) checked.old.source checked.new.source }
-    ensures exact { IsTrue checked.old.source.honest → GivesOrIsExcused (λ output. (lists : Lists)
-        × IsCertificate lists × ∥ IsUpgraded checked.old.source.octets checked.old.frame checked.old.certificate.heights lists ∥₁
-        × (output.said ≡ Said.All) × (output.bytes.items ≡ written hex (octets_of lists))) result }
-{
-    let certificate = upgrade(alloc, checked)?;
+    let certificate = lint_with_lists(alloc, src)??;
     Ok(output_of(alloc, &certificate, hex)?)
 }
 

@@ -1,17 +1,12 @@
 -- What an upgrade returns, in other words.
-use Rattle.std.proofs.Common.{◌≡◌, ◌≢◌, ℕ, List, length, Some}
+use Rattle.std.proofs.Common.{◌≢◌, Result, Ok, Err}
 use Rattle.std.proofs.Math.Logic.{∥∥₁_map}
 use Rattle.std.proofs.lemmas.Grind.{not_there}
-use Rattle.bplist_objects.specs.declared.frame.Frame.{Frame}
 use Rattle.bplist_objects.specs.Answers.{Never}
-use Rattle.bplist_cert.specs.Lists.{Keyed, Lists}
-use Rattle.bplist_cert.specs.Valid.{IsValid}
-use Rattle.bplist_cert.specs.Sorted.{IsAccepted}
-use Rattle.bplist_lint.specs.Upgraded.{Listed, IsUpgraded}
-use Rattle.bplist_lint.proofs.ListSteps.{upgraded}
 use Rattle.bplist_cert.specs.declared.refusal.Refusal.{Refusal}
 use Rattle.bplist_cert.specs.declared.refusal.Refusal.TheVariants as cert_refusals
 use Rattle.bplist_cert.specs.Refusals.{GivesRefusal}
+use Rattle.bplist_lint.specs.UpgradeAnswers.{Upgrades}
 use Rattle.bplist_lint.specs.declared.answer.UpgradeFault.{UpgradeFault}
 use Rattle.bplist_lint.specs.declared.answer.UpgradeFault.TheVariants as faults
 
@@ -28,7 +23,11 @@ check_no_change cert_refusals.Memory h = λ e. cc
 pub open_no_change : {P : Type 0} → ∥ P ∥₁ → (e : UpgradeFault) → (P → e ≢ faults.Changed) → e ≢ faults.Changed
 open_no_change t e from = λ is. not_there t (λ p. from p is)
 
--- the certificate of a checked file with its key lists
-pub upgrade_yes : (f : List ℕ) (F : Frame) (old : Lists) (keyed : Keyed) → ∥ IsAccepted f F old ∥₁ → length keyed.starts ≡ F.objects → (IsValid f F old.heights → Listed f F old.heights F.objects keyed.starts keyed.positions)
-    → ∥ IsUpgraded f F old.heights (record { heights = old.heights; keys = Some keyed }) ∥₁
-upgrade_yes f F old keyed t count listed = ∥∥₁_map t (λ a. upgraded f F old.heights a.valid keyed count (listed a.valid))
+-- if something is known to exist, what follows from it about the answer
+pub open_upgrades : {P X : Type 0} (Q : X → Type 0) → ∥ P ∥₁ → (made : Result X UpgradeFault) → (P → Upgrades Q made) → Upgrades (λ x. ∥ Q x ∥₁) made
+open_upgrades Q t (Ok x) from = ∥∥₁_map t from
+open_upgrades Q t (Err e) from = open_no_change t e from
+
+pub upgrades_mean : {X : Type 0} (P Q : X → Type 0) (made : Result X UpgradeFault) → ((x : X) → P x → Q x) → Upgrades P made → Upgrades Q made
+upgrades_mean P Q (Ok x) yes h = yes x h
+upgrades_mean P Q (Err e) yes h = h

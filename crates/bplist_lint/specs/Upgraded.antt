@@ -6,6 +6,7 @@ use Rattle.bplist_objects.specs.declared.frame.Frame.{Frame}
 use Rattle.bplist_objects.specs.declared.head.Head.{Head}
 use Rattle.bplist_objects.specs.declared.head.Kind.TheVariants.{Dict}
 use Rattle.bplist_objects.specs.Announced.{HasHead}
+use Rattle.bplist_objects.specs.Frame.{IsFrame}
 use Rattle.bplist_objects.specs.Heads.{Spells, dict}
 use Rattle.bplist_objects.specs.Markers.{head_found}
 use Rattle.bplist_objects.specs.Extents.{Sums}
@@ -13,6 +14,8 @@ use Rattle.bplist_cert.specs.Lists.{Keyed, Lists, lists}
 use Rattle.bplist_cert.specs.Valid.{IsVouchedBy}
 use Rattle.bplist_cert.specs.Sorted.{IsAccepted}
 use Rattle.bplist_cert.specs.CheckRules.{HasOrder}
+use Rattle.bplist_lint.specs.declared.answer.Lint.{Lint}
+use Rattle.bplist_lint.specs.Linted.{IsLintedBy}
 
 -- the sum of the numbers of the objects below n that have one
 abbrev pub together : (ℕ → Option ℕ) → ℕ → ℕ
@@ -53,3 +56,8 @@ module _ (f : List ℕ) (F : Frame) (heights : List ℕ) where
     pub starts : keyed.starts ≡ map (λ n. cond (is_some (many n)) (together many n) 0) (range_with_len 0 F.objects)
     pub total : length keyed.positions ≡ together many F.objects
     pub accepted : IsAccepted f F certificate
+
+-- the file holds a value, and the certificate has its least heights and key lists
+abbrev pub IsLintedWithLists : List ℕ → Lists → Type 0
+IsLintedWithLists f certificate =
+    (F : Frame) × (lint : Lint) × IsFrame f F × IsLintedBy f F lint × IsUpgraded f F lint.certificate.heights certificate

@@ -5,13 +5,13 @@
 //! class, and a key without a class is not a text. A key list has the positions of a dictionary's keys, sorted by the
 //! ranks of their texts. Ranks are classes in the order of the texts.
 
-ghost use Rattle.std.specs.Prelude.{◌≡◌, ◌+◌, ◌^◌, ◌<◌, ◌++◌, [], ℕ, ⊤, None, OnOk, length, slice_index, ◌↔◌};
+ghost use Rattle.std.specs.Prelude.{◌≡◌, ◌+◌, ◌^◌, ◌<◌, ◌++◌, [], ℕ, ⊤, Bool, List, None, IfOk, OnOk, length, slice_index, ◌↔◌};
 ghost use Rattle.bplist_lint.specs.Prelude.{OnlyReads, frame_in, HonestlyIn, IsSafeHead, Dict, ref, failed_to_read};
 ghost use Rattle.bplist_lint.specs.Prelude.{ranks_in, positions_in, AreRanked, AreAbove, HaveRanks, IsListed, Upgrades};
 ghost use Rattle.bplist_lint.specs.Prelude.{upgrade_failed, Reach, KeepsAll, KeepsByObject, object_rules, HasHead};
 ghost use Rattle.bplist_lint.specs.Prelude.{KeysAreSound, HasGoodKeys, BreaksKeys, Judges, refused_read, IsMarked};
 ghost use Rattle.bplist_lint.specs.Prelude.{AreChildless, KeepReached, AreNamed, key_rules, AreClassed, IsStamped};
-ghost use Rattle.bplist_lint.specs.Prelude.{IsNew, Head as head_record, IsReachedFault, reach_rules};
+ghost use Rattle.bplist_lint.specs.Prelude.{IsNew, Head as head_record, IsReachedFault, reach_rules, AreClasses};
 
 use crate::answer::UpgradeFault;
 use bplist_cert::Refusal;
@@ -158,9 +158,38 @@ fn check_dict_keys<P: Offsets>(src: &mut P, n: u32, table: &mut ClassTable) -> R
     }
 }
 
-/// Checks the keys of each marked dictionary, in the order of the objects' numbers. The marks must be exactly those of
-/// the reached objects, all of which keep rules 14 to 20, and `named` must have their keys. Objects marked in
-/// `childless` have no references.
+/// Checks the keys of each marked dictionary, in the order of the objects' numbers, by the numbers of its keys: classes
+/// or ranks. Returns the numbers. The marks must be exactly those of the reached objects, all of which keep rules 14 to
+/// 20. Objects marked in `childless` have no references.
+pub fn check_numbers<P: Offsets>(
+    alloc: Global,
+    src: &mut P,
+    marks: &[bool],
+    childless: &[bool],
+    numbers: KeyNumbers,
+) -> Result<KeyNumbers, Refusal>
+    requires marks { length marks.now ≡ (frame_in (P.means src.old)).objects }
+    requires childless { length childless.now ≡ (frame_in (P.means src.old)).objects }
+    ensures reads { OnlyReads (refused_read result) (P.means src.old) (P.means src.new) }
+    ensures same { IfOk result (λ handed. handed.table.items ≡ numbers.table.items) }
+    ensures exact { HonestlyIn (P.means src.old) (λ f F. (named : List Bool) → ((n : ℕ) → IsMarked marks.now n ↔ Reach f F n)
+        → KeepReached f F reach_rules F.objects → AreChildless f F childless.now
+        → AreNamed f F named → AreClasses f F named numbers.table.items
+        → Judges (λ _. KeepReached f F (key_rules None) F.objects) (IsReachedFault f F (key_rules None)) result) }
+{
+    let frame = src.frame();
+    let mut table = ClassTable::new(alloc, numbers)?;
+    for n in 0..frame.objects {
+        if marks[n as usize] && !childless[n as usize] {
+            check_dict_keys(src, n, &mut table)?;
+        }
+    }
+    let ClassTable { classes, .. } = table;
+    Ok(classes)
+}
+
+/// Checks the keys of each marked dictionary as `check_numbers` does, by classes of the keys in `named`, which must have
+/// those of all marked dictionaries.
 ///
 /// Without keys there is nothing to check, so neither the classes nor the pass over the objects is made.
 pub fn check_keys<P: Offsets>(
@@ -178,16 +207,10 @@ pub fn check_keys<P: Offsets>(
         → KeepReached f F reach_rules F.objects → AreChildless f F childless.now → AreNamed f F named.marks.items
         → Judges (λ _. KeepReached f F (key_rules None) F.objects) (IsReachedFault f F (key_rules None)) result) }
 {
-    let frame = src.frame();
     if named.count() == 0 {
         return Ok(());
     }
     let classes = classes_of(alloc, src, named)?;
-    let mut table = ClassTable::new(alloc, classes)?;
-    for n in 0..frame.objects {
-        if marks[n as usize] && !childless[n as usize] {
-            check_dict_keys(src, n, &mut table)?;
-        }
-    }
+    check_numbers(alloc, src, marks, childless, classes)?;
     Ok(())
 }

@@ -11,7 +11,8 @@
 //! }
 //! ```
 //!
-//! To go on with the file, call [`lint_checked`], which returns it as a `Checked`, as `check` does.
+//! To go on with the file, call [`lint_checked`], which returns it as a `Checked`, as `check` does. For a certificate with
+//! sorted key lists, call [`lint_with_lists`], or [`upgrade`] on a checked file.
 //!
 //! A no is final: no certificate is valid for that file (clause `decisive` of [`lint`], law [`fault_is_final`]).
 //! docs/DESIGN.md describes the passes, docs/RULES.md the order of the rules.
@@ -32,6 +33,7 @@
 //! | heights | the least heights | |
 //! | circle | the circle, if the top is not founded: rule 23 | |
 //! | upgrader | a certificate with sorted key lists | [`upgrade`] |
+//! | listed | a linted file's certificate with sorted key lists, over one numbering of the keys | [`lint_with_lists`] |
 //! | laws | laws about the definitions in specs/ | [`value_or_fault`], [`fault_is_final`] and others |
 #![tactic(auto)]
 
@@ -44,6 +46,7 @@ mod heights;
 mod key_rules;
 mod laws;
 mod linter;
+mod listed;
 mod reach;
 mod tally;
 mod upgrader;
@@ -57,4 +60,5 @@ pub use laws::{
     well_formed_iff_kept,
 };
 pub use linter::{lint, lint_with_kind};
+pub use listed::lint_with_lists;
 pub use upgrader::upgrade;

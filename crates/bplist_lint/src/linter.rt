@@ -52,7 +52,7 @@ fn find_heights<P: Offsets>(
 ///
 /// If the quick walk meets a fault, slower passes in the order of the objects' numbers find which fault is the first.
 /// Over an honest source they always find one. If they do not, all objects count as named.
-fn find_reached<P: Offsets>(alloc: Global, src: &mut P) -> Result<(Reached, NamedKeys), Refusal>
+pub fn find_reached<P: Offsets>(alloc: Global, src: &mut P) -> Result<(Reached, NamedKeys), Refusal>
     ensures reads { OnlyReads (refused_read result) (P.means src.old) (P.means src.new) }
     ensures fits { IfOk result (λ known. HasRoomFor (frame_in (P.means src.old)) known.0) }
     ensures all_named { IfOk result (λ known. length known.1.marks.items ≡ (frame_in (P.means src.old)).objects) }
@@ -80,7 +80,7 @@ fn find_reached<P: Offsets>(alloc: Global, src: &mut P) -> Result<(Reached, Name
 }
 
 /// Returns the linter's answer for a file whose reached objects keep rules 14 to 22 and 31.
-fn heights_or_circle<P: Offsets>(
+pub fn heights_or_circle<P: Offsets>(
     alloc: Global,
     src: &mut P,
     reached: Reached,
@@ -152,7 +152,7 @@ fn top_kind<S: Source>(src: &mut S, frame: &Frame) -> Result<Kind, Refusal>
 }
 
 /// Returns the frame of a file and the places of its objects, or the first broken rule of 1 to 13.
-fn read_places<S: Source>(alloc: Global, src: &mut S) -> Result<(Frame, Vec<u32>), Refusal>
+pub fn read_places<S: Source>(alloc: Global, src: &mut S) -> Result<(Frame, Vec<u32>), Refusal>
     ensures reads { OnlyReads (refused_read result) (S.means src.old) (S.means src.new) }
     ensures safe { IfOk result (λ known. IsSafeFrame (length (S.means src.old).octets) known.0) }
     ensures all { IfOk result (λ known. length known.1.items ≡ known.0.objects) }

@@ -2,13 +2,13 @@
 
 ghost use Rattle.std.specs.Prelude.{◌≡◌, ◌+◌, ◌≤◌, ◌<◌, ℕ, Bool, List, set, length, IsTrue, IfOk, vec_len};
 ghost use Rattle.bplist_lint.specs.Prelude.{OnlyReads, frame_in, HonestlyIn, AreRanks, IsVouchedBy, IsValid};
-ghost use Rattle.bplist_lint.specs.Prelude.{HasNamedKeys, Listed, IsUpgraded, Upgrades, upgrade_failed};
+ghost use Rattle.bplist_lint.specs.Prelude.{HasNamedKeys, Listed, IsUpgraded, RankKeys, Upgrades, upgrade_failed};
 
 use crate::answer::UpgradeFault;
 use crate::graph::shape_there;
 use crate::key_rules::KeySorting;
 use bplist_cert::{Certificate, Checked, KeyLists, vouched_keys};
-use bplist_keys::ranks_of;
+use bplist_keys::{KeyNumbers, ranks_of};
 use bplist_objects::{Framed, Kind, OffsetTable, Offsets, offsets_of};
 use bplist_octets::Source;
 use std::alloc::Global;
@@ -43,21 +43,22 @@ fn list_object<P: Offsets>(src: &mut P, n: u32, lists: &mut KeySorting) -> Resul
     }
 }
 
-/// Returns the key lists of the vouched dictionaries, one after the other in the order of the objects.
-fn list_vouched<P: Offsets>(
+/// Returns a certificate of version 2 with these heights, and the key lists of the vouched dictionaries, one after the
+/// other in the order of the objects, sorted by these ranks of their keys.
+pub fn list_vouched<P: Offsets>(
     alloc: Global,
     src: &mut P,
-    heights: &[u32],
-) -> Result<KeyLists, UpgradeFault>
-    requires { length heights.now ≡ (frame_in (P.means src.old)).objects }
+    heights: Vec<u32>,
+    ranks: KeyNumbers,
+) -> Result<Certificate, UpgradeFault>
+    requires { length heights.items ≡ (frame_in (P.means src.old)).objects }
     ensures reads { OnlyReads (upgrade_failed result) (P.means src.old) (P.means src.new) }
-    ensures starts { IfOk result (λ keys. length keys.starts ≡ (frame_in (P.means src.old)).objects) }
-    ensures exact { HonestlyIn (P.means src.old) (λ f F. IsValid f F heights.now
-        → Upgrades (λ keys. Listed f F heights.now F.objects keys.starts keys.positions) result) }
+    ensures heights { IfOk result (λ certificate. certificate.heights ≡ heights.items) }
+    ensures exact { HonestlyIn (P.means src.old) (λ f F. IsValid f F heights.items
+        → RankKeys f F (IsVouchedBy heights.items) ranks.table.items
+        → Upgrades (IsUpgraded f F heights.items) result) }
 {
     let frame = src.frame();
-    let named = vouched_keys(alloc, src, heights)?;
-    let ranks = ranks_of(alloc, src, named)?;
     let mut starts = vec![in alloc; 0; frame.objects as usize]?;
     let mut lists = KeySorting::new(alloc, ranks);
     for n in 0..frame.objects {
@@ -66,7 +67,26 @@ fn list_vouched<P: Offsets>(
         }
     }
     let KeySorting { positions, .. } = lists;
-    Ok(KeyLists { starts, positions })
+    Ok(Certificate {
+        heights,
+        keys: Some(KeyLists { starts, positions }),
+    })
+}
+
+/// Returns ranks of the keys of the vouched dictionaries.
+fn vouched_ranks<P: Offsets>(
+    alloc: Global,
+    src: &mut P,
+    heights: &[u32],
+) -> Result<KeyNumbers, UpgradeFault>
+    requires { length heights.now ≡ (frame_in (P.means src.old)).objects }
+    ensures reads { OnlyReads (upgrade_failed result) (P.means src.old) (P.means src.new) }
+    ensures exact { HonestlyIn (P.means src.old) (λ f F. IsValid f F heights.now
+        → Upgrades (λ ranks. RankKeys f F (IsVouchedBy heights.now) ranks.table.items) result) }
+{
+    let named = vouched_keys(alloc, src, heights)?;
+    let ranks = ranks_of(alloc, src, named)?;
+    Ok(ranks)
 }
 
 /// Returns a certificate of version 2 for a checked file: its heights, and the key lists of the vouched dictionaries,
@@ -90,13 +110,7 @@ pub fn upgrade<S: Source>(
     let frame = checked.frame();
     let heights = checked.certificate().heights.to_vec(alloc)?;
     let places = offsets_of(alloc, checked, &frame)?;
-    let keys = list_vouched(
-        alloc,
-        &mut OffsetTable::new(checked, frame, &places),
-        &heights,
-    )?;
-    Ok(Certificate {
-        heights,
-        keys: Some(keys),
-    })
+    let mut table = OffsetTable::new(checked, frame, &places);
+    let ranks = vouched_ranks(alloc, &mut table, &heights)?;
+    list_vouched(alloc, &mut table, heights, ranks)
 }

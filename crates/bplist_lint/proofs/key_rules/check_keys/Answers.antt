@@ -1,16 +1,11 @@
-use Rattle.std.proofs.Common.{◌≡◌, [], None, count_by, sym, ◌∙◌, arith}
-use Rattle.std.proofs.lemmas.Bool.{false≢true}
+use Rattle.std.proofs.Common.{◌≡◌, [], None, count_by, arith}
 use Rattle.std.proofs.lemmas.Result.{err_from_is_err_and}
 use Rattle.bplist_objects.specs.declared.frame.Frame.{Frame}
 use Rattle.bplist_objects.specs.Framed.{frame_in}
 use Rattle.bplist_objects.specs.Reach.{Reach}
-use Rattle.bplist_keys.proofs.LookUps.{new_low, stamped_low}
-use Rattle.bplist_cert.proofs.CheckSteps.{refused_weaker, kept_by_good}
+use Rattle.bplist_cert.proofs.CheckSteps.{kept_by_good}
 use Rattle.bplist_cert.proofs.KeyRepeats.{good_unnamed}
-use Rattle.bplist_lint.proofs.KeySteps.{keys_fault, keys_more, keys_over, childless_keys}
-use Rattle.bplist_lint.proofs.KeyClasses.{reached_sound, keys_known}
 use Rattle.bplist_lint.proofs.key_rules.check_keys.Goals as goal
-use Rattle.bplist_lint.proofs.key_rules.check_keys.Goals.{then-marks-n+then-not-childless-n+in_ok-check_dict_keys, else-marks-n, else-marks-n-via-then-marks-n+else-not-childless-n, else-marks-n-via-else-marks-n}
 
 pub returns-then-count-eq0-clause-exact : goal.returns-then-count-eq0-clause-exact
 returns-then-count-eq0-clause-exact g c = λ honest marks kept childless all_named m low reached.
@@ -20,55 +15,11 @@ returns-then-count-eq0-clause-exact g c = λ honest marks kept childless all_nam
     let none : count_by (λ marked. marked) named ≡ 0 = omega (arith, c.count.ensures, c.if-count-eq0.true) in
     kept_by_good f F (Reach f F) [] m None (good_unnamed f F named m none (all_named m reached))
 
-pub returns-in_err-check_dict_keys-clause-exact : goal.returns-in_err-check_dict_keys-clause-exact
-returns-in_err-check_dict_keys-clause-exact g c = λ honest marks kept childless named.
-    let f = (g.P.Source.means c.args.src.now).octets in
-    let F : Frame = frame_in (g.P.Source.means c.args.src.now) in
-    let v = c.loop-n.invariant in
-    let n = c.loop-n.n in
-    let within = rw c.frame-frame.ensures.frame at c.loop-n-test.true in
-    let p = err_from_is_err_and c.from_residual-in_err-check_dict_keys.result c.from_residual-in_err-check_dict_keys.ensures.1 in
-    let sound = reached_sound f F c.args.marks.now c.requires.marks (c.frame-frame.ensures.framed.framed honest) marks kept in
-    let classes = c.in_ok-classes.ensures.exact honest in
-    let table_is : c.loop-n.table.classes.table.items ≡ c.in_ok-classes.classes.table.items = v.same ∙ c.in_ok-table.ensures.classes in
-    let here_named = named n ((marks n).0 c.if-marks-n.true) in
-    let keys = keys_known f F c.args.marks.now _ c.in_ok-classes.classes.table.items n sound classes here_named within c.if-marks-n.true in
-    let here = (rw (v.reads, table_is) at c.in_err-check_dict_keys.ensures.exact) honest (sound.kept n c.if-marks-n.true) keys (new_low n _ (v.low honest)) in
-    rw (p.1, p.2) (refused_weaker _ _ c.in_err-check_dict_keys.field-0.0 (λ fault h. keys_fault f F n fault ((marks n).0 c.if-marks-n.true) (v.exact honest marks kept childless named) h) here)
-
-pub loop-n-preserved : goal.loop-n-preserved
-loop-n-preserved g c =
-    let f = (g.P.Source.means c.args.src.now).octets in
-    let F : Frame = frame_in (g.P.Source.means c.args.src.now) in
-    let v = c.loop-n.invariant in
-    let n = c.loop-n.n in
-    let within = rw c.frame-frame.ensures.frame at c.loop-n-test.true in
-    let table_is : c.loop-n.table.classes.table.items ≡ c.in_ok-classes.classes.table.items = v.same ∙ c.in_ok-table.ensures.classes in
-    elim c.if-marks-n.branch [
-      | then-marks-n+then-not-childless-n+in_ok-check_dict_keys w ↦ record {
-        reads = rw w.src-is (w.in_ok-check_dict_keys.ensures.reads ∙ v.reads);
-        same = rw w.table-is (w.in_ok-check_dict_keys.ensures.same ∙ v.same);
-        low = λ honest. rw w.table-is (stamped_low n _ _ w.check_dict_keys.ensures.stamped (v.low honest));
-        exact = λ honest marks kept childless named.
-            let sound = reached_sound f F c.args.marks.now c.requires.marks (c.frame-frame.ensures.framed.framed honest) marks kept in
-            let classes = c.in_ok-classes.ensures.exact honest in
-            let here_named = named n ((marks n).0 w.if-marks-n.true) in
-            let keys = keys_known f F c.args.marks.now _ c.in_ok-classes.classes.table.items n sound classes here_named within w.if-marks-n.true in
-            keys_more f F n ((rw (v.reads, table_is) at w.in_ok-check_dict_keys.ensures.exact) honest (sound.kept n w.if-marks-n.true) keys (new_low n _ (v.low honest))) (v.exact honest marks kept childless named);
-      }
-      | else-marks-n w ↦ record {
-        reads = rw w.src-is v.reads;
-        same = rw w.table-is v.same;
-        low = λ honest x. rw w.table-is (let l = v.low honest x in omega (arith, l));
-        exact = λ honest marks kept childless named.
-            let sound = reached_sound f F c.args.marks.now c.requires.marks (c.frame-frame.ensures.framed.framed honest) marks kept in
-            let before = v.exact honest marks kept childless named in
-            elim w.else-marks-n.branch [
-              | else-marks-n-via-then-marks-n+else-not-childless-n w' ↦ keys_more f F n (childless_keys f F n sound.framed within (sound.kept _ w'.if-marks-n.true) (childless _ w'.if-not-childless-n.false).1) before
-              | else-marks-n-via-else-marks-n w' ↦ keys_over f F n (λ r. absurd (false≢true (sym w'.if-marks-n.false ∙ (marks _).1 r))) before
-            ];
-      }
-    ]
+pub returns-in_err-check_numbers-clause-exact : goal.returns-in_err-check_numbers-clause-exact
+returns-in_err-check_numbers-clause-exact g c = λ honest marks kept childless all_named.
+    let p = err_from_is_err_and c.from_residual-in_err-check_numbers.result c.from_residual-in_err-check_numbers.ensures.1 in
+    rw (p.1, p.2) ((rw c.in_ok-classes.ensures.reads at c.in_err-check_numbers.ensures.exact) honest _ marks kept childless all_named (c.in_ok-classes.ensures.exact honest))
 
 pub returns-clause-exact : goal.returns-clause-exact
-returns-clause-exact g c = λ honest marks kept childless named m low. c.loop-n.invariant.exact honest marks kept childless named m (let end = rw c.frame-frame.ensures.frame at c.loop-n-test.false in omega (arith, low, end))
+returns-clause-exact g c = λ honest marks kept childless all_named.
+    (rw c.in_ok-classes.ensures.reads at c.in_ok-check_numbers.ensures.exact) honest _ marks kept childless all_named (c.in_ok-classes.ensures.exact honest)

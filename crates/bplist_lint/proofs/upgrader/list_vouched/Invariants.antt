@@ -1,8 +1,7 @@
-use Rattle.std.proofs.Common.{◌≡◌, ◌≤◌, ℕ, Bool, List, vec_len}
+use Rattle.std.proofs.Common.{◌≡◌, ◌≤◌, vec_len}
 use Rattle.bplist_objects.specs.Framed.{frame_in, HonestlyIn}
-use Rattle.bplist_keys.specs.Ranks.{AreRanks}
 use Rattle.bplist_cert.specs.Valid.{IsVouchedBy, IsValid}
-use Rattle.bplist_keys.specs.Classes.{HasNamedKeys}
+use Rattle.bplist_lint.specs.KeyLists.{RankKeys}
 use Rattle.bplist_lint.specs.Upgraded.{Listed}
 use Rattle.bplist_lint.proofs.upgrader.list_vouched.Given as goal
 
@@ -13,7 +12,7 @@ invariant-loop-n g l =
       reads : means l.src ≡ means l.fn.src;
       all : vec_len l.starts ≡ (frame_in (means l.fn.src)).objects;
       few : vec_len l.lists.positions ≤ 4294967295;
-      ranked : HonestlyIn (means l.fn.src) (λ f F. IsValid f F l.heights → (named : List Bool) × AreRanks f F named l.lists.ranks.table.items
-          × ((n : ℕ) → IsVouchedBy l.heights n → HasNamedKeys f F named n));
-      exact : HonestlyIn (means l.fn.src) (λ f F. IsValid f F l.heights → Listed f F l.heights l.n l.starts.items l.lists.positions.items);
+      same : l.lists.ranks.table.items ≡ l.fn.ranks.table.items;
+      exact : HonestlyIn (means l.fn.src) (λ f F. IsValid f F l.fn.heights.items → RankKeys f F (IsVouchedBy l.fn.heights.items) l.fn.ranks.table.items
+          → Listed f F l.fn.heights.items l.n l.starts.items l.lists.positions.items);
     }

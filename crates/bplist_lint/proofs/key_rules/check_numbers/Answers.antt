@@ -1,0 +1,62 @@
+use Rattle.std.proofs.Common.{◌≡◌, sym, ◌∙◌, arith}
+use Rattle.std.proofs.lemmas.Bool.{false≢true}
+use Rattle.std.proofs.lemmas.Result.{err_from_is_err_and}
+use Rattle.bplist_objects.specs.declared.frame.Frame.{Frame}
+use Rattle.bplist_objects.specs.Framed.{frame_in}
+use Rattle.bplist_keys.proofs.LookUps.{new_low, stamped_low}
+use Rattle.bplist_cert.proofs.CheckSteps.{refused_weaker}
+use Rattle.bplist_lint.proofs.KeySteps.{keys_fault, keys_more, keys_over, childless_keys}
+use Rattle.bplist_lint.proofs.KeyClasses.{reached_sound, keys_known}
+use Rattle.bplist_lint.proofs.key_rules.check_numbers.Goals as goal
+use Rattle.bplist_lint.proofs.key_rules.check_numbers.Goals.{then-marks-n+then-not-childless-n+in_ok-check_dict_keys, else-marks-n, else-marks-n-via-then-marks-n+else-not-childless-n, else-marks-n-via-else-marks-n}
+
+pub returns-in_err-check_dict_keys-clause-exact : goal.returns-in_err-check_dict_keys-clause-exact
+returns-in_err-check_dict_keys-clause-exact g c = λ honest named marks kept childless are_named classes.
+    let f = (g.P.Source.means c.args.src.now).octets in
+    let F : Frame = frame_in (g.P.Source.means c.args.src.now) in
+    let v = c.loop-n.invariant in
+    let n = c.loop-n.n in
+    let within = rw c.frame-frame.ensures.frame at c.loop-n-test.true in
+    let p = err_from_is_err_and c.from_residual-in_err-check_dict_keys.result c.from_residual-in_err-check_dict_keys.ensures.1 in
+    let sound = reached_sound f F c.args.marks.now c.requires.marks (c.frame-frame.ensures.framed.framed honest) marks kept in
+    let table_is : c.loop-n.table.classes.table.items ≡ c.args.numbers.table.items = v.same ∙ c.in_ok-table.ensures.classes in
+    let here_named = are_named n ((marks n).0 c.if-marks-n.true) in
+    let keys = keys_known f F c.args.marks.now named c.args.numbers.table.items n sound classes here_named within c.if-marks-n.true in
+    let here = (rw (v.reads, table_is) at c.in_err-check_dict_keys.ensures.exact) honest (sound.kept n c.if-marks-n.true) keys (new_low n _ (v.low honest)) in
+    rw (p.1, p.2) (refused_weaker _ _ c.in_err-check_dict_keys.field-0.0 (λ fault h. keys_fault f F n fault ((marks n).0 c.if-marks-n.true) (v.exact honest named marks kept childless are_named classes) h) here)
+
+pub loop-n-preserved : goal.loop-n-preserved
+loop-n-preserved g c =
+    let f = (g.P.Source.means c.args.src.now).octets in
+    let F : Frame = frame_in (g.P.Source.means c.args.src.now) in
+    let v = c.loop-n.invariant in
+    let n = c.loop-n.n in
+    let within = rw c.frame-frame.ensures.frame at c.loop-n-test.true in
+    let table_is : c.loop-n.table.classes.table.items ≡ c.args.numbers.table.items = v.same ∙ c.in_ok-table.ensures.classes in
+    elim c.if-marks-n.branch [
+      | then-marks-n+then-not-childless-n+in_ok-check_dict_keys w ↦ record {
+        reads = rw w.src-is (w.in_ok-check_dict_keys.ensures.reads ∙ v.reads);
+        same = rw w.table-is (w.in_ok-check_dict_keys.ensures.same ∙ v.same);
+        low = λ honest. rw w.table-is (stamped_low n _ _ w.check_dict_keys.ensures.stamped (v.low honest));
+        exact = λ honest named marks kept childless are_named classes.
+            let sound = reached_sound f F c.args.marks.now c.requires.marks (c.frame-frame.ensures.framed.framed honest) marks kept in
+            let here_named = are_named n ((marks n).0 w.if-marks-n.true) in
+            let keys = keys_known f F c.args.marks.now named c.args.numbers.table.items n sound classes here_named within w.if-marks-n.true in
+            keys_more f F n ((rw (v.reads, table_is) at w.in_ok-check_dict_keys.ensures.exact) honest (sound.kept n w.if-marks-n.true) keys (new_low n _ (v.low honest))) (v.exact honest named marks kept childless are_named classes);
+      }
+      | else-marks-n w ↦ record {
+        reads = rw w.src-is v.reads;
+        same = rw w.table-is v.same;
+        low = λ honest x. rw w.table-is (let l = v.low honest x in omega (arith, l));
+        exact = λ honest named marks kept childless are_named classes.
+            let sound = reached_sound f F c.args.marks.now c.requires.marks (c.frame-frame.ensures.framed.framed honest) marks kept in
+            let before = v.exact honest named marks kept childless are_named classes in
+            elim w.else-marks-n.branch [
+              | else-marks-n-via-then-marks-n+else-not-childless-n w' ↦ keys_more f F n (childless_keys f F n sound.framed within (sound.kept _ w'.if-marks-n.true) (childless _ w'.if-not-childless-n.false).1) before
+              | else-marks-n-via-else-marks-n w' ↦ keys_over f F n (λ r. absurd (false≢true (sym w'.if-marks-n.false ∙ (marks _).1 r))) before
+            ];
+      }
+    ]
+
+pub returns-clause-exact : goal.returns-clause-exact
+returns-clause-exact g c = λ honest named marks kept childless are_named classes m low. c.loop-n.invariant.exact honest named marks kept childless are_named classes m (let end = rw c.frame-frame.ensures.frame at c.loop-n-test.false in omega (arith, low, end))

@@ -1,0 +1,75 @@
+//! A linted file's certificate with key lists. The keys are numbered once: by ranks, which are classes too, so they also
+//! show which keys are repeated.
+
+ghost use Rattle.std.specs.Prelude.{◌≡◌, IsTrue, IfOk, ⊤};
+ghost use Rattle.bplist_lint.specs.Prelude.{OnlyReads, frame_in, Honestly, HonestlyIn, Value, FileHolds, Never, Reach};
+ghost use Rattle.bplist_lint.specs.Prelude.{IsFileFault, IsFileCircle, Judges, refused_read, HasRoomFor, KeepsRules};
+ghost use Rattle.bplist_lint.specs.Prelude.{RankKeys, Lints, no_circle, Upgrades, IsLintedWithLists, lists_failed};
+ghost use Rattle.bplist_lint.specs.Prelude.{HasNoHeights, IsSound};
+
+use crate::answer::{LintRefusal, UpgradeFault};
+use crate::key_rules::check_numbers;
+use crate::linter::{find_reached, heights_or_circle, read_places};
+use crate::upgrader::list_vouched;
+use crate::walk::Reached;
+use bplist_cert::{Certificate, Refusal};
+use bplist_keys::{KeyNumbers, ranks_of};
+use bplist_objects::{OffsetTable, Offsets};
+use bplist_octets::Source;
+use std::alloc::Global;
+
+/// Checks the reached objects by rules 14 to 20 and 31, and then their keys. Returns what is known about these objects,
+/// and ranks of their keys.
+fn rank_reached<P: Offsets>(alloc: Global, src: &mut P) -> Result<(Reached, KeyNumbers), Refusal>
+    ensures reads { OnlyReads (refused_read result) (P.means src.old) (P.means src.new) }
+    ensures fits { IfOk result (λ known. HasRoomFor (frame_in (P.means src.old)) known.0) }
+    ensures exact { HonestlyIn (P.means src.old) (λ f F. Judges
+        (λ known. KeepsRules f F known.0 × RankKeys f F (Reach f F) known.1.table.items) (IsFileFault f) result) }
+{
+    let _frame = src.frame();
+    let (reached, named) = find_reached(alloc, src)?;
+    let ranks = ranks_of(alloc, src, named)?;
+    let ranks = check_numbers(alloc, src, &reached.marks, &reached.childless, ranks)?;
+    Ok((reached, ranks))
+}
+
+/// Returns what `lint_with_lists` does.
+fn list_file<S: Source>(
+    alloc: Global,
+    src: &mut S,
+) -> Result<Result<Certificate, UpgradeFault>, LintRefusal>
+    ensures reads { OnlyReads (lists_failed result) (S.means src.old) (S.means src.new) }
+    ensures exact { Honestly (S.means src.old)
+        (λ f. Lints (Upgrades (IsLintedWithLists f)) (IsFileFault f) (IsFileCircle f) result) }
+    ensures sound { Honestly (S.means src.old) (λ f. IfOk result (λ _. ∥ IsSound f ∥₁)) }
+{
+    let (frame, places) = read_places(alloc, src)?;
+    let mut table = OffsetTable::new(src, frame, &places);
+    let (reached, ranks) = rank_reached(alloc, &mut table)?;
+    let lint = heights_or_circle(alloc, &mut table, reached)?;
+    let heights = lint.certificate.heights;
+    Ok(list_vouched(alloc, &mut table, heights, ranks))
+}
+
+/// Decides whether a file holds a value, as `lint` does. Returns the certificate of the least heights with the key lists
+/// that `upgrade` makes, or else the first fault of the file.
+///
+/// Before the linter's yes errors are those of `lint`. After it they are those of `upgrade`: `Read` if a read of the
+/// source failed; `Memory` if an allocation was refused; `Changed` if the source gives other bytes than before, which an
+/// honest one never does. After an error the source is as before, except for what it says of failed reads.
+pub fn lint_with_lists<S: Source>(
+    alloc: Global,
+    src: &mut S,
+) -> Result<Result<Certificate, UpgradeFault>, LintRefusal>
+    ensures reads { OnlyReads (lists_failed result) (S.means src.old) (S.means src.new) }
+    ensures exact { IsTrue (S.means src.old).honest
+        → Lints (Upgrades (IsLintedWithLists (S.means src.old).octets)) (IsFileFault (S.means src.old).octets)
+        (IsFileCircle (S.means src.old).octets) result }
+    ensures sound { Honestly (S.means src.old) (λ f. IfOk result (λ _. ∥ IsSound f ∥₁)) }
+    ensures decisive { IsTrue (S.means src.old).honest
+        → Lints (λ _. ⊤) (λ _. HasNoHeights (S.means src.old).octets) (λ _. HasNoHeights (S.means src.old).octets) result }
+    ensures never { IsTrue (S.means src.old).honest → (v : Value) → FileHolds (S.means src.old).octets v
+        → Lints (λ _. ⊤) Never no_circle result }
+{
+    list_file(alloc, src)
+}
