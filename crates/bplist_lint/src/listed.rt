@@ -14,7 +14,7 @@ use crate::upgrader::list_vouched;
 use crate::walk::Reached;
 use bplist_cert::{Certificate, Refusal};
 use bplist_keys::{KeyNumbers, ranks_of};
-use bplist_objects::{OffsetTable, Offsets};
+use bplist_objects::{Objects, Offsets};
 use bplist_octets::Source;
 use std::alloc::Global;
 
@@ -27,9 +27,9 @@ fn rank_reached<P: Offsets>(alloc: Global, src: &mut P) -> Result<(Reached, KeyN
         (λ known. KeepsRules f F known.0 × RankKeys f F (Reach f F) known.1.table.items) (IsFileFault f) result) }
 {
     let _frame = src.frame();
-    let (reached, named) = find_reached(alloc, src)?;
+    let (reached, named) = find_reached(alloc, src)?; // rules 14 to 20 and 31
     let ranks = ranks_of(alloc, src, named)?;
-    let ranks = check_numbers(alloc, src, &reached.marks, &reached.childless, ranks)?;
+    let ranks = check_numbers(alloc, src, &reached.marks, &reached.childless, ranks)?; // rules 21 and 22
     Ok((reached, ranks))
 }
 
@@ -43,12 +43,12 @@ fn list_file<S: Source>(
         (λ f. Lints (Upgrades (IsLintedWithLists f)) (IsFileFault f) (IsFileCircle f) result) }
     ensures sound { Honestly (S.means src.old) (λ f. IfOk result (λ _. ∥ IsSound f ∥₁)) }
 {
-    let (frame, places) = read_places(alloc, src)?;
-    let mut table = OffsetTable::new(src, frame, &places);
-    let (reached, ranks) = rank_reached(alloc, &mut table)?;
-    let lint = heights_or_circle(alloc, &mut table, reached)?;
+    let (frame, mut places) = read_places(alloc, src)?; // rules 1 to 13
+    let mut file = Objects::new(src, frame, &mut places);
+    let (reached, ranks) = rank_reached(alloc, &mut file)?; // rules 14 to 22 and 31
+    let lint = heights_or_circle(alloc, &mut file, reached)?; // rule 23
     let heights = lint.certificate.heights;
-    Ok(list_vouched(alloc, &mut table, heights, ranks))
+    Ok(list_vouched(alloc, &mut file, heights, ranks))
 }
 
 /// Decides whether a file holds a value, as `lint` does. Returns the certificate of the least heights with the key lists

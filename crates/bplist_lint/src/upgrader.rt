@@ -9,7 +9,7 @@ use crate::graph::shape_there;
 use crate::key_rules::KeySorting;
 use bplist_cert::{Certificate, Checked, KeyLists, vouched_keys};
 use bplist_keys::{KeyNumbers, ranks_of};
-use bplist_objects::{Framed, Kind, OffsetTable, Offsets, offsets_of};
+use bplist_objects::{Framed, Kind, Objects, Offsets, offsets_of};
 use bplist_octets::Source;
 use std::alloc::Global;
 
@@ -109,8 +109,8 @@ pub fn upgrade<S: Source>(
 {
     let frame = checked.frame();
     let heights = checked.certificate().heights.to_vec(alloc)?;
-    let places = offsets_of(alloc, checked, &frame)?;
-    let mut table = OffsetTable::new(checked, frame, &places);
-    let ranks = vouched_ranks(alloc, &mut table, &heights)?;
-    list_vouched(alloc, &mut table, heights, ranks)
+    let mut places = offsets_of(alloc, checked, &frame)?;
+    let mut file = Objects::new(checked, frame, &mut places);
+    let ranks = vouched_ranks(alloc, &mut file, &heights)?;
+    list_vouched(alloc, &mut file, heights, ranks)
 }

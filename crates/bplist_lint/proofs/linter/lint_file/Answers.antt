@@ -1,3 +1,4 @@
+use Rattle.std.proofs.Common.{◌∙◌}
 use Rattle.std.proofs.lemmas.Result.{err_from_is_err_and}
 use Rattle.bplist_lint.specs.FileFault.{IsFileCircle}
 use Rattle.bplist_lint.proofs.Passes.{check_means, fault_passed}
@@ -12,4 +13,4 @@ returns-in_err-frame-clause-exact g c = λ honest.
 pub returns-in_err-lint-clause-exact : goal.returns-in_err-lint-clause-exact
 returns-in_err-lint-clause-exact g c = λ honest.
     let p = err_from_is_err_and c.from_residual-in_err-lint.result c.from_residual-in_err-lint.ensures.1 in
-    rw (p.1, p.2) (fault_passed _ _ c.in_ok-frame.ensures.reads c.in_err-lint.field-0.0 c.in_err-lint.ensures.exact honest)
+    rw (p.1, p.2) (fault_passed _ _ (c.new-file.ensures.means ∙ c.in_ok-frame.ensures.reads) c.in_err-lint.field-0.0 c.in_err-lint.ensures.exact honest)

@@ -19,17 +19,17 @@ pub returns-in_err-reached-clause-exact : goal.returns-in_err-reached-clause-exa
 returns-in_err-reached-clause-exact g c = λ honest.
     let f = (g.S.Source.means c.args.src.now).octets in
     let p = err_from_is_err_and c.from_residual-in_err-reached.result c.from_residual-in_err-reached.ensures.1 in
-    let told = (rw (c.new-table.ensures.means, c.new-table.ensures.frame, c.in_ok-frame.ensures.reads) at c.in_err-reached.ensures.exact) honest in
+    let told = (rw (c.new-file.ensures.means, c.new-file.ensures.frame, c.in_ok-frame.ensures.reads) at c.in_err-reached.ensures.exact) honest in
     rw (p.1, p.2) (check_means _ _ (IsFileCircle f) c.in_err-reached.field-0.0 (λ fault h. h) told)
 
 pub heights_or_circle-requires-clause-sifted : goal.heights_or_circle-requires-clause-sifted
-heights_or_circle-requires-clause-sifted g c = rw (c.in_ok-reached.ensures.reads, c.new-table.ensures.means, c.new-table.ensures.frame, c.in_ok-frame.ensures.reads) (λ honest.
-    ((rw (c.new-table.ensures.means, c.new-table.ensures.frame, c.in_ok-frame.ensures.reads) at c.in_ok-reached.ensures.exact) honest).0)
+heights_or_circle-requires-clause-sifted g c = rw (c.in_ok-reached.ensures.reads, c.new-file.ensures.means, c.new-file.ensures.frame, c.in_ok-frame.ensures.reads) (λ honest.
+    ((rw (c.new-file.ensures.means, c.new-file.ensures.frame, c.in_ok-frame.ensures.reads) at c.in_ok-reached.ensures.exact) honest).0)
 
 pub returns-in_err-lint-clause-exact : goal.returns-in_err-lint-clause-exact
 returns-in_err-lint-clause-exact g c = λ honest.
     let p = err_from_is_err_and c.from_residual-in_err-lint.result c.from_residual-in_err-lint.ensures.1 in
-    let same = c.in_ok-reached.ensures.reads ∙ c.new-table.ensures.means ∙ c.in_ok-frame.ensures.reads in
+    let same = c.in_ok-reached.ensures.reads ∙ c.new-file.ensures.means ∙ c.in_ok-frame.ensures.reads in
     rw (p.1, p.2) (circle_passed _ _ same c.in_err-lint.field-0.0 c.in_err-lint.ensures.exact honest)
 
 pub returns-clause-exact : goal.returns-clause-exact
@@ -37,13 +37,13 @@ returns-clause-exact g c = λ honest.
     let f = (g.S.Source.means c.args.src.now).octets in
     let F : Frame = c.in_ok-frame.frame in
     let framed = (c.in_ok-frame.ensures.exact honest).0 in
-    let known = (rw (c.new-table.ensures.means, c.new-table.ensures.frame, c.in_ok-frame.ensures.reads) at c.in_ok-reached.ensures.exact) honest in
-    let yes = (rw (c.in_ok-reached.ensures.reads, c.new-table.ensures.means, c.new-table.ensures.frame, c.in_ok-frame.ensures.reads) at c.in_ok-lint.ensures.exact) honest in
+    let known = (rw (c.new-file.ensures.means, c.new-file.ensures.frame, c.in_ok-frame.ensures.reads) at c.in_ok-reached.ensures.exact) honest in
+    let yes = (rw (c.in_ok-reached.ensures.reads, c.new-file.ensures.means, c.new-file.ensures.frame, c.in_ok-frame.ensures.reads) at c.in_ok-lint.ensures.exact) honest in
     let ranks = (known.1.0, known.1.1, λ n v. known.1.2 n (yes.least.only n v)) in
-    let listed = (rw (c.in_ok-lint.ensures.reads, c.in_ok-reached.ensures.reads, c.new-table.ensures.means, c.new-table.ensures.frame, c.in_ok-frame.ensures.reads) at c.list_vouched.ensures.exact) honest yes.valid ranks in
+    let listed = (rw (c.in_ok-lint.ensures.reads, c.in_ok-reached.ensures.reads, c.new-file.ensures.means, c.new-file.ensures.frame, c.in_ok-frame.ensures.reads) at c.list_vouched.ensures.exact) honest yes.valid ranks in
     upgrades_mean (IsUpgraded f F c.in_ok-lint.lint.certificate.heights) (IsLintedWithLists f) _ (λ certificate is. (F, c.in_ok-lint.lint, framed, yes, is)) listed
 
 pub returns-clause-sound : goal.returns-clause-sound
 returns-clause-sound g c = λ honest.
-    let yes = (rw (c.in_ok-reached.ensures.reads, c.new-table.ensures.means, c.new-table.ensures.frame, c.in_ok-frame.ensures.reads) at c.in_ok-lint.ensures.exact) honest in
+    let yes = (rw (c.in_ok-reached.ensures.reads, c.new-file.ensures.means, c.new-file.ensures.frame, c.in_ok-frame.ensures.reads) at c.in_ok-lint.ensures.exact) honest in
     merely (sound _ _ _ yes.valid)
