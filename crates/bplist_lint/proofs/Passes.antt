@@ -1,5 +1,5 @@
 -- What the linter's passes find, one after the other.
-use Rattle.std.proofs.Common.{◌≡◌, ℕ, zero, suc, ◌+◌, ◌<◌, ◌≤◌, inl, cond, nat_lt, Bool, List, length, take, slice_index, count_by, filter, map, IsTrue, None, Result, Ok, Err, refl, sym, ap, subst, ◌∙◌, arith, lt-ltb}
+use Rattle.std.proofs.Common.{◌≡◌, ℕ, zero, suc, ◌+◌, ◌<◌, ◌≤◌, inl, cond, nat_lt, Bool, List, length, take, slice_index, count_by, filter, IsTrue, None, Result, Ok, Err, refl, sym, ap, subst, ◌∙◌, arith, lt-ltb}
 use Rattle.std.specs.List.{range_with_len}
 use Rattle.std.proofs.Math.Numerals.{add-one}
 use Rattle.std.proofs.Math.Seq.{take-length}
@@ -60,8 +60,8 @@ refusal_means P Q R T refusals.Memory faults circles h = tt
 
 pub lints_mean : {X : Type 0} (S P : X → Type 0) (Q U : Fault → Type 0) (R T : List ℕ → Type 0) (made : Result X LintRefusal)
     → ((x : X) → S x → P x) → ((x : Fault) → Q x → U x) → ((x : List ℕ) → R x → T x) → Lints S Q R made → Lints P U T made
-lints_mean S P Q U R T (Ok x) yes faults circles h = yes x h
-lints_mean S P Q U R T (Err e) yes faults circles h = refusal_means Q U R T e faults circles h
+lints_mean S P Q U R T (Ok x) answers faults circles h = answers x h
+lints_mean S P Q U R T (Err e) answers faults circles h = refusal_means Q U R T e faults circles h
 
 -- if no rule is broken, a claim about the circle is one about the file, by what the source means
 pub circle_passed : (m n : Meaning) → m ≡ n → (e : LintRefusal) → (IsTrue m.honest → Refuses Never (IsFileCircle m.octets) e)

@@ -20,7 +20,7 @@ check_no_change (cert_refusals.Read _) h = λ e. cc
 check_no_change cert_refusals.Memory h = λ e. cc
 
 -- if something is known to exist, what follows from it about `Changed`
-pub open_no_change : {P : Type 0} → ∥ P ∥₁ → (e : UpgradeFault) → (P → e ≢ faults.Changed) → e ≢ faults.Changed
+open_no_change : {P : Type 0} → ∥ P ∥₁ → (e : UpgradeFault) → (P → e ≢ faults.Changed) → e ≢ faults.Changed
 open_no_change t e from = λ is. not_there t (λ p. from p is)
 
 -- if something is known to exist, what follows from it about the answer
@@ -29,5 +29,5 @@ open_upgrades Q t (Ok x) from = ∥∥₁_map t from
 open_upgrades Q t (Err e) from = open_no_change t e from
 
 pub upgrades_mean : {X : Type 0} (P Q : X → Type 0) (made : Result X UpgradeFault) → ((x : X) → P x → Q x) → Upgrades P made → Upgrades Q made
-upgrades_mean P Q (Ok x) yes h = yes x h
-upgrades_mean P Q (Err e) yes h = h
+upgrades_mean P Q (Ok x) answers h = answers x h
+upgrades_mean P Q (Err e) answers h = h

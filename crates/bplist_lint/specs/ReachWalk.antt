@@ -1,5 +1,5 @@
 -- The one walk over the reached objects: what it knows between two visits, and at its end. Source: profile.
-use Rattle.std.specs.Prelude.{◌≡◌, ◌≢◌, ◌⊎◌, ◌↔◌, ℕ, ◌-◌, ◌<◌, ◌≤◌, Bool, true, false, All, List, length, slice_index, vec_len, Contains, Option, Some, None, Result, Ok, Err, sum_by, filter}
+use Rattle.std.specs.Prelude.{◌≡◌, ◌≢◌, ◌⊎◌, ◌↔◌, ℕ, ◌-◌, ◌<◌, ◌≤◌, Bool, All, List, length, slice_index, vec_len, Contains, Option, Some, None, Result, Ok, Err, sum_by, filter}
 use Rattle.std.specs.List.{range_with_len}
 use Rattle.bplist_octets.specs.declared.source.ReadFault.{ReadFault}
 use Rattle.bplist_objects.specs.declared.fault.ObjectFault.{ObjectFault}

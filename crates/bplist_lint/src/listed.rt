@@ -10,7 +10,7 @@ ghost use Rattle.bplist_lint.specs.Prelude.{HasNoHeights, IsSound};
 use crate::answer::{LintRefusal, UpgradeFault};
 use crate::key_rules::check_numbers;
 use crate::linter::{find_reached, heights_or_circle, read_places};
-use crate::upgrader::list_vouched;
+use crate::upgrader::list_by_ranks;
 use crate::walk::Reached;
 use bplist_cert::{Certificate, Refusal};
 use bplist_keys::{KeyNumbers, ranks_of};
@@ -33,22 +33,20 @@ fn rank_reached<P: Offsets>(alloc: Global, src: &mut P) -> Result<(Reached, KeyN
     Ok((reached, ranks))
 }
 
-/// Returns what `lint_with_lists` does.
-fn list_file<S: Source>(
+/// Returns what `lint_with_lists` does for a file that was opened.
+fn list_reached<P: Offsets>(
     alloc: Global,
-    src: &mut S,
+    src: &mut P,
 ) -> Result<Result<Certificate, UpgradeFault>, LintRefusal>
-    ensures reads { OnlyReads (lists_failed result) (S.means src.old) (S.means src.new) }
-    ensures exact { Honestly (S.means src.old)
-        (λ f. Lints (Upgrades (IsLintedWithLists f)) (IsFileFault f) (IsFileCircle f) result) }
-    ensures sound { Honestly (S.means src.old) (λ f. IfOk result (λ _. ∥ IsSound f ∥₁)) }
+    ensures reads { OnlyReads (lists_failed result) (P.means src.old) (P.means src.new) }
+    ensures exact { HonestlyIn (P.means src.old)
+        (λ f F. Lints (Upgrades (IsLintedWithLists f)) (IsFileFault f) (IsFileCircle f) result) }
+    ensures sound { HonestlyIn (P.means src.old) (λ f F. IfOk result (λ _. ∥ IsSound f ∥₁)) }
 {
-    let (frame, mut places) = read_places(alloc, src)?; // rules 1 to 13
-    let mut file = Objects::new(src, frame, &mut places);
-    let (reached, ranks) = rank_reached(alloc, &mut file)?; // rules 14 to 22 and 31
-    let lint = heights_or_circle(alloc, &mut file, reached)?; // rule 23
+    let (reached, ranks) = rank_reached(alloc, src)?;
+    let lint = heights_or_circle(alloc, src, reached)?; // rule 23
     let heights = lint.certificate.heights;
-    Ok(list_vouched(alloc, &mut file, heights, ranks))
+    Ok(list_by_ranks(alloc, src, heights, ranks))
 }
 
 /// Decides whether a file holds a value, as `lint` does. Returns the certificate of the least heights with the key lists
@@ -71,5 +69,6 @@ pub fn lint_with_lists<S: Source>(
     ensures never { IsTrue (S.means src.old).honest → (v : Value) → FileHolds (S.means src.old).octets v
         → Lints (λ _. ⊤) Never no_circle result }
 {
-    list_file(alloc, src)
+    let (frame, mut places) = read_places(alloc, src)?; // rules 1 to 13
+    list_reached(alloc, &mut Objects::new(src, frame, &mut places))
 }

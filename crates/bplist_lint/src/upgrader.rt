@@ -45,7 +45,7 @@ fn list_object<P: Offsets>(src: &mut P, n: u32, lists: &mut KeySorting) -> Resul
 
 /// Returns a certificate of version 2 with these heights, and the key lists of the vouched dictionaries, one after the
 /// other in the order of the objects, sorted by these ranks of their keys.
-pub fn list_vouched<P: Offsets>(
+pub fn list_by_ranks<P: Offsets>(
     alloc: Global,
     src: &mut P,
     heights: Vec<u32>,
@@ -73,20 +73,21 @@ pub fn list_vouched<P: Offsets>(
     })
 }
 
-/// Returns ranks of the keys of the vouched dictionaries.
-fn vouched_ranks<P: Offsets>(
+/// Returns the certificate that `upgrade` makes, with these heights.
+fn list_vouched<P: Offsets>(
     alloc: Global,
     src: &mut P,
-    heights: &[u32],
-) -> Result<KeyNumbers, UpgradeFault>
-    requires { length heights.now ≡ (frame_in (P.means src.old)).objects }
+    heights: Vec<u32>,
+) -> Result<Certificate, UpgradeFault>
+    requires { length heights.items ≡ (frame_in (P.means src.old)).objects }
     ensures reads { OnlyReads (upgrade_failed result) (P.means src.old) (P.means src.new) }
-    ensures exact { HonestlyIn (P.means src.old) (λ f F. IsValid f F heights.now
-        → Upgrades (λ ranks. RankKeys f F (IsVouchedBy heights.now) ranks.table.items) result) }
+    ensures heights { IfOk result (λ certificate. certificate.heights ≡ heights.items) }
+    ensures exact { HonestlyIn (P.means src.old) (λ f F. IsValid f F heights.items
+        → Upgrades (IsUpgraded f F heights.items) result) }
 {
-    let named = vouched_keys(alloc, src, heights)?;
+    let named = vouched_keys(alloc, src, &heights)?;
     let ranks = ranks_of(alloc, src, named)?;
-    Ok(ranks)
+    list_by_ranks(alloc, src, heights, ranks)
 }
 
 /// Returns a certificate of version 2 for a checked file: its heights, and the key lists of the vouched dictionaries,
@@ -110,7 +111,9 @@ pub fn upgrade<S: Source>(
     let frame = checked.frame();
     let heights = checked.certificate().heights.to_vec(alloc)?;
     let mut places = offsets_of(alloc, checked, &frame)?;
-    let mut file = Objects::new(checked, frame, &mut places);
-    let ranks = vouched_ranks(alloc, &mut file, &heights)?;
-    list_vouched(alloc, &mut file, heights, ranks)
+    list_vouched(
+        alloc,
+        &mut Objects::new(checked, frame, &mut places),
+        heights,
+    )
 }

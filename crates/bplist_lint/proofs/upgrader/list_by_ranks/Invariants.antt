@@ -3,7 +3,7 @@ use Rattle.bplist_objects.specs.Framed.{frame_in, HonestlyIn}
 use Rattle.bplist_cert.specs.Valid.{IsVouchedBy, IsValid}
 use Rattle.bplist_lint.specs.KeyLists.{RankKeys}
 use Rattle.bplist_lint.specs.Upgraded.{Listed}
-use Rattle.bplist_lint.proofs.upgrader.list_vouched.Given as goal
+use Rattle.bplist_lint.proofs.upgrader.list_by_ranks.Given as goal
 
 abbrev pub invariant-loop-n : goal.invariant-loop-n
 invariant-loop-n g l =
