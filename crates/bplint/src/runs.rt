@@ -18,7 +18,7 @@ use bplint_engine::{
 use bplint_json::{Finding, find_in, list_rows_on};
 use bplint_lines::{RawFault, RunFault, Said, explain};
 use bplint_map::{map_on, map_paths_on};
-use bplist_octets::{Pane, Panes, SliceSource, Source, Window};
+use bplist_octets::{Borrowed, Pane, Panes, SliceSource, Source, Window};
 use std::alloc::{AllocError, Global};
 use std::fs::{File, Files};
 use std::io::Write;
@@ -219,59 +219,53 @@ fn try_answer<W: Write>(
 ) -> Result<Ending, InputFault> {
     let Inputs { file, cert } = inputs;
     match file {
-        Operand::Whole(file) => answer_on(alloc, request, SliceSource::new(&file), cert, out),
+        Operand::Whole(file) => answer_on(alloc, request, &mut SliceSource::new(&file), cert, out),
         Operand::File(file) => {
             let mut file = Window::new(file);
             let mut panes = vec![in alloc; Pane::EMPTY; PANES].map_err(|_| InputFault::Memory)?;
-            let src = Panes::new(&mut file, &mut panes);
-            answer_on(alloc, request, src, cert, out)
+            let mut src = Panes::new(&mut file, &mut panes);
+            answer_on(alloc, request, &mut src, cert, out)
         }
     }
 }
 
 /// Answers a request about a source.
-fn answer_on<S: Source + Drop, W: Write>(
+fn answer_on<S: Source, W: Write>(
     alloc: Global,
     request: &Request<'_>,
-    src: S,
+    src: &mut S,
     cert: Operand,
     out: &mut W,
 ) -> Result<Ending, InputFault> {
     let mut cert = cert;
-    let (answer, mut src) = do_task(alloc, &request.task, src, &mut cert, out)?;
+    let answer = do_task(alloc, &request.task, src, &mut cert, out)?;
     let under = match &answer {
         Err(RawFault::Run(fault)) if request.explain => {
-            under_fault(alloc, request, &mut src, cert, fault)
+            under_fault(alloc, request, src, cert, fault)
         }
         _ => String::new(alloc),
     };
     Ok(Ending::over(answer, under))
 }
 
-/// Does a task over a source. Returns the source too.
-fn do_task<S: Source + Drop, W: Write>(
+/// Does a task over a source.
+fn do_task<S: Source, W: Write>(
     alloc: Global,
     task: &Task<'_>,
-    src: S,
+    src: &mut S,
     cert: &mut Operand,
     out: &mut W,
-) -> Result<(Result<Said, RawFault>, S), InputFault> {
-    match task {
+) -> Result<Result<Said, RawFault>, InputFault> {
+    let answer = match task {
         Task::Command(job) => {
             let decoded = cert.decode(alloc)?;
-            let (answer, src) = run_certified(alloc, &job.command, src, decoded, out);
-            Ok((answer.map_err(RawFault::Run), src))
+            run_certified(alloc, &job.command, Borrowed::new(src), decoded, out).0
         }
-        Task::Show(shown) => {
-            let (answer, src) = shown_on(alloc, shown, src, out);
-            Ok((answer.map_err(RawFault::Run), src))
-        }
-        Task::Raw(path) => Ok(show_raw_on(alloc, src, path, out)),
-        Task::Rows(listed) => {
-            let (answer, src) = list_rows_on(alloc, src, listed, out);
-            Ok((answer.map_err(RawFault::Run), src))
-        }
-    }
+        Task::Show(shown) => shown_on(alloc, shown, src, out),
+        Task::Raw(path) => return Ok(show_raw_on(alloc, Borrowed::new(src), path, out).0),
+        Task::Rows(listed) => list_rows_on(alloc, src, listed, out),
+    };
+    Ok(answer.map_err(RawFault::Run))
 }
 
 /// Returns the explanation of a fault. This is the only place that holds all bytes of CERT. If a read fails or memory
@@ -304,56 +298,30 @@ fn try_under<S: Source>(
     Ok(text)
 }
 
-/// Writes what is to be shown of a source. Returns the source too.
-fn shown_on<S: Source + Drop, W: Write>(
+/// Writes what is to be shown of a source.
+fn shown_on<S: Source, W: Write>(
     alloc: Global,
     shown: &Shown<'_>,
-    src: S,
+    src: &mut S,
     out: &mut W,
-) -> (Result<Said, RunFault>, S)
-    ensures { IsTrue (S.means src).honest
-        → LeavesShown (S.means src).octets shown.now (W.contents out.old) (W.contents out.new) result.0 }
+) -> Result<Said, RunFault>
+    ensures { IsTrue (S.means src.old).honest
+        → LeavesShown (S.means src.old).octets shown.now (W.contents out.old) (W.contents out.new) result }
 {
+    let mut lent = Borrowed::new(src);
     match shown {
-        Shown::Values { paths, style } => show_on(alloc, src, paths, *style, out),
-        Shown::Text { path, limit } => show_text_on(alloc, src, path, *limit, out),
-        Shown::Members { path, style } => list_on(alloc, src, path, *style, out),
+        Shown::Values { paths, style } => show_on(alloc, lent, paths, *style, out).0,
+        Shown::Text { path, limit } => show_text_on(alloc, lent, path, *limit, out).0,
+        Shown::Members { path, style } => list_on(alloc, lent, path, *style, out).0,
         Shown::Tree { path, limit, style } => {
             let branch = Branch {
                 path,
                 limit: *limit,
                 style: *style,
             };
-            list_all_on(alloc, src, &branch, out)
+            list_all_on(alloc, lent, &branch, out).0
         }
-        Shown::Map => {
-            let mut src = src;
-            let answer = map_on(alloc, &mut src, out);
-            (answer, src)
-        }
-        Shown::MapPaths => {
-            let mut src = src;
-            let answer = map_paths_on(alloc, &mut src, out);
-            (answer, src)
-        }
-    }
-}
-
-fn labels_of<'a>(line: &'a Run<'_>) -> &'a [String] {
-    if line.paths_from.is_none() {
-        return &[];
-    }
-    match &line.request.task {
-        Task::Command(job) => &job.command.paths,
-        Task::Show(Shown::Values { paths, .. }) => paths,
-        _ => &[],
-    }
-}
-
-/// Returns the text of these bytes, which are the line of a path that leads nowhere.
-fn text_of(alloc: Global, bytes: Vec<u8>) -> String {
-    match String::from_utf8(bytes) {
-        Ok(text) => text,
-        Err(_) => String::new(alloc),
+        Shown::Map => map_on(alloc, &mut lent, out),
+        Shown::MapPaths => map_paths_on(alloc, &mut lent, out),
     }
 }

@@ -12,7 +12,7 @@ use crate::reasons::{Names, completed, prefix_of};
 use crate::runs::PANES;
 use bplint_engine::{Branch, list_all_on, list_on};
 use bplint_lines::{RunFault, Said, Style};
-use bplist_octets::{Pane, Panes, Sink, SliceSource, Source, Window};
+use bplist_octets::{Borrowed, Pane, Panes, Sink, SliceSource, Source, Window};
 use std::alloc::{AllocError, Global};
 use std::fs::{File, Files};
 use std::io::{self, Write};
@@ -63,12 +63,13 @@ fn show_file<R: Files<File = File> + Print>(
 ) -> Ending {
     let mut out = OutFile::new(rt, "-");
     let answer = match file {
-        Operand::Whole(file) => show_source(alloc, SliceSource::new(&file), prefix, &mut out),
+        Operand::Whole(file) => show_source(alloc, &mut SliceSource::new(&file), prefix, &mut out),
         Operand::File(file) => {
             let mut file = Window::new(file);
             match vec![in alloc; Pane::EMPTY; PANES] {
                 Ok(mut panes) => {
-                    show_source(alloc, Panes::new(&mut file, &mut panes), prefix, &mut out)
+                    let mut src = Panes::new(&mut file, &mut panes);
+                    show_source(alloc, &mut src, prefix, &mut out)
                 }
                 Err(_) => Err(RunFault::Memory),
             }
@@ -129,7 +130,7 @@ impl<'a, W> FirstLines<'a, W> {
 
 /// Lists a binary property list. If there are more lines than are shown, a last one says so. If there are too many to be
 /// counted, only the members of the top have lines.
-fn list<S: Source + Drop, W: Write>(alloc: Global, src: S, out: &mut W) -> Result<Said, RunFault> {
+fn list<S: Source, W: Write>(alloc: Global, src: &mut S, out: &mut W) -> Result<Said, RunFault> {
     let mut lines = FirstLines {
         out,
         left: LINES,
@@ -140,10 +141,9 @@ fn list<S: Source + Drop, W: Write>(alloc: Global, src: S, out: &mut W) -> Resul
         limit: u64::MAX,
         style: Style::Utf8,
     };
-    let (answer, src) = list_all_on(alloc, src, &whole, &mut lines);
-    let answer = match answer {
+    let answer = match list_all_on(alloc, Borrowed::new(src), &whole, &mut lines).0 {
         Err(RunFault::TooLong) => {
-            let members = list_on(alloc, src, "", Style::Utf8, &mut lines).0;
+            let members = list_on(alloc, Borrowed::new(src), "", Style::Utf8, &mut lines).0;
             lines.full = lines.full || members.is_ok();
             members
         }
@@ -167,16 +167,15 @@ fn send<W: Write>(out: &mut W, bytes: &[u8]) -> Result<Said, RunFault> {
 }
 
 /// Shows a source. The prefix begins each line, but not those of a file that is written as it is.
-fn show_source<S: Source + Drop, W: Write>(
+fn show_source<S: Source, W: Write>(
     alloc: Global,
-    src: S,
+    src: &mut S,
     prefix: &str,
     out: &mut W,
 ) -> Result<Said, RunFault> {
-    let mut src = src;
-    let front = front_of(alloc, &mut src)?;
+    let front = front_of(alloc, src)?;
     if !front.starts_with(HEADER) {
-        return copy_from(&mut src, out);
+        return copy_from(src, out);
     }
     let labels = Labels { prefix, paths: &[] };
     let mut lines = Labelled::new(alloc, out, labels);
@@ -188,9 +187,9 @@ fn show_source<S: Source + Drop, W: Write>(
 }
 
 /// Shows a source that begins as a binary property list does: its lines, or its fault and its first bytes.
-fn show_lines<S: Source + Drop, W: Write>(
+fn show_lines<S: Source, W: Write>(
     alloc: Global,
-    src: S,
+    src: &mut S,
     front: &[u8],
     out: &mut W,
 ) -> Result<Said, RunFault> {

@@ -9,7 +9,7 @@ use bplint_lines::{Pair, RunFault, Said, Style};
 use bplist_cert::Checked;
 use bplist_cursor::{CursorFault, Face, Found, Node, Path, count_nodes, face, locate, member};
 use bplist_objects::offset_of;
-use bplist_octets::{Sink, Source};
+use bplist_octets::{Borrowed, Sink, Source};
 use std::alloc::Global;
 use std::io::Write;
 
@@ -44,30 +44,24 @@ pub struct Listed<'a> {
 }
 
 /// Lists the value under a path: writes one line of the form for each value that `ls` has a line for, in the same order.
-/// Returns the source too. A path that leads nowhere gets a JSON object that says so, or in columns the line of `ls`.
+/// A path that leads nowhere gets a JSON object that says so, or in columns the line of `ls`.
 ///
 /// These errors come before anything is written, in this order: `Path` for a wrong path text; `Fault` or `Circle` as
 /// `lint` returns it; `TooLong` if the value has more nodes than [`Depth::All`] allows. Before `Read`, `Memory`,
 /// `Write` or `Changed`, a first part of the lines may have been written.
 pub fn list_rows_on<S: Source, W: Write>(
     alloc: Global,
-    src: S,
+    src: &mut S,
     listed: &Listed<'_>,
     out: &mut W,
-) -> (Result<Said, RunFault>, S) {
-    let steps = match Path::parse(alloc, listed.path) {
-        Ok(steps) => steps,
-        Err(fault) => return (Err(RunFault::from(fault)), src),
-    };
-    match checked_by_lint(alloc, src) {
+) -> Result<Said, RunFault> {
+    let steps = Path::parse(alloc, listed.path)?;
+    match checked_by_lint(alloc, Borrowed::new(src)) {
         Ok(mut checked) => {
-            let made = match locate(&mut checked, &steps) {
-                Ok(found) => list_found(alloc, &mut checked, found, listed, out),
-                Err(fault) => Err(RunFault::from(fault)),
-            };
-            (made, checked.into_parts().0)
+            let found = locate(&mut checked, &steps)?;
+            list_found(alloc, &mut checked, found, listed, out)
         }
-        Err((fault, src)) => (Err(fault), src),
+        Err((fault, _src)) => Err(fault),
     }
 }
 
