@@ -8,6 +8,7 @@ pub mod BitSets
 pub mod ReachRules
 pub mod ReachWalk
 pub mod KeyClasses
+pub mod Containers
 pub mod FileFault
 pub mod Refusals
 pub mod LeastHeights

@@ -29,6 +29,7 @@ pub use Rattle.bplist_cert.specs.KeyRepeats.{BreaksKeys, HasGoodKeys, KeysAreSou
 pub use Rattle.bplist_cert.specs.Refusals.{Judges, refused_read}
 pub use Rattle.bplist_cert.specs.Sound.{IsSound}
 pub use Rattle.bplist_cert.specs.Valid.{IsValid, IsVouchedBy}
+pub use Rattle.bplist_lint.specs.Containers.{AreFinished, AreMeasured, HasHeight}
 pub use Rattle.bplist_lint.specs.FileFault.{IsCircle, IsFileCircle, IsFileFault}
 pub use Rattle.bplist_lint.specs.Graph.{AreLeast, AreObjects, AreWhole, Ends, IsCircleOf, IsFirstWithout, IsWhole, Reaches}
 pub use Rattle.bplist_lint.specs.HeightWalks.{AreClosed, AreLeastOf, Finds, IsHeightWalk, Shows, Standing, first_state, state_at}

@@ -9,7 +9,7 @@ ghost use Rattle.std.specs.Prelude.{◌≡◌, ◌+◌, ◌^◌, ◌<◌, ◌++�
 ghost use Rattle.bplist_lint.specs.Prelude.{OnlyReads, frame_in, HonestlyIn, IsSafeHead, Dict, ref, failed_to_read};
 ghost use Rattle.bplist_lint.specs.Prelude.{ranks_in, positions_in, AreRanked, AreAbove, HaveRanks, IsListed, Upgrades};
 ghost use Rattle.bplist_lint.specs.Prelude.{upgrade_failed, Reach, KeepsAll, KeepsByObject, object_rules, HasHead};
-ghost use Rattle.bplist_lint.specs.Prelude.{KeysAreSound, HasGoodKeys, BreaksKeys, Judges, refused_read, IsMarked};
+ghost use Rattle.bplist_lint.specs.Prelude.{KeysAreSound, HasGoodKeys, BreaksKeys, Judges, Never, refused_read, IsMarked};
 ghost use Rattle.bplist_lint.specs.Prelude.{AreChildless, KeepReached, AreNamed, key_rules, AreClassed, IsStamped};
 ghost use Rattle.bplist_lint.specs.Prelude.{IsNew, Head as head_record, IsReachedFault, reach_rules, AreClasses};
 
@@ -188,29 +188,23 @@ pub fn check_numbers<P: Offsets>(
     Ok(classes)
 }
 
-/// Checks the keys of each marked dictionary as `check_numbers` does, by classes of the keys in `named`, which must have
-/// those of all marked dictionaries.
-///
-/// Without keys there is nothing to check, so neither the classes nor the pass over the objects is made.
-pub fn check_keys<P: Offsets>(
+/// Returns the classes of the keys in `named`, or no numbers if there are no keys.
+pub fn known_classes<P: Offsets>(
     alloc: Global,
     src: &mut P,
-    marks: &[bool],
-    childless: &[bool],
     named: NamedKeys,
-) -> Result<(), Refusal>
-    requires marks { length marks.now ≡ (frame_in (P.means src.old)).objects }
-    requires childless { length childless.now ≡ (frame_in (P.means src.old)).objects }
-    requires all_named { length named.marks.items ≡ (frame_in (P.means src.old)).objects }
+) -> Result<KeyNumbers, Refusal>
+    requires { length named.marks.items ≡ (frame_in (P.means src.old)).objects }
     ensures reads { OnlyReads (refused_read result) (P.means src.old) (P.means src.new) }
-    ensures exact { HonestlyIn (P.means src.old) (λ f F. ((n : ℕ) → IsMarked marks.now n ↔ Reach f F n)
-        → KeepReached f F reach_rules F.objects → AreChildless f F childless.now → AreNamed f F named.marks.items
-        → Judges (λ _. KeepReached f F (key_rules None) F.objects) (IsReachedFault f F (key_rules None)) result) }
+    ensures exact { HonestlyIn (P.means src.old) (λ f F.
+        Judges (λ classes. AreClasses f F named.marks.items classes.table.items) Never result) }
 {
+    let _frame = src.frame();
     if named.count() == 0 {
-        return Ok(());
+        return Ok(KeyNumbers {
+            table: Vec::new(alloc),
+            greatest: 0,
+        });
     }
-    let classes = classes_of(alloc, src, named)?;
-    check_numbers(alloc, src, marks, childless, classes)?;
-    Ok(())
+    Ok(classes_of(alloc, src, named)?)
 }

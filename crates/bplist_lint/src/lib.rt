@@ -29,6 +29,7 @@
 //! | reach | which objects are reached, if the walk met a fault | |
 //! | bit_set | the sets of places that the search in reach uses | |
 //! | key_rules | rules 21 and 22, and sorting the keys of a dictionary | |
+//! | containers | keys and heights in one quick pass over the containers | |
 //! | graph | what heights and circle see of a file | |
 //! | heights | the least heights | |
 //! | circle | the circle, if the top is not founded: rule 23 | |
@@ -41,6 +42,7 @@ mod answer;
 mod bit_set;
 mod checked;
 mod circle;
+mod containers;
 mod graph;
 mod heights;
 mod key_rules;

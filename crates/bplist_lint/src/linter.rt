@@ -1,23 +1,25 @@
 //! The linter: the passes over a file, in their order.
 
-ghost use Rattle.std.specs.Prelude.{◌≡◌, ◌↔◌, ℕ, ◌<◌, IsTrue, IfOk, IfSome, MatchOption, length, vec_len, ⊤};
+ghost use Rattle.std.specs.Prelude.{◌≡◌, ◌↔◌, ℕ, ◌<◌, Bool, IsTrue, List, None, IfOk, IfSome, MatchOption, length, slice_index, vec_len, ⊤};
 ghost use Rattle.bplist_lint.specs.Prelude.{OnlyReads, frame_in, Honestly, HonestlyIn, IsFrame, IsSafeFrame, Reach};
 ghost use Rattle.bplist_lint.specs.Prelude.{AreOffsets32, Judges, refused_read, refs_at, Value, FileHolds, Never};
 ghost use Rattle.bplist_lint.specs.Prelude.{HasShape, Head as head, IsMarked, AreLeast, AreChildless, IsReachedFault};
 ghost use Rattle.bplist_lint.specs.Prelude.{KeepReached, key_rules, HasRoomFor, IsWalked, AreNamed, IsFileFault};
 ghost use Rattle.bplist_lint.specs.Prelude.{IsFileCircle, Lints, lint_failed, no_circle, KeepsRules, IsLintedBy};
 ghost use Rattle.bplist_lint.specs.Prelude.{IsLinted, IsLintedWithKind, HasNoHeights, reach_rules, HonestlyBy, IsSound};
+ghost use Rattle.bplist_lint.specs.Prelude.{AreClasses};
 
 use crate::answer::{Lint, LintRefusal, ObjectNos};
 use crate::circle::circle;
+use crate::containers::quick_heights;
 use crate::graph::{ObjectGraph, View};
 use crate::heights::{least_heights, unmarked};
-use crate::key_rules::check_keys;
+use crate::key_rules::{check_numbers, known_classes};
 use crate::reach::{Marked, mark_reached};
-use crate::tally::check_reached;
+use crate::tally::{Tally, check_reached};
 use crate::walk::{Reached, walk};
 use bplist_cert::{Certificate, Refusal};
-use bplist_keys::NamedKeys;
+use bplist_keys::{KeyNumbers, NamedKeys};
 use bplist_objects::{
     Frame, Framed, Kind, Objects, Offsets, check_offsets, offsets_of, shape_of, trailer_of,
 };
@@ -79,8 +81,26 @@ pub fn find_reached<P: Offsets>(alloc: Global, src: &mut P) -> Result<(Reached, 
     ))
 }
 
+/// Returns the linter's yes with these heights, for reached objects of which this is the tally.
+fn yes(frame: &Frame, tally: &Tally, heights: Vec<u32>) -> Lint
+    requires { frame.now.top.0 < length heights.items }
+    ensures { result ≡ record { certificate = record { heights = heights.items; keys = None };
+        reached = tally.now.reached; height = slice_index heights.items frame.now.top.0; references = tally.now.references } }
+{
+    let height = heights[frame.top.0 as usize];
+    Lint {
+        certificate: Certificate {
+            heights,
+            keys: None,
+        },
+        reached: tally.reached,
+        height,
+        references: tally.references,
+    }
+}
+
 /// Returns the linter's answer for a file whose reached objects keep rules 14 to 22 and 31.
-pub fn heights_or_circle<P: Offsets>(
+fn heights_or_circle<P: Offsets>(
     alloc: Global,
     src: &mut P,
     reached: Reached,
@@ -99,28 +119,51 @@ pub fn heights_or_circle<P: Offsets>(
     } = reached;
     let heights = find_heights(alloc, src, &marks, &childless)?;
     drop((marks, childless));
-    let height = heights[frame.top.0 as usize];
-    if height == 0 {
+    if heights[frame.top.0 as usize] == 0 {
         let mut objects = ObjectGraph::new(src, View::All);
         let circle = circle(alloc, &mut objects, &heights, frame.top.0)?;
         return Err(LintRefusal::Circle(ObjectNos::new(circle)));
     }
-    Ok(Lint {
-        certificate: Certificate {
-            heights,
-            keys: None,
-        },
-        reached: tally.reached,
-        height,
-        references: tally.references,
-    })
+    Ok(yes(&frame, &tally, heights))
 }
 
-/// Returns the linter's answer for a file that was opened. First checks each reached object by itself, then the keys,
-/// and last finds the heights or the circle.
+/// Returns the linter's answer for a file whose reached objects keep rules 14 to 20 and 31, and the numbers of their
+/// keys, which are classes or ranks.
 ///
-/// Gives the places up early if there are many keys, or if more than a quarter of the objects may wait for others. With
-/// the places these passes would take more than 12 bytes an object.
+/// If the quick pass does not succeed, first checks the keys, and then finds the heights or the circle. Gives the places
+/// up before it looks for a circle if more than a quarter of the objects may wait for others.
+pub fn finish<P: Offsets>(
+    alloc: Global,
+    src: &mut P,
+    reached: Reached,
+    numbers: KeyNumbers,
+) -> Result<(Lint, KeyNumbers), LintRefusal>
+    requires fits { HasRoomFor (frame_in (P.means src.old)) reached }
+    ensures reads { OnlyReads (lint_failed result) (P.means src.old) (P.means src.new) }
+    ensures count { IfOk result (λ done. length done.0.certificate.heights ≡ (frame_in (P.means src.old)).objects) }
+    ensures same { IfOk result (λ done. done.1.table.items ≡ numbers.table.items) }
+    ensures exact { HonestlyIn (P.means src.old) (λ f F. (named : List Bool) → IsWalked f F reached → AreNamed f F named
+        → AreClasses f F named numbers.table.items
+        → Lints (λ done. IsLintedBy f F done.0) (IsFileFault f) (IsFileCircle f) result) }
+{
+    let frame = src.frame();
+    let (heights, numbers) =
+        quick_heights(alloc, src, &reached.marks, &reached.childless, numbers)?;
+    if let Some(heights) = heights {
+        return Ok((yes(&frame, &reached.tally, heights), numbers));
+    }
+    let numbers = check_numbers(alloc, src, &reached.marks, &reached.childless, numbers)?; // rules 21 and 22
+    if unmarked(&reached.childless) > frame.objects as usize / 4 {
+        src.forget_places();
+    }
+    let lint = heights_or_circle(alloc, src, reached)?; // rule 23
+    Ok((lint, numbers))
+}
+
+/// Returns the linter's answer for a file that was opened. First checks each reached object by itself, then the keys and
+/// heights.
+///
+/// Gives the places up early if there are many keys. With the places these passes would take more than 16 bytes an object.
 fn lint_opened<P: Offsets>(alloc: Global, src: &mut P) -> Result<Lint, LintRefusal>
     ensures reads { OnlyReads (lint_failed result) (P.means src.old) (P.means src.new) }
     ensures count { IfOk result (λ lint. length lint.certificate.heights ≡ (frame_in (P.means src.old)).objects) }
@@ -132,11 +175,8 @@ fn lint_opened<P: Offsets>(alloc: Global, src: &mut P) -> Result<Lint, LintRefus
     if named.count() > objects / 3 {
         src.forget_places();
     }
-    check_keys(alloc, src, &reached.marks, &reached.childless, named)?; // rules 21 and 22
-    if unmarked(&reached.childless) > objects / 4 {
-        src.forget_places();
-    }
-    let lint = heights_or_circle(alloc, src, reached)?; // rule 23
+    let classes = known_classes(alloc, src, named)?;
+    let (lint, _classes) = finish(alloc, src, reached, classes)?; // rules 21 to 23
     Ok(lint)
 }
 

@@ -1,36 +1,33 @@
 //! A linted file's certificate with key lists. The keys are numbered once: by ranks, which are classes too, so they also
 //! show which keys are repeated.
 
-ghost use Rattle.std.specs.Prelude.{◌≡◌, IsTrue, IfOk, ⊤};
+ghost use Rattle.std.specs.Prelude.{◌≡◌, IsTrue, IfOk, length, ⊤};
 ghost use Rattle.bplist_lint.specs.Prelude.{OnlyReads, frame_in, Honestly, HonestlyIn, Value, FileHolds, Never, Reach};
 ghost use Rattle.bplist_lint.specs.Prelude.{IsFileFault, IsFileCircle, Judges, refused_read, HasRoomFor, KeepsRules};
 ghost use Rattle.bplist_lint.specs.Prelude.{RankKeys, Lints, no_circle, Upgrades, IsLintedWithLists, lists_failed};
 ghost use Rattle.bplist_lint.specs.Prelude.{HasNoHeights, IsSound};
 
 use crate::answer::{LintRefusal, UpgradeFault};
-use crate::key_rules::check_numbers;
-use crate::linter::{find_reached, heights_or_circle, read_places};
+use crate::linter::{find_reached, finish, read_places};
 use crate::upgrader::list_by_ranks;
-use crate::walk::Reached;
 use bplist_cert::{Certificate, Refusal};
-use bplist_keys::{KeyNumbers, ranks_of};
+use bplist_keys::{KeyNumbers, NamedKeys, ranks_of};
 use bplist_objects::{Objects, Offsets};
 use bplist_octets::Source;
 use std::alloc::Global;
 
-/// Checks the reached objects by rules 14 to 20 and 31, and then their keys. Returns what is known about these objects,
-/// and ranks of their keys.
-fn rank_reached<P: Offsets>(alloc: Global, src: &mut P) -> Result<(Reached, KeyNumbers), Refusal>
+/// Returns the ranks of the keys in `named`.
+fn known_ranks<P: Offsets>(
+    alloc: Global,
+    src: &mut P,
+    named: NamedKeys,
+) -> Result<KeyNumbers, Refusal>
+    requires { length named.marks.items ≡ (frame_in (P.means src.old)).objects }
     ensures reads { OnlyReads (refused_read result) (P.means src.old) (P.means src.new) }
-    ensures fits { IfOk result (λ known. HasRoomFor (frame_in (P.means src.old)) known.0) }
-    ensures exact { HonestlyIn (P.means src.old) (λ f F. Judges
-        (λ known. KeepsRules f F known.0 × RankKeys f F (Reach f F) known.1.table.items) (IsFileFault f) result) }
+    ensures exact { HonestlyIn (P.means src.old) (λ f F.
+        Judges (λ ranks. AreRanks f F named.marks.items ranks.table.items) Never result) }
 {
-    let _frame = src.frame();
-    let (reached, named) = find_reached(alloc, src)?; // rules 14 to 20 and 31
-    let ranks = ranks_of(alloc, src, named)?;
-    let ranks = check_numbers(alloc, src, &reached.marks, &reached.childless, ranks)?; // rules 21 and 22
-    Ok((reached, ranks))
+    Ok(ranks_of(alloc, src, named)?)
 }
 
 /// Returns what `lint_with_lists` does for a file that was opened.
@@ -43,8 +40,9 @@ fn list_reached<P: Offsets>(
         (λ f F. Lints (Upgrades (IsLintedWithLists f)) (IsFileFault f) (IsFileCircle f) result) }
     ensures sound { HonestlyIn (P.means src.old) (λ f F. IfOk result (λ _. ∥ IsSound f ∥₁)) }
 {
-    let (reached, ranks) = rank_reached(alloc, src)?;
-    let lint = heights_or_circle(alloc, src, reached)?; // rule 23
+    let (reached, named) = find_reached(alloc, src)?; // rules 14 to 20 and 31
+    let ranks = known_ranks(alloc, src, named)?;
+    let (lint, ranks) = finish(alloc, src, reached, ranks)?; // rules 21 to 23
     let heights = lint.certificate.heights;
     Ok(list_by_ranks(alloc, src, heights, ranks))
 }

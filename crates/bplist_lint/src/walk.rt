@@ -126,7 +126,7 @@ fn mark_block(frame: &Frame, numbers: &[u64], worklist: &mut Worklist) -> Result
 }
 
 /// Returns how many of `references` references, from number `done` on, are to keys.
-fn keys_among(head: &Head, done: u64, references: usize) -> usize
+pub(crate) fn keys_among(head: &Head, done: u64, references: usize) -> usize
     ensures few { result ≤ references }
     ensures keys { head.now.kind ≡ Dict → (k : ℕ) → k < references → (k < result) ↔ (done + k < head.now.count) }
     ensures none { head.now.kind ≢ Dict → result ≡ 0 }
