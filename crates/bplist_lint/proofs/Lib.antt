@@ -13,6 +13,7 @@ pub mod OffsetSteps
 pub mod BitSets
 pub mod KeySteps
 pub mod KeyClasses
+pub mod ContainerSteps
 pub mod FoundedObjects
 pub mod HeldValues
 pub mod MergedTables

@@ -127,6 +127,12 @@ module _ (f : List ℕ) (F : Frame) where
         few = omega (arith, references);
       }
 
+  -- the answer with these heights
+  pub linted_yes : IsFrame f F → (reached : Reached) → KeepsRules f F reached → reached.tally.references + 8 ≤ F.table → (heights : List ℕ)
+      → length heights ≡ F.objects → AreLeast (refs_at f F) F.top.0 heights → 0 < slice_index heights F.top.0
+      → IsLintedBy f F (record { certificate = record { heights = heights; keys = None }; reached = reached.tally.reached; height = slice_index heights F.top.0; references = reached.tally.references })
+  linted_yes frame sifted s few heights count walked has = linted frame sifted s few _ refl count walked refl has refl refl
+
   -- the circle
   pub circled : IsFrame f F → (reached : Reached) → KeepsRules f F reached → (circle : List ℕ) → IsCircleOf (refs_at f F) F.top.0 circle → IsFileCircle f circle
   circled frame sifted s circle c =

@@ -3,10 +3,13 @@ use Rattle.std.specs.Prelude.{◌≡◌, ℕ, ◌+◌, ◌<◌, Bool, List, leng
 use Rattle.bplist_objects.specs.declared.frame.Frame.{Frame}
 use Rattle.bplist_objects.specs.Reach.{Reach}
 use Rattle.bplist_keys.specs.Marks.{IsMarked}
+use Rattle.bplist_keys.specs.Ranks.{AreClasses}
 use Rattle.bplist_cert.specs.KeyRepeats.{HasGoodKeys}
 use Rattle.bplist_lint.specs.declared.graph.View.TheVariants as views
 use Rattle.bplist_lint.specs.Graph.{Least, greatest}
+use Rattle.bplist_lint.specs.ReachWalk.{AreNamed, IsWalked}
 use Rattle.bplist_lint.specs.ReferenceGraph.{refs_in}
+use Rattle.bplist_lint.specs.declared.walk.Reached.{Reached}
 
 -- each of these objects has a height, and this is the greatest, or 0 if there are none
 pub record AreMeasured (heights objects : List ℕ) (best : ℕ) : Type 0 where
@@ -22,3 +25,11 @@ pub record AreFinished (f : List ℕ) (F : Frame) (marks : List Bool) (heights :
   pub good : (n : ℕ) → Reach f F n → HasGoodKeys f F None n
   pub vouched : (n : ℕ) → 0 < slice_index heights n → IsMarked marks n × Least (refs_in views.Values f F) n (slice_index heights n)
   pub all : (n : ℕ) → IsMarked marks n → 0 < slice_index heights n
+
+-- what is known of the reached objects before their keys are compared: they keep rules 14 to 20 and 31, and the texts that
+-- they name as keys have these numbers
+pub record IsNumbered (f : List ℕ) (F : Frame) (reached : Reached) (numbers : List ℕ) : Type 0 where
+  pub walked : IsWalked f F reached
+  pub named : List Bool
+  pub all : AreNamed f F named
+  pub classes : AreClasses f F named numbers

@@ -7,8 +7,8 @@ pub mod Tallies
 pub mod BitSets
 pub mod ReachRules
 pub mod ReachWalk
-pub mod KeyClasses
 pub mod Containers
+pub mod KeyClasses
 pub mod FileFault
 pub mod Refusals
 pub mod LeastHeights

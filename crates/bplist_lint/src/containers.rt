@@ -1,7 +1,7 @@
 //! Checks the keys and finds the heights in one quick pass over the containers. It succeeds if no key is wrong, and if
 //! each container comes before what it refers to, as in the files of all usual writers.
 
-ghost use Rattle.std.specs.Prelude.{◌≡◌, ◌≤◌, ◌<◌, ◌↔◌, ℕ, Bool, List, None, IfOk, IfSome, IsTrue, OnOk, length, vec_len};
+ghost use Rattle.std.specs.Prelude.{◌≡◌, ◌≤◌, ◌<◌, ◌↔◌, ℕ, Bool, List, None, IfOk, IfSome, IsTrue, length, map, slice_index, vec_len};
 ghost use Rattle.std.specs.Result.{result_err};
 ghost use Rattle.bplist_lint.specs.Prelude.{OnlyReads, frame_in, HonestlyIn, Dict, HasHead, Head as head_record};
 ghost use Rattle.bplist_lint.specs.Prelude.{KeepsAll, KeepsByObject, object_rules, AreClassed, KeysAreSound, IsStamped};
@@ -10,6 +10,7 @@ ghost use Rattle.bplist_lint.specs.Prelude.{AreNamed, AreClasses, Judges, refuse
 ghost use Rattle.bplist_lint.specs.Prelude.{refs_at, IsVouchedBy, from_bool, AreMeasured, HasHeight, AreFinished};
 
 use crate::graph::{BLOCK, shape_there};
+use crate::key_rules::number_at;
 use crate::walk::keys_among;
 use bplist_cert::Refusal;
 use bplist_keys::{ClassTable, KeyNumbers, numbers_of};
@@ -23,11 +24,7 @@ fn greatest_height(heights: &[u32], numbers: &[u64]) -> Option<u32>
 {
     let mut best = 0;
     for m in numbers {
-        let height = if *m < heights.len() as u64 {
-            heights[*m as usize]
-        } else {
-            0
-        };
+        let height = number_at(heights, *m);
         if height == 0 {
             return None;
         }

@@ -67,12 +67,12 @@ impl KeySorting {
     }
 }
 
-/// Returns the rank of object `m`, or 0 if there is no such object.
-fn rank_of(ranks: &[u32], m: u64) -> u32
-    ensures { result ≡ slice_index ranks.now m }
+/// Returns the number of object `m` in a list of numbers, or 0 if there is no such object.
+pub(crate) fn number_at(numbers: &[u32], m: u64) -> u32
+    ensures { result ≡ slice_index numbers.now m }
 {
-    if m < ranks.len() as u64 {
-        ranks[m as usize]
+    if m < numbers.len() as u64 {
+        numbers[m as usize]
     } else {
         0
     }
@@ -89,7 +89,7 @@ fn push_keys(ranks: &[u32], numbers: &[u64], keys: &mut Vec<RankedKey>) -> Resul
 {
     for m in numbers {
         let position = keys.len() as u32;
-        let rank = rank_of(ranks, *m);
+        let rank = number_at(ranks, *m);
         keys.push(RankedKey { rank, position })?;
     }
     Ok(())

@@ -1,13 +1,13 @@
 //! The linter: the passes over a file, in their order.
 
-ghost use Rattle.std.specs.Prelude.{◌≡◌, ◌↔◌, ℕ, ◌<◌, Bool, IsTrue, List, None, IfOk, IfSome, MatchOption, length, slice_index, vec_len, ⊤};
+ghost use Rattle.std.specs.Prelude.{◌≡◌, ◌↔◌, ℕ, ◌<◌, IsTrue, None, IfOk, IfSome, MatchOption, length, slice_index, vec_len, ⊤};
 ghost use Rattle.bplist_lint.specs.Prelude.{OnlyReads, frame_in, Honestly, HonestlyIn, IsFrame, IsSafeFrame, Reach};
 ghost use Rattle.bplist_lint.specs.Prelude.{AreOffsets32, Judges, refused_read, refs_at, Value, FileHolds, Never};
 ghost use Rattle.bplist_lint.specs.Prelude.{HasShape, Head as head, IsMarked, AreLeast, AreChildless, IsReachedFault};
 ghost use Rattle.bplist_lint.specs.Prelude.{KeepReached, key_rules, HasRoomFor, IsWalked, AreNamed, IsFileFault};
 ghost use Rattle.bplist_lint.specs.Prelude.{IsFileCircle, Lints, lint_failed, no_circle, KeepsRules, IsLintedBy};
 ghost use Rattle.bplist_lint.specs.Prelude.{IsLinted, IsLintedWithKind, HasNoHeights, reach_rules, HonestlyBy, IsSound};
-ghost use Rattle.bplist_lint.specs.Prelude.{AreClasses};
+ghost use Rattle.bplist_lint.specs.Prelude.{IsNumbered};
 
 use crate::answer::{Lint, LintRefusal, ObjectNos};
 use crate::circle::circle;
@@ -84,8 +84,12 @@ pub fn find_reached<P: Offsets>(alloc: Global, src: &mut P) -> Result<(Reached, 
 /// Returns the linter's yes with these heights, for reached objects of which this is the tally.
 fn yes(frame: &Frame, tally: &Tally, heights: Vec<u32>) -> Lint
     requires { frame.now.top.0 < length heights.items }
-    ensures { result ≡ record { certificate = record { heights = heights.items; keys = None };
-        reached = tally.now.reached; height = slice_index heights.items frame.now.top.0; references = tally.now.references } }
+    ensures { result ≡ record {
+      certificate = record { heights = heights.items; keys = None };
+      reached = tally.now.reached;
+      height = slice_index heights.items frame.now.top.0;
+      references = tally.now.references;
+    } }
 {
     let height = heights[frame.top.0 as usize];
     Lint {
@@ -139,16 +143,21 @@ pub fn finish<P: Offsets>(
     numbers: KeyNumbers,
 ) -> Result<(Lint, KeyNumbers), LintRefusal>
     requires fits { HasRoomFor (frame_in (P.means src.old)) reached }
+    requires known { HonestlyIn (P.means src.old) (λ f F. IsNumbered f F reached numbers.table.items) }
     ensures reads { OnlyReads (lint_failed result) (P.means src.old) (P.means src.new) }
     ensures count { IfOk result (λ done. length done.0.certificate.heights ≡ (frame_in (P.means src.old)).objects) }
     ensures same { IfOk result (λ done. done.1.table.items ≡ numbers.table.items) }
-    ensures exact { HonestlyIn (P.means src.old) (λ f F. (named : List Bool) → IsWalked f F reached → AreNamed f F named
-        → AreClasses f F named numbers.table.items
-        → Lints (λ done. IsLintedBy f F done.0) (IsFileFault f) (IsFileCircle f) result) }
+    ensures exact { HonestlyIn (P.means src.old)
+        (λ f F. Lints (λ done. IsLintedBy f F done.0) (IsFileFault f) (IsFileCircle f) result) }
 {
     let frame = src.frame();
-    let (heights, numbers) =
-        quick_heights(alloc, src, &reached.marks, &reached.childless, numbers)?;
+    let (heights, numbers) = quick_heights(
+        alloc,
+        src,
+        &reached.marks,
+        &reached.childless,
+        numbers,
+    )?;
     if let Some(heights) = heights {
         return Ok((yes(&frame, &reached.tally, heights), numbers));
     }

@@ -2,10 +2,10 @@
 //! show which keys are repeated.
 
 ghost use Rattle.std.specs.Prelude.{◌≡◌, IsTrue, IfOk, length, ⊤};
-ghost use Rattle.bplist_lint.specs.Prelude.{OnlyReads, frame_in, Honestly, HonestlyIn, Value, FileHolds, Never, Reach};
-ghost use Rattle.bplist_lint.specs.Prelude.{IsFileFault, IsFileCircle, Judges, refused_read, HasRoomFor, KeepsRules};
-ghost use Rattle.bplist_lint.specs.Prelude.{RankKeys, Lints, no_circle, Upgrades, IsLintedWithLists, lists_failed};
-ghost use Rattle.bplist_lint.specs.Prelude.{HasNoHeights, IsSound};
+ghost use Rattle.bplist_lint.specs.Prelude.{OnlyReads, frame_in, Honestly, HonestlyIn, Value, FileHolds, Never};
+ghost use Rattle.bplist_lint.specs.Prelude.{IsFileFault, IsFileCircle, Judges, refused_read};
+ghost use Rattle.bplist_lint.specs.Prelude.{Lints, no_circle, Upgrades, IsLintedWithLists, lists_failed};
+ghost use Rattle.bplist_lint.specs.Prelude.{HasNoHeights, IsSound, AreRanks};
 
 use crate::answer::{LintRefusal, UpgradeFault};
 use crate::linter::{find_reached, finish, read_places};
@@ -40,6 +40,7 @@ fn list_reached<P: Offsets>(
         (λ f F. Lints (Upgrades (IsLintedWithLists f)) (IsFileFault f) (IsFileCircle f) result) }
     ensures sound { HonestlyIn (P.means src.old) (λ f F. IfOk result (λ _. ∥ IsSound f ∥₁)) }
 {
+    let _frame = src.frame();
     let (reached, named) = find_reached(alloc, src)?; // rules 14 to 20 and 31
     let ranks = known_ranks(alloc, src, named)?;
     let (lint, ranks) = finish(alloc, src, reached, ranks)?; // rules 21 to 23

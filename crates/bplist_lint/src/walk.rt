@@ -1,11 +1,11 @@
 //! Checks all reached objects in one quick walk, which succeeds if none of them breaks a rule and all have room.
 
-ghost use Rattle.std.specs.Prelude.{◌≡◌, ◌≢◌, ◌↔◌, ℕ, ◌+◌, ◌≤◌, ◌<◌, [], ◌∷◌, ◌++◌, not, IsTrue, None, IfOk, IfSome};
-ghost use Rattle.std.specs.Prelude.{OnOk, count_by, length, slice_index, vec_len};
+ghost use Rattle.std.specs.Prelude.{◌≡◌, ◌↔◌, ℕ, ◌+◌, ◌-◌, ◌≤◌, ◌<◌, [], ◌∷◌, ◌++◌, not, IsTrue, None, IfOk, IfSome};
+ghost use Rattle.std.specs.Prelude.{OnOk, count_by, length, min, slice_index, vec_len};
 ghost use Rattle.bplist_lint.specs.Prelude.{OnlyReads, ObjectFault as object_fault, frame_in, HonestlyIn, content_at};
 ghost use Rattle.bplist_lint.specs.Prelude.{refs, IsSafeHead, ref_count, AreBelow, ref, Dict, failed_to_read, IsMarked};
 ghost use Rattle.bplist_lint.specs.Prelude.{IsRoomy, IsSteady, IsSteadyWalk, Noted, IsWalking, HasRoomFor, IsWalked};
-ghost use Rattle.bplist_lint.specs.Prelude.{AreNamed, of_object, stop_failed, Read as is_read};
+ghost use Rattle.bplist_lint.specs.Prelude.{AreNamed, of_object, stop_failed, Read as is_read, key_count};
 ghost use Rattle.bplist_lint.specs.declared.walk.Stop.TheVariants.{Memory as is_memory};
 
 use crate::tally::Tally;
@@ -127,9 +127,9 @@ fn mark_block(frame: &Frame, numbers: &[u64], worklist: &mut Worklist) -> Result
 
 /// Returns how many of `references` references, from number `done` on, are to keys.
 pub(crate) fn keys_among(head: &Head, done: u64, references: usize) -> usize
+    ensures value { result ≡ min references (key_count head.now.kind head.now.count - done) }
     ensures few { result ≤ references }
     ensures keys { head.now.kind ≡ Dict → (k : ℕ) → k < references → (k < result) ↔ (done + k < head.now.count) }
-    ensures none { head.now.kind ≢ Dict → result ≡ 0 }
 {
     match head.kind {
         Kind::Dict => head.count.saturating_sub(done).min(references as u64) as usize,

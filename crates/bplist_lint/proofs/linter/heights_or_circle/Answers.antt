@@ -1,4 +1,4 @@
-use Rattle.std.proofs.Common.{◌≡◌, ◌<◌, length, refl, arith}
+use Rattle.std.proofs.Common.{◌≡◌, ◌<◌, length, slice_index, arith}
 use Rattle.std.proofs.lemmas.Grind.{common_steps}
 use Rattle.std.proofs.lemmas.List.{get_or_read}
 use Rattle.std.proofs.lemmas.Result.{err_from_is_err_and}
@@ -7,7 +7,7 @@ use Rattle.bplist_objects.specs.Answers.{Never}
 use Rattle.bplist_objects.specs.Framed.{frame_in}
 use Rattle.bplist_lint.specs.FileFault.{IsFileCircle}
 use Rattle.bplist_lint.specs.declared.graph.View.TheVariants as views
-use Rattle.bplist_lint.proofs.Passes.{check_means, linted, circled}
+use Rattle.bplist_lint.proofs.Passes.{check_means, linted_yes, circled}
 use Rattle.bplist_lint.proofs.ReferenceGraph.{reach_iff}
 use Rattle.bplist_lint.proofs.ValueHeights.{all_whole}
 use Rattle.bplist_lint.proofs.linter.heights_or_circle.Goals as goal
@@ -30,8 +30,8 @@ returns-in_err-circle-clause-exact g c = λ honest.
     let p = err_from_is_err_and c.from_residual-in_err-circle.result c.from_residual-in_err-circle.ensures.1 in
     rw (p.1, p.2) (check_means Never _ (IsFileCircle f) c.in_err-circle.field-0.0 (λ fault h. h) told)
 
-pub returns-then-height-eq0-clause-exact : goal.returns-then-height-eq0-clause-exact
-returns-then-height-eq0-clause-exact g c = λ honest.
+pub returns-then-index-eq0-clause-exact : goal.returns-then-index-eq0-clause-exact
+returns-then-index-eq0-clause-exact g c = λ honest.
     let f = (g.P.Source.means c.args.src.now).octets in
     let F : Frame = frame_in (g.P.Source.means c.args.src.now) in
     let framed = c.frame-frame.ensures.framed.framed honest in
@@ -41,17 +41,18 @@ returns-then-height-eq0-clause-exact g c = λ honest.
 
 pub returns-clause-exact : goal.returns-clause-exact
 returns-clause-exact g c = λ honest.
-    let some : 0 < c.index-height.result.now = omega (arith, c.if-height-eq0.false) in
     let f = (g.P.Source.means c.args.src.now).octets in
     let F : Frame = frame_in (g.P.Source.means c.args.src.now) in
     let framed = c.frame-frame.ensures.framed.framed honest in
     let s = c.requires.sifted honest in
+    let heights = c.in_ok-heights.heights.items in
     let walked = (rw c.deref.ensures.value at c.in_ok-heights.ensures.exact) honest s.walked.tallied.kept s.keys s.walked.marked in
-    let count : length c.in_ok-heights.heights.items ≡ F.objects = grind (arith, common_steps) in
-    let height = get_or_read c.in_ok-heights.heights.items F.top.0 c.index-height.result.now (rw count c.frame-frame.ensures.framed.safe.top) (rw c.frame-frame.ensures.frame at c.index-height.ensures) 0 in
-    linted f F framed _ s (let roomy = c.requires.fits.roomy in omega (arith, roomy.room, roomy.references)) _ refl count walked height some refl refl
+    let count : length heights ≡ F.objects = grind (arith, common_steps) in
+    let height = get_or_read heights F.top.0 c.index.result.now (rw count c.frame-frame.ensures.framed.safe.top) (rw c.frame-frame.ensures.frame at c.index.ensures) 0 in
+    let some : 0 < slice_index heights F.top.0 = omega (arith, height, c.if-index-eq0.false) in
+    rw (c.yes.ensures, c.frame-frame.ensures.frame) (linted_yes f F framed c.args.reached s (let roomy = c.requires.fits.roomy in omega (arith, roomy.room, roomy.references)) heights count walked some)
 
 pub circle-requires-clause-heights : goal.circle-requires-clause-heights
-circle-requires-clause-heights g c = rw (c.new-objects.ensures.means, c.new-objects.ensures.view, c.in_ok-heights.ensures.reads, c.frame-frame.ensures.frame, c.deref-then-height-eq0.ensures.value) (λ honest.
+circle-requires-clause-heights g c = rw (c.new-objects.ensures.means, c.new-objects.ensures.view, c.in_ok-heights.ensures.reads, c.frame-frame.ensures.frame, c.deref-then-index-eq0.ensures.value) (λ honest.
     let s = c.requires.sifted honest in
     (rw c.deref.ensures.value at c.in_ok-heights.ensures.exact) honest s.walked.tallied.kept s.keys s.walked.marked)
