@@ -249,8 +249,29 @@ fn first_high_long<S: Source>(src: &mut S, place: u64, count: u64) -> Result<Opt
     first_high_by_parts::<LONG_TEXT, S>(src, place, count)
 }
 
+/// The same as `first_high_in`, for a text that is not short.
+// Not inlined, so that the way of short texts is small enough to be inlined.
+#[inline(never)]
+fn first_high_not_short<S: Source>(
+    src: &mut S,
+    place: u64,
+    count: u64,
+) -> Result<Option<u64>, ReadFault>
+    requires within { place + count ≤ length (S.means src.old).octets }
+    ensures reads { OnlyReads (result_err result) (S.means src.old) (S.means src.new) }
+    ensures found { IfOk result (λ found. Honestly (S.means src.old)
+        (λ f. MatchOption found (AreBelow f place 1 count 128) (IsFirstNotBelow f place 1 count 128))) }
+    ensures inside { IfOk result (λ found. IfSome found (λ i. i < count)) }
+{
+    if count <= LONG_TEXT as u64 {
+        return first_high_by_parts::<TEXT_PART, S>(src, place, count);
+    }
+    first_high_long(src, place, count)
+}
+
 /// Returns the index of the first of the `count` bytes from `place` on that is 128 or more, or None if there is none.
 /// The bytes must be inside the source. An error is a failed read.
+#[inline(always)]
 pub fn first_high_in<S: Source>(
     src: &mut S,
     place: u64,
@@ -265,8 +286,5 @@ pub fn first_high_in<S: Source>(
     if count <= SHORT_TEXT as u64 {
         return first_high_at_once::<SHORT_TEXT, S>(src, place, count);
     }
-    if count <= LONG_TEXT as u64 {
-        return first_high_by_parts::<TEXT_PART, S>(src, place, count);
-    }
-    first_high_long(src, place, count)
+    first_high_not_short(src, place, count)
 }
