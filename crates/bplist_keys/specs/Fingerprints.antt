@@ -20,11 +20,10 @@ print f F m = fingerprint (text_units f F m) * 2 ^ 32 + m
 abbrev pub IsPrint : List ℕ → Frame → List Bool → ℕ → Type 0
 IsPrint f F named p = (m : ℕ) × (m < 2 ^ 32) × (IsMarked named m × HasTextShape f F m) × (p ≡ print f F m)
 
--- object m has this fingerprint if it is named and a text by marker and count, and none otherwise
-abbrev pub HasPrint : List ℕ → Frame → List Bool → ℕ → Option ℕ → Type 0
-HasPrint f F named m found =
-    MatchOption found (IsMarked named m × HasTextShape f F m → ⊥)
-    (λ x. (IsMarked named m × HasTextShape f F m) × (x ≡ fingerprint (text_units f F m)))
+-- object m has this fingerprint if it is a text by marker and count, and none otherwise
+abbrev pub HasPrint : List ℕ → Frame → ℕ → Option ℕ → Type 0
+HasPrint f F m found =
+    MatchOption found (HasTextShape f F m → ⊥) (λ x. HasTextShape f F m × (x ≡ fingerprint (text_units f F m)))
 
 -- the list has the print of each object below n that is named and a text by marker and count, and no other number
 pub record ArePrints (f : List ℕ) (F : Frame) (named : List Bool) (n : ℕ) (prints : List ℕ) : Type 0 where
