@@ -172,7 +172,8 @@ pub fn finish<P: Offsets>(
 /// Returns the linter's answer for a file that was opened. First checks each reached object by itself, then the keys and
 /// heights.
 ///
-/// Gives the places up early if there are many keys. With the places these passes would take more than 16 bytes an object.
+/// Gives the places up early if more than half of the objects are keys. With the places these passes would take more than
+/// 16 bytes an object.
 fn lint_opened<P: Offsets>(alloc: Global, src: &mut P) -> Result<Lint, LintRefusal>
     ensures reads { OnlyReads (lint_failed result) (P.means src.old) (P.means src.new) }
     ensures count { IfOk result (λ lint. length lint.certificate.heights ≡ (frame_in (P.means src.old)).objects) }
@@ -181,7 +182,7 @@ fn lint_opened<P: Offsets>(alloc: Global, src: &mut P) -> Result<Lint, LintRefus
 {
     let objects = src.frame().objects as usize;
     let (reached, named) = find_reached(alloc, src)?; // rules 14 to 20 and 31
-    if named.count() > objects / 3 {
+    if named.count() > objects / 2 {
         src.forget_places();
     }
     let classes = known_classes(alloc, src, named)?;
