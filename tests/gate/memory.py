@@ -1,10 +1,10 @@
 #!/usr/bin/env python3
 """memory.py PROGRAM
 
-Shows that `lint` takes at most 12 bytes of memory for each object and a constant, and for a faulty file a quarter of its
+Shows that `lint` takes at most 16 bytes of memory for each object and a constant, and for a faulty file a quarter of its
 length more. Where keys were made to have one fingerprint, it takes up to 28. `lint` runs with a limit of that size on the data of its process, and has to give its answer. The files are the
 hostile families, and usual ones of some 400,000 objects: keys that share one value, keys with values, numbers, texts, and
-dictionaries. For the usual ones memory has to be refused if the limit is 6 bytes for each object. One run counts as one test.
+dictionaries. For the usual ones memory has to be refused if the limit is 8 bytes for each object. One run counts as one test.
 The last line is `N passed, M failed`.
 
 The family `ring` is left out: the line that names its circle takes more memory than `lint`.
@@ -21,9 +21,9 @@ sys.path.insert(0, str(pathlib.Path(__file__).resolve().parents[1]))
 from helpers.contents import number_at  # noqa: E402
 from helpers.families import FAMILIES, ring  # noqa: E402
 
-MOST, LESS = 12, 6
+MOST, LESS = 16, 8
 # By family: keys of one fingerprint are put in order, with 16 bytes for each.
-MOST_OF = {"keys_of_our_fingerprint": MOST + 16}
+MOST_OF = {"keys_of_our_fingerprint": 28}
 BESIDE = 1 << 20  # the program's own data, and what the allocator rounds up
 LENGTH = 2_000_000  # of a hostile file, about
 FAULT, REFUSED = 1, 4  # what the program's status says

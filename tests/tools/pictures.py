@@ -165,7 +165,7 @@ def steps_of_lint():
 
 
 # What `lint` answers after the last steps; those before them end in a fault.
-ENDS = {"5": "the certificate, if the top has a height", "6": "the circle"}
+ENDS = {"5": "the certificate, if there is no trouble", "7": "the certificate, if the top has a height", "8": "the circle"}
 
 
 def lint_picture():
