@@ -183,28 +183,23 @@ fn search_part<S: Source>(
     }
 }
 
-/// The same as `first_high_in`, in one read through a buffer of `ROOM` bytes.
+/// True if all of the `count` bytes from `place` on are below 128. They are one read, through a buffer of `ROOM` bytes.
 #[inline(always)]
-fn first_high_at_once<const ROOM: usize, S: Source>(
+fn is_low_at_once<const ROOM: usize, S: Source>(
     src: &mut S,
     place: u64,
     count: u64,
-) -> Result<Option<u64>, ReadFault>
+) -> Result<bool, ReadFault>
     requires fits { ROOM ≤ 4096 }
     requires short { count ≤ ROOM }
     requires within { place + count ≤ length (S.means src.old).octets }
     ensures reads { OnlyReads (result_err result) (S.means src.old) (S.means src.new) }
-    ensures found { IfOk result (λ found. Honestly (S.means src.old)
-        (λ f. MatchOption found (AreBelow f place 1 count 128) (IsFirstNotBelow f place 1 count 128))) }
-    ensures inside { IfOk result (λ found. IfSome found (λ i. i < count)) }
+    ensures low { IfOk result (λ low. IsTrue low → Honestly (S.means src.old) (λ f. AreBelow f place 1 count 128)) }
 {
     let mut buffer = [0u8; ROOM];
     src.read_at(place, &mut buffer[..count as usize])?;
     // The rest of the buffer is 0, so the whole buffer can be searched.
-    match first_high(&buffer) {
-        None => Ok(None),
-        Some(_) => search_part(src, place, count, 0, &mut buffer[..count as usize]),
-    }
+    Ok(is_block_below(&buffer, Width { bytes: 1 }, ROOM, 128))
 }
 
 /// The same as `first_high_in`, in parts of `PART` bytes.
@@ -249,14 +244,10 @@ fn first_high_long<S: Source>(src: &mut S, place: u64, count: u64) -> Result<Opt
     first_high_by_parts::<LONG_TEXT, S>(src, place, count)
 }
 
-/// The same as `first_high_in`, for a text that is not short.
-// Not inlined, so that the way of short texts is small enough to be inlined.
+/// The same as `first_high_in`, in parts whose size depends on the text's.
+// Not inlined, since most texts are short and low, which takes less code to find.
 #[inline(never)]
-fn first_high_not_short<S: Source>(
-    src: &mut S,
-    place: u64,
-    count: u64,
-) -> Result<Option<u64>, ReadFault>
+fn search_text<S: Source>(src: &mut S, place: u64, count: u64) -> Result<Option<u64>, ReadFault>
     requires within { place + count ≤ length (S.means src.old).octets }
     ensures reads { OnlyReads (result_err result) (S.means src.old) (S.means src.new) }
     ensures found { IfOk result (λ found. Honestly (S.means src.old)
@@ -283,8 +274,9 @@ pub fn first_high_in<S: Source>(
         (λ f. MatchOption found (AreBelow f place 1 count 128) (IsFirstNotBelow f place 1 count 128))) }
     ensures inside { IfOk result (λ found. IfSome found (λ i. i < count)) }
 {
-    if count <= SHORT_TEXT as u64 {
-        return first_high_at_once::<SHORT_TEXT, S>(src, place, count);
+    let _len = src.len();
+    if count <= SHORT_TEXT as u64 && is_low_at_once::<SHORT_TEXT, S>(src, place, count)? {
+        return Ok(None);
     }
-    first_high_not_short(src, place, count)
+    search_text(src, place, count)
 }

@@ -2,10 +2,10 @@ use Rattle.std.proofs.Common.{◌≡◌, ℕ, ◌+◌, ◌∙◌, ap, length, ta
 use Rattle.std.proofs.lemmas.List.{length-replicate, length-take-le}
 use Rattle.bplist_octets.specs.Octets.{part}
 use Rattle.bplist_objects.proofs.ScanLaws.{low_front, low-part}
-use Rattle.bplist_objects.proofs.scan.first_high_at_once.Goals as goal
+use Rattle.bplist_objects.proofs.scan.is_low_at_once.Goals as goal
 
-pub returns-in-None-clause-found : goal.returns-in-None-clause-found
-returns-in-None-clause-found g c = λ honest k l.
+pub returns-clause-low : goal.returns-clause-low
+returns-clause-low g c = λ yes honest k l.
     let f = (g.S.Source.means c.args.src.now).octets in
     let text = c.read_at.new.into in
     let room = replicate g.row.ROOM 0 in
@@ -13,4 +13,4 @@ returns-in-None-clause-found g c = λ honest k l.
     let len : length text ≡ c.args.count = c.read_at.auto.into ∙ count in
     let first : c.args.place ≡ c.args.place + 0 = omega arith in
     let filled = c.in_ok-read_at.ensures.filled honest ∙ ap (part f c.args.place) count ∙ ap (λ place. part f place c.args.count) first in
-    low-part f text c.args.place 0 c.args.count filled len (λ j. omega arith) (low_front text (drop c.args.count room) c.in-None.ensures) k (omega arith)
+    low-part f text c.args.place 0 c.args.count filled len (λ j. omega arith) (low_front text (drop c.args.count room) g.row.ROOM (omega (arith, len, c.requires.short)) (c.is_block_below.ensures yes)) k (omega arith)
