@@ -26,6 +26,10 @@ pub record HaveGoodLists (f : List ℕ) (F : Frame) (heights : List ℕ) (keyed 
   pub learnt : AreLearnt f F look
   pub good : IsTrue look.good → (n : ℕ) → n < bound → IsVouchedBy heights n → IsListed f F keyed n
 
+-- version 2: the key lists of the vouched dictionaries below a bound are good, if the walk found so
+abbrev pub AreListed : List ℕ → Frame → Lists → ℕ → KeyListFindings → Type 0
+AreListed f F certificate bound look = IfSome certificate.keys (λ keyed. HaveGoodLists f F certificate.heights keyed bound look)
+
 -- version 1: the keys of the vouched dictionaries below a bound are named, if they are to be; version 2: their key
 -- lists are good, if the walk found so
 abbrev pub AreSeen : List ℕ → Frame → Lists → ℕ → KeyFindings → Type 0

@@ -17,3 +17,4 @@ pub mod LowBytes
 pub mod KeysLooks
 pub mod CertifiedFile
 pub mod Prelude
+pub mod Walks

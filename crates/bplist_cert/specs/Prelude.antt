@@ -36,7 +36,7 @@ pub use Rattle.bplist_cert.specs.Encoding.{Fits, IsCertRefusal, IsOctetsFault, m
 pub use Rattle.bplist_cert.specs.Heights.{AreLower, AreMet, AreMetBy, IsFirstUnmetBy, IsHeightFault, IsUnmetFault, Meets, rule_of}
 pub use Rattle.bplist_cert.specs.KeyPairs.{AreFewKeys, AreKnown, Ascends, Follows, HaveTextShapes, IsReadKey, IsSafeKey, IsSafeText, IsTextKey}
 pub use Rattle.bplist_cert.specs.KeyRepeats.{BreaksKeys, HasGoodKeys, HaveGoodKeys, HaveNamedKeys, IsFirstKeysFault, IsKeyOf, IsVouchedKey}
-pub use Rattle.bplist_cert.specs.KeysLooks.{AreLearnt, AreSeen, HaveGoodLists, IsListed}
+pub use Rattle.bplist_cert.specs.KeysLooks.{AreLearnt, AreListed, AreSeen, HaveGoodLists, IsListed}
 pub use Rattle.bplist_cert.specs.Lists.{AreWords, HasStarts, IsCertificate, IsCompleteList, Lists, list_of, lists}
 pub use Rattle.bplist_cert.specs.Looks.{ArePlaces, IsShownFault, KeepBeforeKeysBelow}
 pub use Rattle.bplist_cert.specs.LowBytes.{AreLowStretches, IsLow}
@@ -46,6 +46,8 @@ pub use Rattle.bplist_cert.specs.Sorted.{IsAccepted, IsSorted}
 pub use Rattle.bplist_cert.specs.Sound.{IsSound}
 pub use Rattle.bplist_cert.specs.Valid.{HoldsOneValue, IsValid, IsVouchedBy, SpellsText}
 pub use Rattle.bplist_cert.specs.Versions.{header_octets, is_keyed}
+pub use Rattle.bplist_cert.specs.Walks.{AreNamed, AreNamedNext}
 pub use Rattle.bplist_cert.specs.declared.checker.Pass.TheVariants.{Exact, Quick}
 pub use Rattle.bplist_cert.specs.declared.certificate.CertRefusal.TheVariants.{Memory as CertMemory}
+pub use Rattle.bplist_cert.specs.declared.heights.Wanted.TheVariants.{VouchedBelow}
 pub use Rattle.bplist_cert.specs.declared.refusal.Refusal.TheVariants.{Memory, Read}

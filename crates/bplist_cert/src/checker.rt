@@ -8,16 +8,18 @@ ghost use Rattle.bplist_cert.specs.Prelude.{IsCheckedObject, AreCheckedBelow, Is
 ghost use Rattle.bplist_cert.specs.Prelude.{KeepsPairRules, IsPairFault, Gives, read_failed, Judges, GivesRefusal};
 ghost use Rattle.bplist_cert.specs.Prelude.{is_read, refused_read, MayRefuse, IsAccepted, Never};
 ghost use Rattle.bplist_cert.specs.Prelude.{Frame as frame, IsSafeHead, HasHead, IsCheckFault};
-ghost use Rattle.bplist_cert.specs.Prelude.{KeepsAll, KeepsByObject, body_rules, AreLower};
+ghost use Rattle.bplist_cert.specs.Prelude.{KeepsAll, KeepsByObject, body_rules, AreLower, ref_count};
+ghost use Rattle.bplist_cert.specs.Prelude.{AreNamed, AreNamedNext};
 
 use crate::certificate::Certificate;
 use crate::checked::Checked;
-use crate::heights::{Wanted, check_heights, check_refs};
+use crate::heights::{Wanted, check_dict_refs, check_heights, check_refs};
 use crate::key_lists::{KeyFindings, VouchedPrefix, key_findings};
 use crate::refusal::Refusal;
+use bplist_keys::NamedKeys;
 use bplist_objects::{
-    Extents, Fault, Frame, Framed, Head, ObjectFault, ObjectNo, Objects, Offsets, Rule, Visit,
-    check_body, frame_of, head_in, read_offsets_in, refs_of, visit_in,
+    Extents, Fault, Frame, Framed, Head, Kind, ObjectFault, ObjectNo, Objects, Offsets, Rule,
+    Visit, check_body, frame_of, head_in, read_offsets_in, refs_of, visit_in,
 };
 use bplist_octets::Source;
 use std::alloc::Global;
@@ -41,29 +43,72 @@ struct ObjectCheck<'a> {
     look: Pass,
 }
 
-/// Checks what follows the head of vouched object `n` at `place`, and reads no byte twice: the test of rules 28 and 29
-/// also finds a reference that is not the number of an object, because only an object has a height.
+/// An object and its place.
+#[derive(Clone, Copy, Drop)]
+struct Placed {
+    n: ObjectNo,
+    place: u64,
+}
+
+/// What a walk over the vouched objects has found so far, but for key lists.
+#[derive(Drop)]
+struct Walked {
+    /// How many bytes the objects take.
+    used: Extents,
+    /// The objects that are named as keys, if they are to be collected. An exact walk collects none.
+    named: Option<NamedKeys>,
+}
+
+/// Checks the references of vouched object `n`, of which there are some, and names the keys of a dictionary. The test of
+/// rules 28 and 29 also finds a reference that is not the number of an object, because only an object has a height.
 #[inline(always)]
-fn check_rest<P: Framed>(
+fn check_children<P: Framed>(
     src: &mut P,
     heights: &[u32],
     n: ObjectNo,
-    place: u64,
     head: &Head,
+    named: &mut Option<NamedKeys>,
 ) -> Result<(), ObjectFault>
     requires all { length heights.now ≡ (frame_in (P.means src.old)).objects }
     requires within { n.0 < (frame_in (P.means src.old)).objects }
     requires head { IsSafeHead (frame_in (P.means src.old)) head.now }
+    requires some { 0 < ref_count head.now.kind head.now.count }
     ensures reads { OnlyReads (read_failed result) (P.means src.old) (P.means src.new) }
-    ensures exact { HonestlyIn (P.means src.old) (λ f F. place ≡ off f F n.0 → HasHead f F n.0 head.now
-        → IfOk result (λ _. KeepsAll (KeepsByObject f F n.0) body_rules × AreLower f F heights.now n.0 head.now)) }
+    ensures exact { HonestlyIn (P.means src.old) (λ f F. HasHead f F n.0 head.now
+        → IfOk result (λ _. (KeepsAll (KeepsByObject f F n.0) body_rules × AreLower f F heights.now n.0 head.now)
+        × AreNamedNext f F heights.now n.0 named.old named.new)) }
+{
+    if let Kind::Dict = head.kind {
+        if let Some(keys) = named {
+            return check_dict_refs(src, heights, n, head, keys);
+        }
+    }
+    let own = heights[n.0 as usize];
+    check_refs(src, heights, n, head, Wanted::VouchedBelow(own))
+}
+
+/// Checks what follows the head of a vouched object, names the keys of a dictionary, and reads no byte twice.
+#[inline(always)]
+fn check_rest<P: Framed>(
+    src: &mut P,
+    heights: &[u32],
+    at: Placed,
+    head: &Head,
+    named: &mut Option<NamedKeys>,
+) -> Result<(), ObjectFault>
+    requires all { length heights.now ≡ (frame_in (P.means src.old)).objects }
+    requires within { at.n.0 < (frame_in (P.means src.old)).objects }
+    requires head { IsSafeHead (frame_in (P.means src.old)) head.now }
+    ensures reads { OnlyReads (read_failed result) (P.means src.old) (P.means src.new) }
+    ensures exact { HonestlyIn (P.means src.old) (λ f F. at.place ≡ off f F at.n.0 → HasHead f F at.n.0 head.now
+        → IfOk result (λ _. (KeepsAll (KeepsByObject f F at.n.0) body_rules × AreLower f F heights.now at.n.0 head.now)
+        × AreNamedNext f F heights.now at.n.0 named.old named.new)) }
 {
     let frame = src.frame();
     if refs_of(head) == 0 {
-        check_body(src, &frame, n, place, head)
+        check_body(src, &frame, at.n, at.place, head)
     } else {
-        let own = heights[n.0 as usize];
-        check_refs(src, heights, n, head, Wanted::VouchedBelow(own))
+        check_children(src, heights, at.n, head, named)
     }
 }
 
@@ -74,22 +119,31 @@ fn check_quickly<P: Framed>(
     cert: &Certificate,
     n: ObjectNo,
     place: u64,
-    used: Extents,
-) -> Result<Extents, ObjectFault>
+    walked: &mut Walked,
+) -> Result<(), ObjectFault>
     requires all { length cert.now.heights ≡ (frame_in (P.means src.old)).objects }
     requires within { n.0 < (frame_in (P.means src.old)).objects }
     ensures reads { OnlyReads (read_failed result) (P.means src.old) (P.means src.new) }
     ensures exact { HonestlyIn (P.means src.old) (λ f F. place ≡ off f F n.0
-        → IsVouchedBy cert.now.heights n.0 → Sums f F (IsVouchedBy cert.now.heights) n.0 used.octets
-        → IfOk result (λ now. IsCheckedObject f F cert.now quick n.0 now.octets)) }
+        → IsVouchedBy cert.now.heights n.0 → Sums f F (IsVouchedBy cert.now.heights) n.0 walked.old.used.octets
+        → IfOk result (λ _. IsCheckedObject f F cert.now quick n.0 walked.new.used.octets
+        × AreNamedNext f F cert.now.heights n.0 walked.old.named walked.new.named)) }
 {
     let table = src.frame().table;
     match visit_in(src, n, place)? {
-        Visit::Done(end) => Ok(used.with(table, n, place, end)?),
+        Visit::Done(end) => {
+            walked.used = walked.used.with(table, n, place, end)?;
+            Ok(())
+        }
         Visit::Body(head) => {
-            let now = used.with(table, n, place, head.end)?;
-            check_rest(src, &cert.heights, n, place, &head)?;
-            Ok(now)
+            walked.used = walked.used.with(table, n, place, head.end)?;
+            check_rest(
+                src,
+                &cert.heights,
+                Placed { n, place },
+                &head,
+                &mut walked.named,
+            )
         }
     }
 }
@@ -117,26 +171,31 @@ fn check_exactly<P: Framed>(
     Ok(now)
 }
 
-/// Checks vouched object `n` at `place` by the rules before those of keys. The vouched objects before it take `used`
-/// bytes; returns how many they take with it.
+/// Checks vouched object `n` at `place` by the rules before those of keys. `walked` is true of the vouched objects
+/// before it, and then also of this one.
 fn check_object<P: Framed>(
     src: &mut P,
     walk: ObjectCheck,
     n: ObjectNo,
     place: u64,
-    used: Extents,
-) -> Result<Extents, ObjectFault>
+    walked: &mut Walked,
+) -> Result<(), ObjectFault>
     requires all { length walk.certificate.now.heights ≡ (frame_in (P.means src.old)).objects }
     requires within { n.0 < (frame_in (P.means src.old)).objects }
     ensures reads { OnlyReads (read_failed result) (P.means src.old) (P.means src.new) }
     ensures exact { HonestlyIn (P.means src.old) (λ f F. place ≡ off f F n.0
-        → IsVouchedBy walk.entry.certificate.now.heights n.0 → Sums f F (IsVouchedBy walk.entry.certificate.now.heights) n.0 used.octets
-        → Gives (λ now. IsCheckedObject f F walk.entry.certificate.now quick n.0 now.octets)
+        → IsVouchedBy walk.entry.certificate.now.heights n.0 → Sums f F (IsVouchedBy walk.entry.certificate.now.heights) n.0 walked.old.used.octets
+        → Gives (λ _. IsCheckedObject f F walk.entry.certificate.now quick n.0 walked.new.used.octets
+        × AreNamedNext f F walk.entry.certificate.now.heights n.0 walked.old.named walked.new.named)
         (IsShownFault f F walk.entry.certificate.now walk.entry.look n.0) result) }
 {
     match walk.look {
-        Pass::Quick => check_quickly(src, walk.certificate, n, place, used),
-        Pass::Exact => check_exactly(src, walk.certificate, n, place, used),
+        Pass::Quick => check_quickly(src, walk.certificate, n, place, walked),
+        Pass::Exact => {
+            walked.named = None;
+            walked.used = check_exactly(src, walk.certificate, n, place, walked.used)?;
+            Ok(())
+        }
     }
 }
 
@@ -146,31 +205,32 @@ fn check_block<P: Framed>(
     walk: ObjectCheck,
     from: u32,
     places: &[u64],
-    used: Extents,
-) -> Result<Extents, ObjectFault>
+    walked: &mut Walked,
+) -> Result<(), ObjectFault>
     requires all { length walk.certificate.now.heights ≡ (frame_in (P.means src.old)).objects }
     requires within { from + length places.now ≤ (frame_in (P.means src.old)).objects }
     ensures reads { OnlyReads (read_failed result) (P.means src.old) (P.means src.new) }
     ensures exact { HonestlyIn (P.means src.old) (λ f F. ArePlaces f F from places.now
-        → AreCheckedBelow f F walk.entry.certificate.now quick from used.octets
-        → Gives (λ now. AreCheckedBelow f F walk.entry.certificate.now quick (from + length places.now) now.octets)
+        → AreCheckedBelow f F walk.entry.certificate.now quick from walked.old.used.octets
+        → Gives (λ _. AreCheckedBelow f F walk.entry.certificate.now quick (from + length places.now) walked.new.used.octets
+        × (AreNamed f F walk.entry.certificate.now.heights from walked.old.named
+        → AreNamed f F walk.entry.certificate.now.heights (from + length places.now) walked.new.named))
         (IsWalkFault f F walk.entry.certificate.now walk.entry.look) result) }
 {
     let _frame = src.frame();
     let cert = walk.certificate;
     let heights: &[u32] = &cert.heights;
-    let mut used = used;
     for (i, place) in places.iter().enumerate() {
         let n = ObjectNo(from + i as u32);
         if heights[n.0 as usize] > 0 {
-            used = check_object(src, walk, n, *place, used)?;
+            check_object(src, walk, n, *place, walked)?;
         }
     }
-    Ok(used)
+    Ok(())
 }
 
-/// Checks all vouched objects in the order of their numbers. Returns how many bytes they take. The keys of each block
-/// are looked at right after it, while its places and objects are at hand.
+/// Checks all vouched objects in the order of their numbers. Returns how many bytes they take. The key lists of each
+/// block are looked at right after it, while its places and objects are at hand.
 fn check_all<P: Offsets>(
     src: &mut P,
     walk: ObjectCheck,
@@ -188,22 +248,26 @@ fn check_all<P: Offsets>(
     let cert = walk.certificate;
     let heights: &[u32] = &cert.heights;
     let mut buffer = [0u64; BLOCK];
-    let mut used = Extents::new();
+    let mut walked = Walked {
+        used: Extents::new(),
+        named: found.named.take(),
+    };
     let mut done = 0u32;
     while done < objects {
         let now = (objects - done).min(BLOCK as u32);
         let places = &mut buffer[..now as usize];
         read_offsets_in(src, done, places)?;
-        used = check_block(src, walk, done, places, used)?;
+        check_block(src, walk, done, places, &mut walked)?;
         let seen = VouchedPrefix {
             heights,
             keys: &cert.keys,
             bound: done,
         };
-        found.look(src, &seen, places)?;
+        found.lists.look(src, &seen, places)?;
         done += now;
     }
-    Ok(used)
+    found.named = walked.named;
+    Ok(walked.used)
 }
 
 /// Checks all vouched objects by the rules before those of keys, and returns how many bytes they take. A second, exact

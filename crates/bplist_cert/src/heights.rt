@@ -1,10 +1,11 @@
 //! Checks the heights of references: rules 28 and 29.
 
-ghost use Rattle.std.specs.Prelude.{◌≡◌, ◌↔◌, ℕ, ◌+◌, ◌≤◌, ◌<◌, length, slice_index, IsTrue, MatchOption};
+ghost use Rattle.std.specs.Prelude.{◌≡◌, ◌↔◌, ℕ, ◌+◌, ◌≤◌, ◌<◌, length, slice_index, IsTrue, IfOk, MatchOption};
 ghost use Rattle.bplist_cert.specs.Prelude.{OnlyReads, frame_in, HonestlyIn, IsSafeHead, ref_count, Gives, read_failed};
 ghost use Rattle.bplist_cert.specs.Prelude.{Meets, AreMet, AreMetBy, IsFirstUnmetBy, IsUnmetFault, rule_of};
-ghost use Rattle.bplist_cert.specs.Prelude.{AreLower, IsHeightFault};
+ghost use Rattle.bplist_cert.specs.Prelude.{AreLower, IsHeightFault, Dict, IsMarked, ref, VouchedBelow};
 
+use bplist_keys::NamedKeys;
 use bplist_objects::{
     Fault, Framed, Head, ObjectFault, ObjectNo, Rule, read_refs_in, ref_place, refs_of,
 };
@@ -110,6 +111,47 @@ pub(crate) fn check_refs<P: Framed>(
             }));
         }
         done += now;
+    }
+    Ok(())
+}
+
+/// Checks that all references of dictionary `n` have heights by rules 28 and 29, and names its keys. The fault need not be
+/// the first, and after it not all keys may be named.
+pub(crate) fn check_dict_refs<P: Framed>(
+    src: &mut P,
+    heights: &[u32],
+    n: ObjectNo,
+    head: &Head,
+    named: &mut NamedKeys,
+) -> Result<(), ObjectFault>
+    requires head { IsSafeHead (frame_in (P.means src.old)) head.now }
+    requires dict { head.now.kind ≡ Dict }
+    ensures reads { OnlyReads (read_failed result) (P.means src.old) (P.means src.new) }
+    ensures all { length named.new.marks.items ≡ length named.old.marks.items }
+    ensures keeps { (m : ℕ) → IsMarked named.old.marks.items m → IsMarked named.new.marks.items m }
+    ensures exact { HonestlyIn (P.means src.old) (λ f F. IfOk result (λ _.
+        AreMet f F heights.now head.now (VouchedBelow (slice_index heights.now n.0)) (ref_count head.now.kind head.now.count)
+        × ((k : ℕ) → k < head.now.count → ref f F head.now k < length named.old.marks.items → IsMarked named.new.marks.items (ref f F head.now k)))) }
+{
+    let _frame = src.frame();
+    let wanted = Wanted::VouchedBelow(height_at(heights, n.0 as u64));
+    let refs = refs_of(head);
+    let mut buffer = [0u64; BLOCK];
+    let mut seen = 0u64;
+    while seen < refs {
+        let now = (refs - seen).min(BLOCK as u64);
+        let block = &mut buffer[..now as usize];
+        read_refs_in(src, head, seen, block)?;
+        if first_unmet_in(heights, block, wanted).is_some() {
+            return Err(ObjectFault::Fault(Fault {
+                rule: wanted.rule(),
+                object: Some(n),
+                place: head.body,
+            }));
+        }
+        let keys = head.count.saturating_sub(seen).min(now);
+        named.insert_all(&block[..keys as usize]);
+        seen += now;
     }
     Ok(())
 }

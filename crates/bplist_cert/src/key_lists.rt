@@ -9,12 +9,11 @@ ghost use Rattle.bplist_cert.specs.Prelude.{OnlyReads, Gives, Never, read_failed
 ghost use Rattle.bplist_cert.specs.Prelude.{Lists, lists, ArePlaces, KeepBeforeKeysBelow, HaveGoodKeys};
 ghost use Rattle.bplist_cert.specs.Prelude.{IsFirstKeysFault, Judges, MayRefuse, refused_read, AreSeen, off, KeepsAll};
 ghost use Rattle.bplist_cert.specs.Prelude.{KeepsByObject, object_rules, Head as head, Dict, HasGoodKeys, BreaksKeys};
-ghost use Rattle.bplist_cert.specs.Prelude.{AreKnown, IsListed, HaveGoodLists, AreLearnt, IsVouchedBy};
+ghost use Rattle.bplist_cert.specs.Prelude.{AreKnown, AreListed, IsListed, HaveGoodLists, AreLearnt, IsVouchedBy};
 
 use crate::caches::{LowBytesCache, OrderedPairsCache};
 use crate::certificate::KeyLists;
 use crate::heights::{block_of, height_at};
-use crate::key_names::name_key_block;
 use crate::key_order::order_fault;
 use crate::key_rules::{Dictionary, check_key_repeats, check_texts};
 use crate::refusal::Refusal;
@@ -51,6 +50,26 @@ impl<'a> KeyListFindings<'a> {
             good: true,
         }
     }
+
+    /// Looks at the key lists of the vouched dictionaries among the next objects, which are at these places.
+    pub(crate) fn look<P: Offsets>(
+        &mut self,
+        src: &mut P,
+        seen: &VouchedPrefix,
+        places: &[u64],
+    ) -> Result<(), ObjectFault>
+        requires { seen.now.bound + length places.now ≤ (frame_in (P.means src.old)).objects }
+        ensures reads { OnlyReads (read_failed result) (P.means src.old) (P.means src.new) }
+        ensures exact { HonestlyIn (P.means src.old) (λ f F. ArePlaces f F seen.now.bound places.now
+            → KeepBeforeKeysBelow f F seen.now.heights.now (seen.now.bound + length places.now)
+            → AreListed f F (lists seen.now.heights.now seen.now.keys.now) seen.now.bound self.old
+            → Gives (λ _. AreListed f F (lists seen.now.heights.now seen.now.keys.now) (seen.now.bound + length places.now) self.new) Never result) }
+    {
+        match seen.keys {
+            None => Ok(()),
+            Some(keys) => look_at_lists(src, seen, keys, places, self),
+        }
+    }
 }
 
 /// What the walk over the vouched objects has found out about the keys of dictionaries so far.
@@ -70,29 +89,6 @@ impl<'a> KeyFindings<'a> {
     {
         self.named = None;
         self.lists.good = false;
-    }
-
-    /// Looks at the keys of the vouched dictionaries among the next objects, which are at these places.
-    pub(crate) fn look<P: Offsets>(
-        &mut self,
-        src: &mut P,
-        seen: &VouchedPrefix,
-        places: &[u64],
-    ) -> Result<(), ObjectFault>
-        requires { seen.now.bound + length places.now ≤ (frame_in (P.means src.old)).objects }
-        ensures reads { OnlyReads (read_failed result) (P.means src.old) (P.means src.new) }
-        ensures exact { HonestlyIn (P.means src.old) (λ f F. ArePlaces f F seen.now.bound places.now
-            → KeepBeforeKeysBelow f F seen.now.heights.now (seen.now.bound + length places.now)
-            → AreSeen f F (lists seen.now.heights.now seen.now.keys.now) seen.now.bound self.old
-            → Gives (λ _. AreSeen f F (lists seen.now.heights.now seen.now.keys.now) (seen.now.bound + length places.now) self.new) Never result) }
-    {
-        match seen.keys {
-            None => match &mut self.named {
-                Some(named) => name_key_block(src, seen.heights, seen.bound, places, named),
-                None => Ok(()),
-            },
-            Some(keys) => look_at_lists(src, seen, keys, places, &mut self.lists),
-        }
     }
 
     /// Checks the keys of the vouched dictionaries seen so far, unless the walk has already shown that they are good.

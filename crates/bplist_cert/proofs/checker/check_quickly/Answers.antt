@@ -1,5 +1,5 @@
 use Rattle.std.proofs.Common.{◌≡◌, ◌+◌, ◌-◌, ◌≤◌, ◌∙◌, ap, subst, arith}
-use Rattle.std.proofs.lemmas.Result.{err_from_is_err_and}
+use Rattle.std.proofs.lemmas.Result.{IfOk-weaker}
 use Rattle.bplist_objects.specs.declared.frame.Frame.{Frame}
 use Rattle.bplist_objects.specs.Framed.{frame_in}
 use Rattle.bplist_objects.specs.Frame.{off}
@@ -9,46 +9,36 @@ use Rattle.bplist_cert.specs.declared.checker.Pass.TheVariants.{Quick}
 use Rattle.bplist_cert.specs.Lists.{Lists}
 use Rattle.bplist_cert.specs.PairFault.{IsCheckedObject}
 use Rattle.bplist_cert.proofs.CheckSteps.{seen}
+use Rattle.bplist_cert.proofs.KeysLooks.{no_refs_named, none_named}
 use Rattle.bplist_cert.proofs.checker.check_quickly.Goals as goal
 
-pub returns-in_err-end-clause-exact : goal.returns-in_err-end-clause-exact
-returns-in_err-end-clause-exact g c = λ honest place vouched sums.
-    rw (err_from_is_err_and c.from_residual.result c.from_residual.ensures.1).1 tt
-
-pub returns-in_err-with-in-Done-clause-exact : goal.returns-in_err-with-in-Done-clause-exact
-returns-in_err-with-in-Done-clause-exact g c = λ honest place vouched sums.
-    rw (err_from_is_err_and c.from_residual-in_err-with-in-Done.result c.from_residual-in_err-with-in-Done.ensures.1).1 tt
-
-pub returns-in_err-now-in-Body-clause-exact : goal.returns-in_err-now-in-Body-clause-exact
-returns-in_err-now-in-Body-clause-exact g c = λ honest place vouched sums.
-    rw (err_from_is_err_and c.from_residual-in_err-now-in-Body.result c.from_residual-in_err-now-in-Body.ensures.1).1 tt
-
-pub returns-in_err-check_rest-in-Body-clause-exact : goal.returns-in_err-check_rest-in-Body-clause-exact
-returns-in_err-check_rest-in-Body-clause-exact g c = λ honest place vouched sums.
-    rw (err_from_is_err_and c.from_residual-in_err-check_rest-in-Body.result c.from_residual-in_err-check_rest-in-Body.ensures.1).1 tt
-
-pub returns-in_ok-with-in-Done-clause-exact : goal.returns-in_ok-with-in-Done-clause-exact
-returns-in_ok-with-in-Done-clause-exact g c = λ honest place vouched sums.
+pub returns-in_ok-walked-in-Done-clause-exact : goal.returns-in_ok-walked-in-Done-clause-exact
+returns-in_ok-walked-in-Done-clause-exact g c = λ honest place vouched sums.
     let f = (g.P.Source.means c.args.src.now).octets in
     let F : Frame = frame_in (g.P.Source.means c.args.src.now) in
     let n = c.args.n.0 in
     let visited = (rw c.in-Done.is at c.in_ok-end.ensures.exact) honest place in
-    let h = rw (place, c.frame-table.ensures.frame) at c.in_ok-with-in-Done.ensures.room in
-    let now : c.args.used.octets + (visited.0.«end» - off f F n) ≡ c.in_ok-with-in-Done.field-0.octets = omega (arith, h.0, visited.2) in
-    let room : c.args.used.octets + (visited.0.«end» - off f F n) + 8 ≤ F.table = omega (arith, now, h.1) in
-    subst (IsCheckedObject f F c.args.cert.now Quick n) now
-    (seen f F c.args.cert.now.heights c.args.cert.now.keys n (c.frame-table.ensures.framed.framed honest) c.requires.within
-    visited.0 visited.1 visited.4 vouched c.args.used.octets sums room (λ k lt. absurd (omega (arith, lt, visited.3))) (λ k lt. absurd (omega (arith, lt, visited.3))))
+    let h = rw (place, c.frame-table.ensures.frame) at c.in_ok-walked-in-Done.ensures.room in
+    let now : c.args.walked.now.used.octets + (visited.0.«end» - off f F n) ≡ c.in_ok-walked-in-Done.field-0.octets = omega (arith, h.0, visited.2) in
+    let room : c.args.walked.now.used.octets + (visited.0.«end» - off f F n) + 8 ≤ F.table = omega (arith, now, h.1) in (
+      subst (IsCheckedObject f F c.args.cert.now Quick n) now
+          (seen f F c.args.cert.now.heights c.args.cert.now.keys n (c.frame-table.ensures.framed.framed honest) c.requires.within
+          visited.0 visited.1 visited.4 vouched c.args.walked.now.used.octets sums room (λ k lt. absurd (omega (arith, lt, visited.3))) (λ k lt. absurd (omega (arith, lt, visited.3)))),
+      none_named f F c.args.cert.now.heights n (λ _. no_refs_named f F n visited.0 visited.1 visited.3) c.args.walked.now.named,
+    )
 
-pub returns-in_ok-check_rest-in-Body-clause-exact : goal.returns-in_ok-check_rest-in-Body-clause-exact
-returns-in_ok-check_rest-in-Body-clause-exact g c = λ honest place vouched sums.
+pub returns-in_ok-walked-in-Body-clause-exact : goal.returns-in_ok-walked-in-Body-clause-exact
+returns-in_ok-walked-in-Body-clause-exact g c = λ honest place vouched sums.
     let shown = c.deref.ensures.value ∙ ap (λ (x : Lists). x.heights) c.cert.view_is in
     let f = (g.P.Source.means c.args.src.now).octets in
     let F : Frame = frame_in (g.P.Source.means c.args.src.now) in
     let visited = (rw c.in-Body.is at c.in_ok-end.ensures.exact) honest place in
-    let h = rw (place, c.frame-table.ensures.frame) at c.in_ok-now-in-Body.ensures.room in
+    let h = rw (place, c.frame-table.ensures.frame) at c.in_ok-walked-in-Body.ensures.room in
     let room = rw h.0 at h.1 in
-    let rest = (rw (c.in_ok-end.ensures.reads, shown) at c.in_ok-check_rest-in-Body.ensures.exact) honest place visited.0 in
-    let kept = kept_all_after (KeepsByObject f F c.args.n.0) shape_rules body_rules visited.1 rest.0 in
-    rw h.0 (seen f F c.args.cert.now.heights c.args.cert.now.keys c.args.n.0 (c.frame-table.ensures.framed.framed honest) c.requires.within
-    c.in-Body.head visited.0 kept vouched c.args.used.octets sums room rest.1.0 rest.1.1)
+    IfOk-weaker c.check_rest.result _ _ (λ _ rest.
+    let kept = kept_all_after (KeepsByObject f F c.args.n.0) shape_rules body_rules visited.1 rest.0.0 in (
+      rw h.0 (seen f F c.args.cert.now.heights c.args.cert.now.keys c.args.n.0 (c.frame-table.ensures.framed.framed honest) c.requires.within
+          c.in-Body.head visited.0 kept vouched c.args.walked.now.used.octets sums room rest.0.1.0 rest.0.1.1),
+      rest.1,
+    ))
+    ((rw (c.in_ok-end.ensures.reads, shown) at c.check_rest.ensures.exact) honest place visited.0)

@@ -1,10 +1,11 @@
-use Rattle.std.proofs.Common.{◌∙◌, slice_index, arith}
+use Rattle.std.proofs.Common.{◌≡◌, arith}
+use Rattle.std.proofs.lemmas.Result.{IfOk-weaker}
 use Rattle.bplist_objects.specs.Framed.{frame_in}
 use Rattle.bplist_objects.specs.ObjectRules.{IsObjectFault, body_rules}
+use Rattle.bplist_objects.specs.Safe.{ref_count}
 use Rattle.bplist_objects.proofs.BodyLaws.{refs_fit}
-use Rattle.bplist_cert.specs.declared.heights.Wanted.TheVariants.{VouchedBelow}
-use Rattle.bplist_cert.specs.Heights.{IsUnmetFault}
-use Rattle.bplist_cert.proofs.QuickLooks.{rest_by_body, rest_by_heights}
+use Rattle.bplist_cert.proofs.QuickLooks.{rest_by_body}
+use Rattle.bplist_cert.proofs.KeysLooks.{no_refs_named, none_named}
 use Rattle.bplist_cert.proofs.checker.check_rest.Goals as goal
 
 pub refs_of-requires : goal.refs_of-requires
@@ -15,12 +16,8 @@ refs_of-requires g c =
 pub returns-then-refs_of-eq0-clause-exact : goal.returns-then-refs_of-eq0-clause-exact
 returns-then-refs_of-eq0-clause-exact g c = λ honest place has.
     let m = g.P.Source.means c.args.src.now in
-    rest_by_body m.octets (frame_in m) c.args.heights.now c.args.n.0 c.args.head.now (IsObjectFault m.octets (frame_in m) c.args.n.0 body_rules) c.check_body.result
-    (omega (arith, c.refs_of.ensures, c.if-refs_of-eq0.true)) ((rw c.frame-frame.ensures.frame at c.check_body.ensures.exact) honest place has)
-
-pub returns-else-refs_of-eq0-clause-exact : goal.returns-else-refs_of-eq0-clause-exact
-returns-else-refs_of-eq0-clause-exact g c = λ honest place has.
-    let m = g.P.Source.means c.args.src.now in
-    rest_by_heights m.octets (frame_in m) c.args.heights.now c.args.n.0 c.args.head.now
-    (IsUnmetFault m.octets (frame_in m) c.args.heights.now c.args.n.0 c.args.head.now (VouchedBelow (slice_index c.args.heights.now c.args.n.0))) c.check_refs.result
-    has (λ none. c.if-refs_of-eq0.false (c.refs_of.ensures ∙ none)) c.requires.all (c.check_refs.ensures.exact honest)
+    let none : ref_count c.args.head.now.kind c.args.head.now.count ≡ 0 = omega (arith, c.refs_of.ensures, c.if-refs_of-eq0.true) in
+    let names = none_named m.octets (frame_in m) c.args.heights.now c.args.«at».n.0 (λ _. no_refs_named m.octets (frame_in m) c.args.«at».n.0 c.args.head.now has none) c.args.named.now in
+    IfOk-weaker c.check_body.result _ _ (λ _ kept. (kept, names))
+    (rest_by_body m.octets (frame_in m) c.args.heights.now c.args.«at».n.0 c.args.head.now (IsObjectFault m.octets (frame_in m) c.args.«at».n.0 body_rules) c.check_body.result
+    none ((rw c.frame-frame.ensures.frame at c.check_body.ensures.exact) honest place has))
