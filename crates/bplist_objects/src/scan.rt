@@ -274,7 +274,6 @@ pub fn first_high_in<S: Source>(
         (λ f. MatchOption found (AreBelow f place 1 count 128) (IsFirstNotBelow f place 1 count 128))) }
     ensures inside { IfOk result (λ found. IfSome found (λ i. i < count)) }
 {
-    let _len = src.len();
     if count <= SHORT_TEXT as u64 && is_low_at_once::<SHORT_TEXT, S>(src, place, count)? {
         return Ok(None);
     }
