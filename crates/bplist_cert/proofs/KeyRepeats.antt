@@ -1,6 +1,7 @@
 -- What the classes of the keys of a vouched dictionary say about the keys.
-use Rattle.std.proofs.Common.{Bool, not, IsTrue, Option, Some, None, MatchOption, is_some, ◌≡◌, ℕ, ◌*◌, ◌<◌, ◌≤◌, List, suc, [], ◌∷◌, slice_index, count_by, sym, ap, ◌∙◌, subst, arith}
-use Rattle.std.proofs.lemmas.Bool.{false≢true}
+use Rattle.std.proofs.Common.{Bool, not, IsTrue, Option, Some, None, MatchOption, is_some, ◌≡◌, ℕ, ◌*◌, ◌<◌, ◌≤◌, List, suc, [], ◌∷◌, inl, inr, length, slice_index, count_by, sym, ap, ◌∙◌, subst, arith}
+use Rattle.std.proofs.lemmas.Bool.{false≢true, cases_lt}
+use Rattle.std.proofs.lemmas.List.{get_or_past}
 use Rattle.bplist_objects.specs.declared.rule.Rule.{Rule}
 use Rattle.bplist_objects.specs.declared.rule.Rule.TheVariants as rules
 use Rattle.bplist_objects.specs.declared.fault.Fault.{Fault}
@@ -33,7 +34,15 @@ use Rattle.bplist_objects.specs.Scan.{ref}
 use Rattle.bplist_cert.specs.Valid.{IsVouchedBy}
 use Rattle.bplist_cert.specs.Looks.{KeepsBeforeKeys, KeepBeforeKeysBelow}
 use Rattle.bplist_cert.specs.KeyRepeats.{KeysAreSound, HasGoodKeys}
+use Rattle.bplist_cert.specs.Walks.{HaveOwnNumbers, HaveStamps}
 use Rattle.bplist_cert.proofs.TextObjects.{text_there}
+
+-- a number that is not 0 is in the list
+vouched_below : (numbers : List ℕ) (n : ℕ) → 0 < slice_index numbers n → n < length numbers
+vouched_below numbers n some = elim (cases_lt n (length numbers)) [
+  | inl a ↦ a
+  | inr b ↦ absurd (let none = get_or_past numbers n 0 b in omega (arith, some, none))
+]
 
 -- none is found
 pub none_there : {X : Type 0} (A : Type 0) (B : X → Type 0) (found : Option X) (none : Bool) → is_some found ≡ not none → IsTrue none → MatchOption found A B → A
@@ -150,3 +159,23 @@ module _ (f : List ℕ) (F : Frame) where
           let m = ref f F head k in
           let t = classed.only k low (some k under) in
           (t.0, text_there f F m framed (inside k low) t.0 (shape_announced f F m t.0 t.1.0) (sound k low (inside k low)) t.1.1)
+
+-- if each object with a stamp has a class of its own, keys that are different objects with stamps are good
+pub good_stamped : (f : List ℕ) (F : Frame) (heights : List ℕ) → IsFrame f F → KeepBeforeKeysBelow f F heights F.objects → (named : List Bool) (classes last : List ℕ)
+    → AreClasses f F named classes → HaveOwnNumbers last classes (length last) → (n : ℕ) → n < F.objects → IsVouchedBy heights n → HasNamedKeys f F named n
+    → ((head : Head) → HasHead f F n head → head.kind ≡ Dict → HaveStamps f F head head.count last) → HasGoodKeys f F None n
+good_stamped f F heights framed seen named classes last are own n within vouched named_keys stamped head has dict =
+    let classed = keys_classed f F named classes n are named_keys head has dict in
+    let stamps = stamped head has dict in
+    let inside : (k : ℕ) → k < head.count → ref f F head k < length last = λ k low. vouched_below last (ref f F head k) (stamps.0 k low) in
+    let some : HaveClasses (ref f F head) classes head.count = λ k low. own.0 (ref f F head k) (inside k low) (stamps.0 k low) in
+    let apart : HaveOwnClasses (ref f F head) classes head.count = λ i j less low same. elim (cases_lt (ref f F head i) (ref f F head j)) [
+      | inl under ↦ own.1 (ref f F head i) (ref f F head j) under (inside j low) (stamps.0 i (omega (arith, less, low))) (stamps.0 j low) same
+      | inr over ↦
+          let under : ref f F head j < ref f F head i = omega (arith, over, stamps.1 i j less low) in
+          own.1 (ref f F head j) (ref f F head i) under (inside i (omega (arith, less, low))) (stamps.0 j low) (stamps.0 i (omega (arith, less, low))) (sym same)
+    ] in (
+      classed_texts f F head classes classed framed (sound_keys f F heights seen n within vouched head has dict)
+      (keys_inside f F n (seen_own f F heights n (seen n within vouched)) head has dict) head.count (omega arith) some,
+      apart_differ f F head classes classed head.count (omega arith) apart,
+    )

@@ -54,9 +54,9 @@ module _ (f : List ℕ) (F : Frame) (heights : List ℕ) (n : ℕ) (head : Head)
   rest_by_heights Q (Ok _) has some all met = (body_kept has some all met, (λ k lt. (met k lt).0, λ k lt. (met k lt).1))
   rest_by_heights Q (Err e) has some all met = tt
 
-  -- the same with one more claim
-  pub rest_and_more : {A B : Type 0} (result : Result (Unit {0}) ObjectFault) → HasHead f F n head → (refs ≡ 0 → ⊥) → length heights ≡ F.objects
-      → (AreMet f F heights head (VouchedBelow (slice_index heights n)) refs → A → B)
-      → IfOk result (λ _. AreMet f F heights head (VouchedBelow (slice_index heights n)) refs × A) → IfOk result (λ x. Rest x × B)
-  rest_and_more (Ok _) has some all more (met, a) = ((body_kept has some all met, (λ k lt. (met k lt).0, λ k lt. (met k lt).1)), more met a)
-  rest_and_more (Err e) has some all more met = tt
+  -- the same with more claims
+  pub rest_and_more : {A B C : Type 0} (result : Result (Unit {0}) ObjectFault) → HasHead f F n head → (refs ≡ 0 → ⊥) → length heights ≡ F.objects
+      → (AreMet f F heights head (VouchedBelow (slice_index heights n)) refs → A → B → C)
+      → IfOk result (λ _. AreMet f F heights head (VouchedBelow (slice_index heights n)) refs × A) → IfOk result (λ _. B) → IfOk result (λ x. Rest x × C)
+  rest_and_more (Ok _) has some all more (met, a) b = ((body_kept has some all met, (λ k lt. (met k lt).0, λ k lt. (met k lt).1)), more met a b)
+  rest_and_more (Err e) has some all more met b = tt

@@ -10,7 +10,7 @@ use Rattle.bplist_cert.specs.Lists.{Keyed, Lists}
 use Rattle.bplist_cert.specs.Valid.{IsVouchedBy}
 use Rattle.bplist_cert.specs.CheckRules.{HasOrder}
 use Rattle.bplist_cert.specs.KeyPairs.{AreKnown, HaveTextShapes}
-use Rattle.bplist_cert.specs.KeyRepeats.{HaveNamedKeys}
+use Rattle.bplist_cert.specs.Walks.{AreNamed}
 use Rattle.bplist_cert.specs.LowBytes.{AreLowStretches}
 
 -- if object n is a dictionary, its keys are texts by marker and count, and its key list has them in order
@@ -34,5 +34,5 @@ AreListed f F certificate bound look = IfSome certificate.keys (λ keyed. HaveGo
 -- lists are good, if the walk found so
 abbrev pub AreSeen : List ℕ → Frame → Lists → ℕ → KeyFindings → Type 0
 AreSeen f F certificate bound look =
-    MatchOption certificate.keys (IfSome look.named (λ named. HaveNamedKeys f F certificate.heights bound named.marks.items))
+    MatchOption certificate.keys (AreNamed f F certificate.heights bound look.named)
     (λ keyed. HaveGoodLists f F certificate.heights keyed bound look.lists)

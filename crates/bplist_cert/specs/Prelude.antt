@@ -46,7 +46,7 @@ pub use Rattle.bplist_cert.specs.Sorted.{IsAccepted, IsSorted}
 pub use Rattle.bplist_cert.specs.Sound.{IsSound}
 pub use Rattle.bplist_cert.specs.Valid.{HoldsOneValue, IsValid, IsVouchedBy, SpellsText}
 pub use Rattle.bplist_cert.specs.Versions.{header_octets, is_keyed}
-pub use Rattle.bplist_cert.specs.Walks.{AreNamed, AreNamedNext}
+pub use Rattle.bplist_cert.specs.Walks.{AreNamed, AreNamedNext, AreStamped, HaveOwnNumbers, HaveStampedKeys, HaveStamps}
 pub use Rattle.bplist_cert.specs.declared.checker.Pass.TheVariants.{Exact, Quick}
 pub use Rattle.bplist_cert.specs.declared.certificate.CertRefusal.TheVariants.{Memory as CertMemory}
 pub use Rattle.bplist_cert.specs.declared.heights.Wanted.TheVariants.{VouchedBelow}

@@ -14,9 +14,9 @@ ghost use Rattle.bplist_cert.specs.Prelude.{AreNamed, AreNamedNext};
 use crate::certificate::Certificate;
 use crate::checked::Checked;
 use crate::heights::{Wanted, check_dict_refs, check_heights, check_refs};
+use crate::key_names::KeyNames;
 use crate::key_lists::{KeyFindings, VouchedPrefix, key_findings};
 use crate::refusal::Refusal;
-use bplist_keys::NamedKeys;
 use bplist_objects::{
     Extents, Fault, Frame, Framed, Head, Kind, ObjectFault, ObjectNo, Objects, Offsets, Rule,
     Visit, check_body, frame_of, head_in, read_offsets_in, refs_of, visit_in,
@@ -56,7 +56,7 @@ struct Walked {
     /// How many bytes the objects take.
     used: Extents,
     /// The objects that are named as keys, if they are to be collected. An exact walk collects none.
-    named: Option<NamedKeys>,
+    named: Option<KeyNames>,
 }
 
 /// Checks the references of vouched object `n`, of which there are some, and names the keys of a dictionary. The test of
@@ -67,7 +67,7 @@ fn check_children<P: Framed>(
     heights: &[u32],
     n: ObjectNo,
     head: &Head,
-    named: &mut Option<NamedKeys>,
+    named: &mut Option<KeyNames>,
 ) -> Result<(), ObjectFault>
     requires all { length heights.now ≡ (frame_in (P.means src.old)).objects }
     requires within { n.0 < (frame_in (P.means src.old)).objects }
@@ -94,7 +94,7 @@ fn check_rest<P: Framed>(
     heights: &[u32],
     at: Placed,
     head: &Head,
-    named: &mut Option<NamedKeys>,
+    named: &mut Option<KeyNames>,
 ) -> Result<(), ObjectFault>
     requires all { length heights.now ≡ (frame_in (P.means src.old)).objects }
     requires within { at.n.0 < (frame_in (P.means src.old)).objects }

@@ -3,9 +3,9 @@
 ghost use Rattle.std.specs.Prelude.{◌≡◌, ◌↔◌, ℕ, ◌+◌, ◌≤◌, ◌<◌, length, slice_index, IsTrue, IfOk, MatchOption};
 ghost use Rattle.bplist_cert.specs.Prelude.{OnlyReads, frame_in, HonestlyIn, IsSafeHead, ref_count, Gives, read_failed};
 ghost use Rattle.bplist_cert.specs.Prelude.{Meets, AreMet, AreMetBy, IsFirstUnmetBy, IsUnmetFault, rule_of};
-ghost use Rattle.bplist_cert.specs.Prelude.{AreLower, IsHeightFault, Dict, IsMarked, ref, VouchedBelow};
+ghost use Rattle.bplist_cert.specs.Prelude.{AreLower, IsHeightFault, Dict, IsMarked, ref, VouchedBelow, HaveStamps};
 
-use bplist_keys::NamedKeys;
+use crate::key_names::KeyNames;
 use bplist_objects::{
     Fault, Framed, Head, ObjectFault, ObjectNo, Rule, read_refs_in, ref_place, refs_of,
 };
@@ -122,16 +122,19 @@ pub(crate) fn check_dict_refs<P: Framed>(
     heights: &[u32],
     n: ObjectNo,
     head: &Head,
-    named: &mut NamedKeys,
+    names: &mut KeyNames,
 ) -> Result<(), ObjectFault>
+    requires within { n.0 < (frame_in (P.means src.old)).objects }
     requires head { IsSafeHead (frame_in (P.means src.old)) head.now }
     requires dict { head.now.kind ≡ Dict }
     ensures reads { OnlyReads (read_failed result) (P.means src.old) (P.means src.new) }
-    ensures all { length named.new.marks.items ≡ length named.old.marks.items }
-    ensures keeps { (m : ℕ) → IsMarked named.old.marks.items m → IsMarked named.new.marks.items m }
+    ensures all { length names.new.named.marks.items ≡ length names.old.named.marks.items }
+    ensures keeps { (m : ℕ) → IsMarked names.old.named.marks.items m → IsMarked names.new.named.marks.items m }
+    ensures stamps { IsTrue names.new.apart → IsTrue names.old.apart × ((x : ℕ) → 0 < slice_index names.old.last.items x → 0 < slice_index names.new.last.items x) }
     ensures exact { HonestlyIn (P.means src.old) (λ f F. IfOk result (λ _.
         AreMet f F heights.now head.now (VouchedBelow (slice_index heights.now n.0)) (ref_count head.now.kind head.now.count)
-        × ((k : ℕ) → k < head.now.count → ref f F head.now k < length named.old.marks.items → IsMarked named.new.marks.items (ref f F head.now k)))) }
+        × ((k : ℕ) → k < head.now.count → ref f F head.now k < length names.old.named.marks.items → IsMarked names.new.named.marks.items (ref f F head.now k)))) }
+    ensures apart { HonestlyIn (P.means src.old) (λ f F. IfOk result (λ _. IsTrue names.new.apart → HaveStamps f F head.now head.now.count names.new.last.items)) }
 {
     let _frame = src.frame();
     let wanted = Wanted::VouchedBelow(height_at(heights, n.0 as u64));
@@ -150,7 +153,7 @@ pub(crate) fn check_dict_refs<P: Framed>(
             }));
         }
         let keys = head.count.saturating_sub(seen).min(now);
-        named.insert_all(&block[..keys as usize]);
+        names.insert_all(n.0, &block[..keys as usize]);
         seen += now;
     }
     Ok(())

@@ -14,10 +14,10 @@ ghost use Rattle.bplist_cert.specs.Prelude.{AreKnown, AreListed, IsListed, HaveG
 use crate::caches::{LowBytesCache, OrderedPairsCache};
 use crate::certificate::KeyLists;
 use crate::heights::{block_of, height_at};
+use crate::key_names::KeyNames;
 use crate::key_order::order_fault;
 use crate::key_rules::{Dictionary, check_key_repeats, check_texts};
 use crate::refusal::Refusal;
-use bplist_keys::NamedKeys;
 use bplist_objects::{Framed, Kind, ObjectFault, ObjectNo, Offsets, object_shape, shape_in};
 use std::alloc::{AllocError, Global};
 
@@ -76,7 +76,7 @@ impl<'a> KeyListFindings<'a> {
 #[derive(Drop)]
 pub(crate) struct KeyFindings<'a> {
     /// For version 1: the objects that are named as keys, if they are to be collected.
-    pub named: Option<NamedKeys>,
+    pub named: Option<KeyNames>,
     /// For version 2: whether the key lists are good.
     pub lists: KeyListFindings<'a>,
 }
@@ -125,7 +125,7 @@ pub(crate) fn key_findings<'a, P: Framed>(
 {
     let objects = src.frame().objects;
     let named = match keys {
-        None => Some(NamedKeys::new(alloc, objects)?),
+        None => Some(KeyNames::new(alloc, objects)?),
         Some(_) => None,
     };
     Ok(KeyFindings {

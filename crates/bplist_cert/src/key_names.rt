@@ -1,19 +1,69 @@
 //! Collects the objects that vouched dictionaries name as keys.
 
-ghost use Rattle.std.specs.Prelude.{◌≡◌, ◌⊎◌, ◌+◌, ◌<◌, ◌≤◌, ℕ, None, IfOk, IfSome, OnOk, length};
+ghost use Rattle.std.specs.Prelude.{◌≡◌, ◌⊎◌, ◌+◌, ◌<◌, ◌≤◌, ℕ, None, IfOk, IfSome, IsTrue, OnOk, length, ◌^◌, ◌-◌, slice_index, replicate, false};
 ghost use Rattle.bplist_cert.specs.Prelude.{OnlyReads, Gives, Never, read_failed, off, frame_in, HonestlyIn, KeepsAll};
 ghost use Rattle.bplist_cert.specs.Prelude.{KeepsByObject, object_rules, HasNamedKeys, HaveNamedKeys, IsKeyOf};
 ghost use Rattle.bplist_cert.specs.Prelude.{IsVouchedKey, ArePlaces, IsMarked, IsVouchedBy, KeepBeforeKeysBelow};
-ghost use Rattle.bplist_cert.specs.Prelude.{Judges, refused_read};
+ghost use Rattle.bplist_cert.specs.Prelude.{Judges, refused_read, AreStamped};
 
 use crate::heights::block_of;
 use crate::refusal::Refusal;
 use bplist_keys::{NamedKeys, name_keys};
 use bplist_objects::{Framed, Kind, ObjectFault, ObjectNo, read_offsets_in, shape_in};
-use std::alloc::Global;
+use std::alloc::{AllocError, Global};
 
 /// The most entries of the offset table that are read at once.
 const BLOCK: usize = 512;
+
+/// Stamps the objects with these numbers. Returns true only if they are different objects, and none had this stamp.
+fn stamp_all(last: &mut [u32], stamp: u32, numbers: &[u64]) -> bool
+    ensures all { length last.new ≡ length last.old }
+    ensures apart { IsTrue result → AreStamped stamp numbers.now last.old last.new }
+{
+    for m in numbers {
+        if *m >= last.len() as u64 || last[*m as usize] == stamp {
+            return false;
+        }
+        last[*m as usize] = stamp;
+    }
+    true
+}
+
+/// The objects that are named as keys, and whether each dictionary names different ones.
+#[derive(Drop)]
+pub(crate) struct KeyNames {
+    pub named: NamedKeys,
+    /// For each object the last dictionary that names it: its number plus 1, or 0 for none.
+    pub last: Vec<u32>,
+    /// True only if no dictionary names an object twice.
+    pub apart: bool,
+}
+
+impl KeyNames {
+    /// Returns no names, for so many objects.
+    pub(crate) fn new(alloc: Global, objects: u32) -> Result<KeyNames, AllocError>
+        ensures { IfOk result (λ names. names.named.marks.items ≡ replicate objects false) }
+    {
+        Ok(KeyNames {
+            named: NamedKeys::new(alloc, objects)?,
+            last: vec![in alloc; 0u32; objects as usize]?,
+            apart: true,
+        })
+    }
+
+    /// Names keys of dictionary `n`.
+    pub(crate) fn insert_all(&mut self, n: u32, keys: &[u64])
+        requires { n < 2 ^ 32 - 1 }
+        ensures all { length self.new.named.marks.items ≡ length self.old.named.marks.items }
+        ensures keeps { (m : ℕ) → IsMarked self.old.named.marks.items m → IsMarked self.new.named.marks.items m }
+        ensures named { (k : ℕ) → k < length keys.now → slice_index keys.now k < length self.new.named.marks.items
+            → IsMarked self.new.named.marks.items (slice_index keys.now k) }
+        ensures apart { IsTrue self.new.apart → IsTrue self.old.apart × AreStamped (n + 1) keys.now self.old.last.items self.new.last.items }
+    {
+        self.named.insert_all(keys);
+        self.apart = self.apart && stamp_all(&mut self.last, n + 1, keys);
+    }
+}
 
 /// Names the keys of object `n`, which is at `place`, if it is a dictionary. Not inlined, so that the loop over leaves
 /// stays in registers.

@@ -6,12 +6,12 @@
 //! If a pair of file and certificate is accepted, the classes have decided both rules. [`check_texts`], which reads
 //! each key, runs only for pairs that are refused: after a fault of an earlier rule, of a class or of a key list.
 
-ghost use Rattle.std.specs.Prelude.{◌≡◌, ◌↔◌, IsTrue, ℕ, ◌+◌, ◌<◌, ◌^◌, length, slice_index, IfOk, IfSome, MatchOption};
+ghost use Rattle.std.specs.Prelude.{◌≡◌, ◌↔◌, IsTrue, ℕ, ◌+◌, ◌≤◌, ◌<◌, ◌^◌, length, slice_index, IfOk, IfSome, MatchOption};
 ghost use Rattle.std.specs.Prelude.{None};
 ghost use Rattle.std.specs.Result.{result_err};
 ghost use Rattle.bplist_cert.specs.Prelude.{OnlyReads, frame_in, HonestlyIn, IsSafeHead, Gives, read_failed, KeyKind};
 ghost use Rattle.bplist_cert.specs.Prelude.{Dict, Head as head_record, IsText, KeysAreTexts, IsKeylessFault, AreLowStretches};
-ghost use Rattle.bplist_cert.specs.Prelude.{FailsAt, HasHead, ref};
+ghost use Rattle.bplist_cert.specs.Prelude.{FailsAt, HasHead, ref, HaveOwnNumbers, HaveStampedKeys, AreNamed};
 ghost use Rattle.bplist_cert.specs.Prelude.{Head as head, HaveNamedKeys, AreClassed, IsStamped, IsNew};
 ghost use Rattle.bplist_cert.specs.Prelude.{lists, KeepBeforeKeysBelow, IsVouchedBy, HasGoodKeys};
 ghost use Rattle.bplist_cert.specs.Prelude.{HaveGoodKeys, BreaksKeys, IsFirstKeysFault, Judges, refused_read};
@@ -19,12 +19,12 @@ ghost use Rattle.bplist_cert.specs.Prelude.{HaveGoodKeys, BreaksKeys, IsFirstKey
 use crate::caches::LowBytesCache;
 use crate::heights::height_at;
 use crate::key_lists::VouchedPrefix;
-use crate::key_names::seen_keys;
+use crate::key_names::{KeyNames, seen_keys};
 use crate::refusal::Refusal;
-use bplist_keys::{ClassTable, KeyDefect, NamedKeys, classes_of, object_text};
+use bplist_keys::{ClassTable, KeyDefect, KeyNumbers, NamedKeys, classes_of, object_text};
 use bplist_objects::{Head, Kind, ObjectFault, ObjectNo, Offsets, RefBlocks, object_shape};
 use bplist_octets::ReadFault;
-use std::alloc::Global;
+use std::alloc::{AllocError, Global};
 
 /// All places are worth their memory if at least one object in this many is a key.
 const OBJECTS_FOR_A_KEY: u32 = 16;
@@ -153,22 +153,30 @@ fn check_dict_repeats<P: Offsets>(
 }
 
 /// Checks the keys of the vouched dictionaries seen so far. Their keys are already named, and the places of keys given.
+/// If each key has a class of its own, and no dictionary names an object twice, no dictionary need be read again.
 fn check_named<P: Offsets>(
     alloc: Global,
     src: &mut P,
     seen: &VouchedPrefix,
     named: NamedKeys,
+    last: Option<Vec<u32>>,
 ) -> Result<(), Refusal>
     requires all { length seen.now.heights.now ≡ (frame_in (P.means src.old)).objects }
     requires all_named { length named.marks.items ≡ (frame_in (P.means src.old)).objects }
     ensures reads { OnlyReads (refused_read result) (P.means src.old) (P.means src.new) }
     ensures exact { HonestlyIn (P.means src.old) (λ f F. KeepBeforeKeysBelow f F seen.now.heights.now seen.now.bound
         → HaveNamedKeys f F seen.now.heights.now seen.now.bound named.marks.items
+        → IfSome last (λ last. (F.objects ≤ seen.now.bound) × HaveStampedKeys f F seen.now.heights.now seen.now.bound last.items)
         → Judges (λ _. HaveGoodKeys f F seen.now.heights.now None seen.now.bound)
         (IsFirstKeysFault f F (lists seen.now.heights.now None) seen.now.bound) result) }
 {
     let _frame = src.frame();
     let classes = classes_of(alloc, src, named)?;
+    if let Some(last) = &last {
+        if are_own(alloc, last, &classes)? {
+            return Ok(());
+        }
+    }
     let mut look = KeyTables {
         table: ClassTable::new(alloc, classes)?,
         low: LowBytesCache::new(src.len()),
@@ -181,6 +189,42 @@ fn check_named<P: Offsets>(
     Ok(())
 }
 
+/// Whether each object with a stamp has a class, and no two of them have the same.
+fn are_own(alloc: Global, last: &[u32], classes: &KeyNumbers) -> Result<bool, AllocError>
+    ensures { IfOk result (λ own. IsTrue own → HaveOwnNumbers last.now classes.now.table.items (length last.now)) }
+{
+    let mut seen = vec![in alloc; false; classes.greatest as usize]?;
+    let numbers: &[u32] = &classes.table;
+    if numbers.len() != last.len() {
+        return Ok(false);
+    }
+    for m in 0..last.len() {
+        if last[m] > 0 {
+            let class = numbers[m] as usize;
+            if class == 0 || seen[class - 1] {
+                return Ok(false);
+            }
+            seen[class - 1] = true;
+        }
+    }
+    Ok(true)
+}
+
+/// Returns the marks, and the stamps if no objects are left to be seen and no dictionary names an object twice.
+fn parts_of(names: Option<KeyNames>, left: u32) -> (Option<NamedKeys>, Option<Vec<u32>>)
+    ensures named { IfSome result.0 (λ named. IfSome names (λ given. named ≡ given.named)) }
+    ensures none { names ≡ None → (result.0 ≡ None) × (result.1 ≡ None) }
+    ensures last { IfSome result.1 (λ last. (left ≡ 0) × IfSome names (λ given. (last.items ≡ given.last.items) × IsTrue given.apart)) }
+{
+    let Some(names) = names else {
+        return (None, None);
+    };
+    if left == 0 && names.apart {
+        return (Some(names.named), Some(names.last));
+    }
+    (Some(names.named), None)
+}
+
 /// Checks that the keys of the vouched dictionaries seen so far are texts that differ. The first units of each named
 /// text are read once for its class, and the text is read further only if another has the same fingerprint.
 ///
@@ -190,16 +234,17 @@ pub(crate) fn check_key_repeats<P: Offsets>(
     alloc: Global,
     src: &mut P,
     seen: &VouchedPrefix,
-    named: Option<NamedKeys>,
+    names: Option<KeyNames>,
 ) -> Result<(), Refusal>
     requires { length seen.now.heights.now ≡ (frame_in (P.means src.old)).objects }
     ensures reads { OnlyReads (refused_read result) (P.means src.old) (P.means src.new) }
     ensures exact { HonestlyIn (P.means src.old) (λ f F. KeepBeforeKeysBelow f F seen.now.heights.now seen.now.bound
-        → IfSome named (λ keys. HaveNamedKeys f F seen.now.heights.now seen.now.bound keys.marks.items)
+        → AreNamed f F seen.now.heights.now seen.now.bound names
         → Judges (λ _. HaveGoodKeys f F seen.now.heights.now None seen.now.bound)
         (IsFirstKeysFault f F (lists seen.now.heights.now None) seen.now.bound) result) }
 {
     let objects = src.frame().objects;
+    let (named, last) = parts_of(names, objects.saturating_sub(seen.bound));
     let named = seen_keys(alloc, src, seen.heights, seen.bound, named)?;
     let keys = named.count();
     if keys == 0 {
@@ -208,5 +253,5 @@ pub(crate) fn check_key_repeats<P: Offsets>(
     if keys >= (objects / OBJECTS_FOR_A_KEY) as usize {
         src.keep_places(alloc)?;
     }
-    check_named(alloc, src, seen, named)
+    check_named(alloc, src, seen, named, last)
 }

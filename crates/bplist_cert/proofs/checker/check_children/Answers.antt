@@ -10,7 +10,7 @@ use Rattle.bplist_objects.proofs.BodyLaws.{HasHead-unique, of_other_kind}
 use Rattle.bplist_keys.specs.Marks.{IsMarked}
 use Rattle.bplist_cert.specs.declared.heights.Wanted.TheVariants.{VouchedBelow}
 use Rattle.bplist_cert.specs.Heights.{IsUnmetFault}
-use Rattle.bplist_cert.specs.Walks.{AreNamedNext}
+use Rattle.bplist_cert.specs.Walks.{AreNamedNext, HaveStamps}
 use Rattle.bplist_cert.proofs.QuickLooks.{rest_by_heights, rest_and_more}
 use Rattle.bplist_cert.proofs.CheckSteps.{vouched_inside}
 use Rattle.bplist_cert.proofs.KeysLooks.{none_named, named_next}
@@ -25,18 +25,19 @@ returns-in-Some-clause-exact g c = λ honest has.
     let n = c.args.n.0 in
     let head = c.args.head.now in
     let some : ref_count head.kind head.count ≡ 0 → ⊥ = λ none. omega (arith, none, c.requires.some) in
-    let before = c.in-Some.keys.marks.items in
-    let after = c.check_dict_refs.new.named.marks.items in
+    let before = c.in-Some.keys in
+    let after = c.check_dict_refs.new.names in
     let two : ref_count head.kind head.count ≡ 2 * head.count = ap (λ x. ref_count x head.count) c.in-Dict.is in
     rw c.in-Some.is (rest_and_more m.octets F heights n head c.check_dict_refs.result has some c.requires.all
-    (λ met keys named.
-    let inside : (k : ℕ) → k < head.count → ref m.octets F head k < length before =
-    λ k low. omega (arith, vouched_inside heights F.objects (ref m.octets F head k) c.requires.all (met k (omega (arith, low, two))).0, named.0) in
-    named_next m.octets F heights n before after c.check_dict_refs.ensures.all c.check_dict_refs.ensures.keeps
-    (λ _ other h dict. subst (λ (x : Head). (k : ℕ) → k < x.count → IsMarked after (ref m.octets F x k)) (HasHead-unique m.octets F n head other has h)
+    (λ met keys stamps named.
+    let inside : (k : ℕ) → k < head.count → ref m.octets F head k < length before.named.marks.items =
+    λ k low. omega (arith, vouched_inside heights F.objects (ref m.octets F head k) c.requires.all (met k (omega (arith, low, two))).0, named.0.0) in
+    named_next m.octets F heights n before after c.check_dict_refs.ensures.all c.check_dict_refs.ensures.keeps c.check_dict_refs.ensures.stamps
+    (λ _ other h dict. subst (λ (x : Head). (k : ℕ) → k < x.count → IsMarked after.named.marks.items (ref m.octets F x k)) (HasHead-unique m.octets F n head other has h)
     (λ k low. keys k low (inside k low)))
+    (λ _ true other h dict. subst (λ (x : Head). HaveStamps m.octets F x x.count after.last.items) (HasHead-unique m.octets F n head other has h) (stamps true))
     named)
-    (c.check_dict_refs.ensures.exact honest))
+    (c.check_dict_refs.ensures.exact honest) (c.check_dict_refs.ensures.apart honest))
 
 pub returns-clause-exact : goal.returns-clause-exact
 returns-clause-exact g c = λ honest has.
@@ -50,6 +51,6 @@ returns-clause-exact g c = λ honest has.
     has some c.requires.all (c.check_refs.ensures.exact honest) in
     let names = elim c.match-head.branch as (λ _. AreNamedNext m.octets F heights n c.args.named.now c.args.named.now) [
       | in-Dict+in_default-named w ↦ rw w.in_default-named.is (λ h. tt)
-      | in_default w ↦ none_named m.octets F heights n (λ _ marks other h dict. absurd (of_other_kind m.octets F n head has Dict w.in_default.not-Dict other h dict)) c.args.named.now
+      | in_default w ↦ none_named m.octets F heights n (λ _ other h dict k low. of_other_kind m.octets F n head has Dict w.in_default.not-Dict other h dict) c.args.named.now
     ] in
     IfOk-weaker c.check_refs.result _ _ (λ _ kept. (kept, names)) rest

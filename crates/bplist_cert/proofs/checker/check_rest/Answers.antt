@@ -5,7 +5,7 @@ use Rattle.bplist_objects.specs.ObjectRules.{IsObjectFault, body_rules}
 use Rattle.bplist_objects.specs.Safe.{ref_count}
 use Rattle.bplist_objects.proofs.BodyLaws.{refs_fit}
 use Rattle.bplist_cert.proofs.QuickLooks.{rest_by_body}
-use Rattle.bplist_cert.proofs.KeysLooks.{no_refs_named, none_named}
+use Rattle.bplist_cert.proofs.KeysLooks.{no_refs_keys, none_named}
 use Rattle.bplist_cert.proofs.checker.check_rest.Goals as goal
 
 pub refs_of-requires : goal.refs_of-requires
@@ -17,7 +17,7 @@ pub returns-then-refs_of-eq0-clause-exact : goal.returns-then-refs_of-eq0-clause
 returns-then-refs_of-eq0-clause-exact g c = λ honest place has.
     let m = g.P.Source.means c.args.src.now in
     let none : ref_count c.args.head.now.kind c.args.head.now.count ≡ 0 = omega (arith, c.refs_of.ensures, c.if-refs_of-eq0.true) in
-    let names = none_named m.octets (frame_in m) c.args.heights.now c.args.«at».n.0 (λ _. no_refs_named m.octets (frame_in m) c.args.«at».n.0 c.args.head.now has none) c.args.named.now in
+    let names = none_named m.octets (frame_in m) c.args.heights.now c.args.«at».n.0 (λ _. no_refs_keys m.octets (frame_in m) c.args.«at».n.0 c.args.head.now has none) c.args.named.now in
     IfOk-weaker c.check_body.result _ _ (λ _ kept. (kept, names))
     (rest_by_body m.octets (frame_in m) c.args.heights.now c.args.«at».n.0 c.args.head.now (IsObjectFault m.octets (frame_in m) c.args.«at».n.0 body_rules) c.check_body.result
     none ((rw c.frame-frame.ensures.frame at c.check_body.ensures.exact) honest place has))

@@ -1,11 +1,12 @@
-use Rattle.std.proofs.Common.{◌≡◌, ◌+◌, ◌∙◌, length, subst, arith}
+use Rattle.std.proofs.Common.{◌≡◌, ◌+◌, ◌*◌, ◌∙◌, ap, inl, inr, length, subst, arith}
 use Rattle.std.proofs.lemmas.List.{length-take-le}
 use Rattle.bplist_objects.specs.declared.frame.Frame.{Frame}
 use Rattle.bplist_objects.specs.Framed.{frame_in}
+use Rattle.bplist_objects.specs.Safe.{ref_count}
 use Rattle.bplist_objects.proofs.BodyLaws.{refs_fit}
 use Rattle.bplist_cert.specs.declared.heights.Wanted.TheVariants.{VouchedBelow}
 use Rattle.bplist_cert.specs.Heights.{AreMet}
-use Rattle.bplist_cert.proofs.Blocks.{met_more, none_found, marked_more}
+use Rattle.bplist_cert.proofs.Blocks.{AreStampedKeys, met_more, none_found, marked_more, stamped_more}
 use Rattle.bplist_cert.proofs.heights.check_dict_refs.Goals as goal
 
 pub refs_of-refs-requires : goal.refs_of-refs-requires
@@ -35,9 +36,27 @@ loop-seen-preserved g c =
           (met_more f F c.args.heights.now head wanted c.loop-seen.seen refs next (v.met honest) (length refs) (omega arith) met);
       keys = λ honest k low lt inside.
           let next = (rw v.same at c.in_ok-read_refs_in.ensures.numbers) honest in
-          let kept : length c.insert_all.new.self.marks.items ≡ length c.args.named.now.marks.items = c.insert_all.ensures.all ∙ v.all in
-          marked_more f F head c.loop-seen.seen refs next (length c.args.named.now.marks.items) c.loop-seen.named.marks.items c.insert_all.new.self.marks.items
+          let kept : length c.insert_all.new.self.named.marks.items ≡ length c.args.names.now.named.marks.items = c.insert_all.ensures.all ∙ v.all in
+          marked_more f F head c.loop-seen.seen refs next (length c.args.names.now.named.marks.items) c.loop-seen.names.named.marks.items c.insert_all.new.self.named.marks.items
           c.insert_all.ensures.keeps (v.keys honest) c.min-keys.result (λ j few short. omega (arith, few, short, all, c.min-keys.ensures, c.saturating_sub.ensures)) (omega (arith, all, c.min-keys.ensures))
           (λ j short below. c.insert_all.ensures.named j short (omega (arith, below, kept)))
           k low (omega (arith, lt, all)) inside;
+      stamps = λ apart.
+          let now = c.insert_all.ensures.apart apart in
+          let before = v.stamps now.0 in
+          (before.0, λ x some. elim (now.1.2 x) [ inl e ↦ let l = before.1 x some in omega (arith, e, l) | inr e ↦ omega (arith, e) ]);
+      apart = λ honest apart.
+          let next = (rw v.same at c.in_ok-read_refs_in.ensures.numbers) honest in
+          let now = c.insert_all.ensures.apart apart in
+          subst (λ k. AreStampedKeys f F head (c.loop-seen.seen + k) (c.args.n.0 + 1) c.insert_all.new.self.last.items) all
+          (stamped_more f F head c.loop-seen.seen refs next (c.args.n.0 + 1) c.loop-seen.names.last.items c.insert_all.new.self.last.items c.min-keys.result
+          (λ j few short. omega (arith, few, short, all, c.min-keys.ensures, c.saturating_sub.ensures)) (omega (arith, all, c.min-keys.ensures)) now.1 (v.apart honest now.0));
     }
+
+pub returns-clause-apart : goal.returns-clause-apart
+returns-clause-apart g c = λ honest apart.
+    let two : ref_count c.args.head.now.kind c.args.head.now.count ≡ 2 * c.args.head.now.count = ap (λ x. ref_count x c.args.head.now.count) c.requires.dict in
+    let all = c.loop-seen.invariant.apart honest apart in (
+      λ k low. let e = all.0 k low (omega (arith, low, two, c.refs_of-refs.ensures, c.loop-seen-test.false)) in omega (arith, e),
+      λ j k less low. all.1 j k less low (omega (arith, low, two, c.refs_of-refs.ensures, c.loop-seen-test.false)),
+    )

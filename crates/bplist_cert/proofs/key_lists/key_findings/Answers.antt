@@ -13,6 +13,6 @@ returns-clause-none g c = λ honest heights.
     elim c.match-keys.branch [
       | in-None+in_ok-new-in-None w ↦
           let all = ap length w.in_ok-new-in-None.ensures ∙ length-replicate {A = Bool} c.frame-objects.result.objects false ∙ ap (λ (x : Frame). x.objects) c.frame-objects.ensures.frame in
-          rw (w.in-None.is, w.named-is) (all, λ n low. absurd (omega (arith, low)))
+          rw (w.in-None.is, w.named-is) ((all, λ n low. absurd (omega (arith, low))), λ true n low. absurd (omega (arith, low)))
       | in-Some w ↦ rw w.in-Some.is (none_listed f F heights _ _ (c.new-2.ensures f F))
     ]
