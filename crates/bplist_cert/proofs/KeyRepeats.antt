@@ -176,6 +176,6 @@ good_stamped f F heights framed seen named classes last are own n within vouched
           own.1 (ref f F head j) (ref f F head i) under (inside i (omega (arith, less, low))) (stamps.0 j low) (stamps.0 i (omega (arith, less, low))) (sym same)
     ] in (
       classed_texts f F head classes classed framed (sound_keys f F heights seen n within vouched head has dict)
-      (keys_inside f F n (seen_own f F heights n (seen n within vouched)) head has dict) head.count (omega arith) some,
+          (keys_inside f F n (seen_own f F heights n (seen n within vouched)) head has dict) head.count (omega arith) some,
       apart_differ f F head classes classed head.count (omega arith) apart,
     )

@@ -58,10 +58,13 @@ module _ (f : List ℕ) (F : Frame) (heights : List ℕ) (n : ℕ) where
       → (IsVouchedBy heights n → IsTrue after.apart → (head : Head) → HasHead f F n head → head.kind ≡ Dict → HaveStamps f F head head.count after.last.items)
       → AreNamed f F heights n (Some before) → AreNamed f F heights (suc n) (Some after)
   named_next before after all keeps stamps here stamped (named, apart) = (
-    (all ∙ named.0, λ m low vouched. elim (cases_eq m n) [
-      | inl e ↦ subst (HasNamedKeys f F after.named.marks.items) (sym e) (here (subst (IsVouchedBy heights) e vouched))
-      | inr d ↦ λ head has dict k l. keeps _ (named.1 m (omega (arith, low, d)) vouched head has dict k l)
-    ]),
+    (
+      all ∙ named.0,
+      λ m low vouched. elim (cases_eq m n) [
+        | inl e ↦ subst (HasNamedKeys f F after.named.marks.items) (sym e) (here (subst (IsVouchedBy heights) e vouched))
+        | inr d ↦ λ head has dict k l. keeps _ (named.1 m (omega (arith, low, d)) vouched head has dict k l)
+      ],
+    ),
     λ true m low vouched. elim (cases_eq m n) [
       | inl e ↦ subst (λ x. (head : Head) → HasHead f F x head → head.kind ≡ Dict → HaveStamps f F head head.count after.last.items) (sym e)
           (stamped (subst (IsVouchedBy heights) e vouched) true)

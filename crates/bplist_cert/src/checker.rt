@@ -14,8 +14,8 @@ ghost use Rattle.bplist_cert.specs.Prelude.{AreNamed, AreNamedNext};
 use crate::certificate::Certificate;
 use crate::checked::Checked;
 use crate::heights::{Wanted, check_dict_refs, check_heights, check_refs};
-use crate::key_names::KeyNames;
 use crate::key_lists::{KeyFindings, VouchedPrefix, key_findings};
+use crate::key_names::KeyNames;
 use crate::refusal::Refusal;
 use bplist_objects::{
     Extents, Fault, Frame, Framed, Head, Kind, ObjectFault, ObjectNo, Objects, Offsets, Rule,

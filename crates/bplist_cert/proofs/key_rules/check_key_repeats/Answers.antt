@@ -32,7 +32,7 @@ returns-clause-exact g c = λ honest seen given.
     let objects : c.frame-objects.result.objects ≡ F.objects = ap (λ (x : Frame). x.objects) c.frame-objects.ensures.frame in
     let marks = marks_named m.octets F heights bound c.args.names c.parts_of-named.result.0 c.parts_of-named.ensures.named (λ none. (c.parts_of-named.ensures.none none).0) given in
     let stamps = stamps_named m.octets F heights bound (λ last. last.items) c.saturating_sub.result c.args.names c.parts_of-named.result.1 c.parts_of-named.ensures.last (λ none. (c.parts_of-named.ensures.none none).1)
-        (λ none. omega (arith, none, objects, c.saturating_sub.ensures)) given in
+    (λ none. omega (arith, none, objects, c.saturating_sub.ensures)) given in
     let same : g.P.Source.means c.if-keys-objects.src ≡ g.P.Source.means c.args.src.now =
     elim c.if-keys-objects.branch [
       | then-keys-objects+in_ok-keep_places w ↦ rw w.src-is (w.in_ok-keep_places.ensures.reads ∙ c.in_ok-named.ensures.reads)
