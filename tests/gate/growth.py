@@ -12,6 +12,7 @@ A call may ask for at most `EACH` bytes for each byte of the file and `BESIDE` b
 allows more. At 256 kB a call may ask for at most `TIMES` times as many as at 64 kB, or as `FREE` for each byte of the smaller
 file. If the file is more than four times as long, because its numbers have more bytes, that limit grows with it. A command may
 read at most `EACH` bytes for each byte of a file of 1 MB. The limits of `EACH` also hold for the files of both tables of runs.
+On a usual file the limits are those of the quick ways alone (`USUAL_EACH`), which read no dictionary again.
 
 One call on one family, or on all files of the tables, counts as one test. The calls of `KNOWN` grow faster today: they are
 named and not counted. The last line is `N passed, M failed`.
@@ -19,6 +20,7 @@ named and not counted. The last line is `N passed, M failed`.
 import concurrent.futures
 import os
 import pathlib
+import plistlib
 import subprocess
 import sys
 import tempfile
@@ -69,6 +71,10 @@ FREE = 4
 KNOWN = {
     "keys_over_regions": ["check FILE, version 1", "check FILE, version 2"],
 }
+
+# Many small dictionaries. If a quick way gave up, each would be read once more.
+USUAL = plistlib.dumps([{"key": k % 50} for k in range(15000)], fmt=plistlib.FMT_BINARY)
+USUAL_EACH = {"lint": 1.65, "check-1": 1.4, "upgrade": 1.3, "check-2": 1.75}
 
 
 def asked(program, file):
@@ -167,14 +173,21 @@ def report(name, wrong):
     return passed, failed
 
 
+def wrong_of_usual(calls):
+    """What is wrong with each call on the usual file, or None."""
+    most = {call: int(each * len(USUAL)) for call, each in USUAL_EACH.items()}
+    counts = asked(calls, USUAL)
+    return {call: f"{counts[call]:,} bytes, above {most[call]:,}" if counts[call] > most[call] else None for call in most}
+
+
 def main():
     if len(sys.argv) != 3:
         sys.exit(__doc__)
     calls, program = map(os.path.abspath, sys.argv[1:])
     families = [*FAMILIES, *REFUSED_PAIRS]
     with concurrent.futures.ThreadPoolExecutor(len(os.sched_getaffinity(0))) as pool:
-        wrongs = [*pool.map(lambda family: wrong_of_family(calls, program, family), families), wrong_of_tables(calls, pool)]
-    names = [family.__name__ for family in families] + ["the tables of runs"]
+        wrongs = [*pool.map(lambda family: wrong_of_family(calls, program, family), families), wrong_of_tables(calls, pool), wrong_of_usual(calls)]
+    names = [family.__name__ for family in families] + ["the tables of runs", "a usual file"]
     reports = [report(name, wrong) for name, wrong in zip(names, wrongs)]
     passed, failed = (sum(column) for column in zip(*reports))
     print(f"{passed} passed, {failed} failed")
