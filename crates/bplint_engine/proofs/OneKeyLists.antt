@@ -1,10 +1,9 @@
 -- The key lists of a certificate of least heights are unique.
 use Rattle.std.proofs.Common.{◌≡◌, ℕ, zero, suc, ◌+◌, ◌-◌, ◌<◌, ◌≤◌, List, [], ◌∷◌, slice_index, slice_index_or, length, inl, inr, cond, map, Less, Option, Some, None, is_some, unwrap_or, refl, sym, ap, ◌∙◌, subst, arith}
-use Rattle.std.specs.List.{AllZip, range_with_len}
+use Rattle.std.specs.List.{AllZip}
 use Rattle.std.proofs.lemmas.Bool.{cases_lt, cases_order}
 use Rattle.std.proofs.lemmas.List.{ext_get_or}
 use Rattle.std.proofs.lemmas.List.Elements.{All-get_or, All-from_recursion}
-use Rattle.std.proofs.lemmas.List.FromFn.{get_or-map-range_with_len}
 use Rattle.bplist_octets.specs.Octets.{part}
 use Rattle.bplist_objects.specs.declared.frame.Frame.{Frame}
 use Rattle.bplist_objects.specs.Heads.{Content, Spells}
@@ -16,8 +15,8 @@ use Rattle.bplist_cert.specs.Lists.{Lists, lists}
 use Rattle.bplist_cert.specs.Sorted.{IsSorted, IsAccepted}
 use Rattle.bplist_cert.specs.Valid.{IsVouchedBy, SpellsText, IsValid}
 use Rattle.bplist_cert.proofs.AllNumbers.{onto}
-use Rattle.bplist_lint.specs.Upgraded.{pairs, pairs_below, together, IsUpgraded}
-use Rattle.bplist_lint.proofs.ListSteps.{pairs_given, pairs_one}
+use Rattle.bplist_lint.specs.Upgraded.{pairs, pairs_below, IsUpgraded}
+use Rattle.bplist_lint.proofs.ListSteps.{pairs_given, pairs_there}
 use Rattle.bplist_lint.proofs.RangeSums.{found_next}
 
 -- ---- positions whose units ascend
@@ -171,19 +170,27 @@ module _ (f : List ℕ) (F : Frame) (heights : List ℕ) where
     accepted_lists : IsAccepted f F (lists heights (Some u.keyed))
     accepted_lists = subst (IsAccepted f F) u.is u.accepted
 
-    numbers_are : u.many ≡ pairs f F heights
-    numbers_are = λ i n. pairs_one f F heights accepted_lists.valid u.many u.are n i
+    -- each list begins after those before it, as the pairs say
+    start_by : (n : ℕ) → n < F.objects → (slice_index u.keyed.starts n ≡ cond (is_some (pairs f F heights n)) (u.before n) 0) × (u.before (suc n) ≡ u.before n + many_of n)
+    start_by n low = go (pairs f F heights n) refl
+      where
+        go : (found : Option ℕ) → pairs f F heights n ≡ found → (slice_index u.keyed.starts n ≡ cond (is_some (pairs f F heights n)) (u.before n) 0) × (u.before (suc n) ≡ u.before n + many_of n)
+        go None e =
+            let other = u.other n low (λ k has. absurd (cc (e, pairs_there f F heights n k has))) in
+            (other.0 ∙ ap (λ o. cond (is_some o) (u.before n) 0) (sym e), omega (arith, other.1, ap (λ o. unwrap_or o 0) e))
+        go (Some k) e =
+            let dict = u.dict n k low (pairs_given f F heights accepted_lists.valid n k e) in
+            (dict.0 ∙ ap (λ o. cond (is_some o) (u.before n) 0) (sym e), omega (arith, dict.1, ap (λ o. unwrap_or o 0) e))
 
-    starts_are : u.keyed.starts ≡ map (λ n. cond (is_some (pairs f F heights n)) (pairs_below f F heights n) 0) (range_with_len 0 F.objects)
-    starts_are = u.starts ∙ ap (λ many. map (λ n. cond (is_some (many n)) (together many n) 0) (range_with_len 0 F.objects)) numbers_are
+    before_is : (n : ℕ) → n ≤ F.objects → u.before n ≡ pairs_below f F heights n
+    before_is zero low = u.none
+    before_is (suc n) low = omega (arith, (start_by n (omega (arith, low))).1, before_is n (omega (arith, low)), found_next (pairs f F heights) n)
 
     total_is : length u.keyed.positions ≡ pairs_below f F heights F.objects
-    total_is = u.total ∙ ap (λ many. together many F.objects) numbers_are
+    total_is = u.total ∙ before_is F.objects (omega arith)
 
     start_of : (n : ℕ) → n < F.objects → slice_index u.keyed.starts n ≡ cond (is_some (pairs f F heights n)) (pairs_below f F heights n) 0
-    start_of n low =
-        ap (λ xs. slice_index xs n) starts_are
-        ∙ get_or-map-range_with_len (λ m. cond (is_some (pairs f F heights m)) (pairs_below f F heights m) 0) 0 F.objects n n 0 low (omega arith)
+    start_of n low = (start_by n low).0 ∙ ap (λ b. cond (is_some (pairs f F heights n)) b 0) (before_is n (omega (arith, low)))
 
     -- the key list of a dictionary
     list_there : (n : ℕ) → n < F.objects → (x : IsListedDict n) → IsSorted f F x.ks (part u.keyed.positions (pairs_below f F heights n) (length x.ks))
@@ -208,7 +215,8 @@ module _ (f : List ℕ) (F : Frame) (heights : List ℕ) where
     -- the certificate with key lists is unique
     pub one_upgraded : c ≡ d
     one_upgraded =
-        let starts : u.keyed.starts ≡ w.keyed.starts = starts_are c u ∙ sym (starts_are d w) in
+        let starts : u.keyed.starts ≡ w.keyed.starts =
+        ext_get_or 0 u.keyed.starts w.keyed.starts (u.all ∙ sym w.all) (λ n low. let within : n < F.objects = omega (arith, low, u.all) in start_of c u n within ∙ sym (start_of d w n within)) in
         let positions : u.keyed.positions ≡ w.keyed.positions =
         ext_get_or 0 u.keyed.positions w.keyed.positions (total_is c u ∙ sym (total_is d w)) (λ p low. same_position p (omega (arith, low, total_is c u))) in
         let keyed : u.keyed ≡ w.keyed = λ i. record { starts = starts i; positions = positions i } in

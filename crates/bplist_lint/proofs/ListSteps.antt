@@ -98,14 +98,13 @@ module _ (f : List ℕ) (F : Frame) (heights : List ℕ) where
           let dict : o.content ≡ content_of f F kinds.Dict shape.count shape.body = o.spells.means ∙ ap (λ kind. content_of f F kind shape.count shape.body) is.0 in
           (v, (nums_at f shape.body F.ref_size shape.count, nums_at f (shape.body + shape.count * F.ref_size) F.ref_size shape.count, subst (Spells f F n) dict o.spells, length-nums_at f shape.body F.ref_size shape.count ∙ is.1))
 
-  -- there are no other pairs
-  pub pairs_one : IsValid f F heights → (many : ℕ → Option ℕ) → ((n k : ℕ) → (many n ≡ Some k) ↔ HasPairs f F heights n k) → (n : ℕ) → many n ≡ pairs f F heights n
-  pairs_one valid many are n = go (many n) (pairs f F heights n) refl refl
+  -- without pairs none are found
+  pub no_pairs : IsValid f F heights → (n : ℕ) → ((k : ℕ) → HasPairs f F heights n k → ⊥) → pairs f F heights n ≡ None
+  no_pairs valid n none = go (pairs f F heights n) refl
     where
-      go : (a b : Option ℕ) → many n ≡ a → pairs f F heights n ≡ b → many n ≡ pairs f F heights n
-      go (Some k) b e e' = e ∙ sym (pairs_there n k ((are n k).0 e))
-      go None (Some k) e e' = (are n k).1 (pairs_given valid n k e') ∙ sym e'
-      go None None e e' = e ∙ sym e'
+      go : (found : Option ℕ) → pairs f F heights n ≡ found → pairs f F heights n ≡ None
+      go None e = e
+      go (Some k) e = absurd (none k (pairs_given valid n k e))
 
 module _ (f : List ℕ) (F : Frame) (heights : List ℕ) where
   pairs_next : (n : ℕ) → pairs_below f F heights (suc n) ≡ pairs_below f F heights n + unwrap_or (pairs f F heights n) 0
@@ -230,9 +229,15 @@ module _ (f : List ℕ) (F : Frame) (heights : List ℕ) where
     upgraded = record {
       keyed = keyed;
       is = refl;
-      many = pairs f F heights;
-      are = λ n k. (pairs_given f F heights valid n k, pairs_there f F heights n k);
-      starts = fill_by_all (λ n. cond (is_some (pairs f F heights n)) (pairs_below f F heights n) 0) keyed.starts F.objects 0 count l.begins;
+      all = count;
+      before = pairs_below f F heights;
+      none = refl;
+      dict = λ n k low has.
+          let is = pairs_there f F heights n k has in
+          (l.begins n low ∙ ap (λ o. cond (is_some o) (pairs_below f F heights n) 0) is, pairs_next n ∙ ap (λ o. pairs_below f F heights n + unwrap_or o 0) is);
+      other = λ n low no.
+          let is = no_pairs f F heights valid n no in
+          (l.begins n low ∙ ap (λ o. cond (is_some o) (pairs_below f F heights n) 0) is, omega (arith, pairs_next n, ap (λ o. unwrap_or o 0) is));
       total = l.total;
       accepted = accepted f F (record { heights = heights; keys = Some keyed }) (record {
         framed = valid.frame;

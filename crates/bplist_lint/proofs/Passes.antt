@@ -63,12 +63,7 @@ pub lints_mean : {X : Type 0} (S P : X → Type 0) (Q U : Fault → Type 0) (R T
 lints_mean S P Q U R T (Ok x) answers faults circles h = answers x h
 lints_mean S P Q U R T (Err e) answers faults circles h = refusal_means Q U R T e faults circles h
 
--- if no rule is broken, a claim about the circle is one about the file, by what the source means
-pub circle_passed : (m n : Meaning) → m ≡ n → (e : LintRefusal) → (IsTrue m.honest → Refuses Never (IsFileCircle m.octets) e)
-    → IsTrue n.honest → Refuses (IsFileFault n.octets) (IsFileCircle n.octets) e
-circle_passed m n same e told = subst (λ (k : Meaning). IsTrue k.honest → Refuses (IsFileFault k.octets) (IsFileCircle k.octets) e) same (λ honest.
-    refusal_means Never (IsFileFault m.octets) (IsFileCircle m.octets) (IsFileCircle m.octets) e (λ fault h. absurd h) (λ circle h. h) (told honest))
-
+-- what is claimed of a refusal, by what the source means
 pub fault_passed : (m n : Meaning) → m ≡ n → (e : LintRefusal) → (IsTrue m.honest → Refuses (IsFileFault m.octets) (IsFileCircle m.octets) e)
     → IsTrue n.honest → Refuses (IsFileFault n.octets) (IsFileCircle n.octets) e
 fault_passed m n same e told = subst (λ (k : Meaning). IsTrue k.honest → Refuses (IsFileFault k.octets) (IsFileCircle k.octets) e) same told

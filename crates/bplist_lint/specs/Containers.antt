@@ -2,11 +2,13 @@
 use Rattle.std.specs.Prelude.{◌≡◌, ℕ, ◌+◌, ◌<◌, Bool, List, length, map, slice_index, None}
 use Rattle.bplist_objects.specs.declared.frame.Frame.{Frame}
 use Rattle.bplist_objects.specs.Reach.{Reach}
+use Rattle.bplist_objects.specs.Spelled.{refs_at}
 use Rattle.bplist_keys.specs.Marks.{IsMarked}
 use Rattle.bplist_keys.specs.Ranks.{AreClasses}
 use Rattle.bplist_cert.specs.KeyRepeats.{HasGoodKeys}
+use Rattle.bplist_cert.specs.Valid.{IsVouchedBy}
 use Rattle.bplist_lint.specs.declared.graph.View.TheVariants as views
-use Rattle.bplist_lint.specs.Graph.{Least, greatest}
+use Rattle.bplist_lint.specs.Graph.{AreLeast, Least, greatest}
 use Rattle.bplist_lint.specs.ReachWalk.{AreNamed, IsWalked}
 use Rattle.bplist_lint.specs.ReferenceGraph.{refs_in}
 use Rattle.bplist_lint.specs.declared.walk.Reached.{Reached}
@@ -33,3 +35,7 @@ pub record IsNumbered (f : List ℕ) (F : Frame) (reached : Reached) (numbers : 
   pub named : List Bool
   pub all : AreNamed f F named
   pub classes : AreClasses f F named numbers
+
+-- these are least heights of the objects, and the top has one
+abbrev pub AreFound : List ℕ → Frame → List ℕ → Type 0
+AreFound f F heights = AreLeast (refs_at f F) F.top.0 heights × IsVouchedBy heights F.top.0

@@ -1,10 +1,11 @@
 -- The states, heights and stack of the walk that finds the least heights, and what is true of them throughout.
 -- Source: profile.
-use Rattle.std.specs.Prelude.{◌≡◌, ◌≢◌, ◌⊎◌, ℕ, suc, ◌<◌, ◌≤◌, Bool, true, false, List, length, map, slice_index_or, slice_index, count_by, Contains, ⊤}
+use Rattle.std.specs.Prelude.{◌≡◌, ◌≢◌, ◌⊎◌, ℕ, suc, ◌<◌, ◌≤◌, Bool, true, false, List, [], length, map, slice_index_or, slice_index, count_by, vec_len, Contains, ⊤}
 use Rattle.bplist_lint.specs.Graph.{Graph, IsWhole, Ends, Least, greatest}
 use Rattle.bplist_keys.specs.Marks.{IsMarked}
 use Rattle.bplist_lint.specs.ReachSearch.{HasMarks}
 use Rattle.bplist_lint.specs.ReachWalk.{AreApart}
+use Rattle.bplist_lint.specs.declared.heights.HeightWalk.{HeightWalk}
 use Rattle.bplist_lint.specs.declared.heights.State.{State}
 use Rattle.bplist_lint.specs.declared.heights.State.TheVariants.{New, Open, Founded, Circular}
 use Rattle.bplist_lint.specs.declared.heights.ScanResult.{ScanResult}
@@ -34,6 +35,16 @@ pub record Standing (size : ℕ) (states : List State) (heights stack : List ℕ
   pub low : (n : ℕ) → state_at states n ≡ Founded → slice_index heights n ≤ count_by is_founded states
   pub known : (n : ℕ) → 0 < slice_index heights n → (state_at states n ≡ Founded) ⊎ (state_at states n ≡ Open)
 
+-- no object is open: so it is between two searches
+pub record Rests (size : ℕ) (walk : HeightWalk) : Type 0 where
+  pub empty : vec_len walk.stack ≡ 0
+  pub standing : Standing size walk.states.items walk.heights.items []
+
+-- the walk knows more than before, and something about object n
+pub record Settles (n : ℕ) (before after : HeightWalk) : Type 0 where
+  pub sees : state_at after.states.items n ≢ New
+  pub keeps : (m : ℕ) → state_at before.states.items m ≢ New → state_at after.states.items m ≢ New
+
 -- what states, heights and stack say about the references
 pub record IsHeightWalk (refs : ℕ → List ℕ) (marks : List Bool) (states : List State) (heights stack : List ℕ) : Type 0 where
   pub marked : (n : ℕ) → state_at states n ≢ New → IsMarked marks n
@@ -61,6 +72,10 @@ Shows references states heights from (looks.Founded best) = from ≡ 0
 -- each marked object has all references that it announces, and these are marked
 abbrev pub AreClosed : Graph → List Bool → Type 0
 AreClosed graph marks = (n : ℕ) → IsMarked marks n → IsWhole graph n × HasMarks marks (graph.refs n)
+
+-- what the walk says about the references while no object is open
+abbrev pub Walks : (ℕ → List ℕ) → List Bool → HeightWalk → Type 0
+Walks refs marks walk = IsHeightWalk refs marks walk.states.items walk.heights.items []
 
 -- the least heights of the objects that are marked and founded, and 0 for all others
 pub record AreLeastOf (refs : ℕ → List ℕ) (marks : List Bool) (heights : List ℕ) : Type 0 where

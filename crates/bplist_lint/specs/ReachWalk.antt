@@ -1,5 +1,5 @@
 -- The one walk over the reached objects: what it knows between two visits, and at its end. Source: profile.
-use Rattle.std.specs.Prelude.{◌≡◌, ◌≢◌, ◌⊎◌, ◌↔◌, ℕ, ◌-◌, ◌<◌, ◌≤◌, Bool, All, List, length, slice_index, vec_len, Contains, Option, Some, None, Result, Ok, Err, sum_by, filter}
+use Rattle.std.specs.Prelude.{◌≡◌, ◌≢◌, ◌⊎◌, ◌↔◌, ℕ, ◌+◌, ◌-◌, ◌<◌, ◌≤◌, Bool, not, count_by, All, List, length, slice_index, vec_len, Contains, Option, Some, None, Result, Ok, Err, sum_by, filter}
 use Rattle.std.specs.List.{range_with_len}
 use Rattle.bplist_octets.specs.declared.source.ReadFault.{ReadFault}
 use Rattle.bplist_objects.specs.declared.fault.ObjectFault.{ObjectFault}
@@ -15,6 +15,7 @@ use Rattle.bplist_objects.specs.Rules.{KeepsAll}
 use Rattle.bplist_objects.specs.Spelled.{refs_at}
 use Rattle.bplist_keys.specs.Classes.{HasNamedKeys}
 use Rattle.bplist_keys.specs.Marks.{IsMarked}
+use Rattle.bplist_keys.specs.declared.named_keys.NamedKeys.{NamedKeys}
 use Rattle.bplist_lint.specs.declared.tally.Tally.{Tally}
 use Rattle.bplist_lint.specs.declared.walk.Stop.{Stop}
 use Rattle.bplist_lint.specs.declared.walk.Stop.TheVariants as stops
@@ -75,6 +76,21 @@ pub record Noted (references : List ℕ) (next i : ℕ) (marks : List Bool) (sta
   pub waiting : (m : ℕ) → Contains stack' m → Contains stack m ⊎ (IsMarked marks' m × (IsMarked marks m → ⊥) × (m < next))
   pub apart : ((m : ℕ) → Contains stack m → IsMarked marks m) → AreApart stack → AreApart stack'
   pub all : (k : ℕ) → k < i → IsMarked marks' (slice_index references k)
+
+-- after a visit or a part of one, the walk is at the same object, and has no more work before it
+pub record Worked (before after : Worklist) : Type 0 where
+  pub current : after.current ≡ before.current
+  pub work : count_by not after.marks.items + vec_len after.stack ≤ count_by not before.marks.items + vec_len before.stack
+
+-- the first i of these references are noted in the worklist
+abbrev pub NotedIn : List ℕ → ℕ → Worklist → Worklist → Type 0
+NotedIn references i before after =
+    Noted references (before.current + 1) i before.marks.items before.stack.items after.marks.items after.stack.items
+
+-- each object has a mark still, and no key lost its mark
+pub record KeepsNames (size : ℕ) (before after : NamedKeys) : Type 0 where
+  pub all : length after.marks.items ≡ size
+  pub keeps : (m : ℕ) → IsMarked before.marks.items m → IsMarked after.marks.items m
 
 -- the bytes that an object at this place takes, by its head
 abbrev pub extent_by : ℕ → Option Head → ℕ

@@ -1,5 +1,5 @@
 -- The key lists of vouched dictionaries, one after the other. Source: profile.
-use Rattle.std.specs.Prelude.{◌≡◌, ◌↔◌, ℕ, ◌<◌, ◌≤◌, nat_lt, cond, List, length, slice_index, Option, Some, None, is_some, map, sum, filter_map}
+use Rattle.std.specs.Prelude.{◌≡◌, ℕ, suc, ◌+◌, ◌<◌, ◌≤◌, nat_lt, cond, List, length, slice_index, Option, Some, None, is_some, sum, filter_map}
 use Rattle.std.specs.List.{range_with_len}
 use Rattle.std.specs.Option.{option_and_then}
 use Rattle.bplist_objects.specs.declared.frame.Frame.{Frame}
@@ -17,10 +17,6 @@ use Rattle.bplist_cert.specs.CheckRules.{HasOrder}
 use Rattle.bplist_lint.specs.declared.answer.Lint.{Lint}
 use Rattle.bplist_lint.specs.Linted.{IsLintedBy}
 
--- the sum of the numbers of the objects below n that have one
-abbrev pub together : (ℕ → Option ℕ) → ℕ → ℕ
-together many n = sum (filter_map many (range_with_len 0 n))
-
 module _ (f : List ℕ) (F : Frame) (heights : List ℕ) where
   -- the number of positions in the key list of object n, computed: the count of its head, if it is a vouched dictionary
   abbrev pub pairs : ℕ → Option ℕ
@@ -29,7 +25,7 @@ module _ (f : List ℕ) (F : Frame) (heights : List ℕ) where
 
   -- the number of positions in the key lists of the objects below n together
   abbrev pub pairs_below : ℕ → ℕ
-  pairs_below n = together pairs n
+  pairs_below n = sum (filter_map pairs (range_with_len 0 n))
 
   -- the vouched dictionaries before n have their key lists
   pub record Listed (n : ℕ) (starts positions : List ℕ) : Type 0 where
@@ -51,10 +47,15 @@ module _ (f : List ℕ) (F : Frame) (heights : List ℕ) where
   pub record IsUpgraded (certificate : Lists) : Type 0 where
     pub keyed : Keyed
     pub is : certificate ≡ lists heights (Some keyed)
-    pub many : ℕ → Option ℕ
-    pub are : (n count : ℕ) → (many n ≡ Some count) ↔ HasPairs n count
-    pub starts : keyed.starts ≡ map (λ n. cond (is_some (many n)) (together many n) 0) (range_with_len 0 F.objects)
-    pub total : length keyed.positions ≡ together many F.objects
+    pub all : length keyed.starts ≡ F.objects
+    -- how many positions come before the key list of object n
+    pub before : ℕ → ℕ
+    pub none : before 0 ≡ 0
+    pub dict : (n count : ℕ) → n < F.objects → HasPairs n count
+        → (slice_index keyed.starts n ≡ before n) × (before (suc n) ≡ before n + count)
+    pub other : (n : ℕ) → n < F.objects → ((count : ℕ) → HasPairs n count → ⊥)
+        → (slice_index keyed.starts n ≡ 0) × (before (suc n) ≡ before n)
+    pub total : length keyed.positions ≡ before F.objects
     pub accepted : IsAccepted f F certificate
 
 -- the file holds a value, and the certificate has its least heights and key lists

@@ -3,7 +3,7 @@
 ghost use Rattle.std.specs.Prelude.{◌≡◌, ◌≢◌, ℕ, ◌+◌, ◌^◌, ◌<◌, ◌≤◌, Bool, List, [], ◌∷◌, ◌++◌, IsTrue, count_by, length};
 ghost use Rattle.std.specs.Prelude.{map, not, set, take, vec_len, IfOk, MatchOption, OnOk};
 ghost use Rattle.bplist_lint.specs.Prelude.{from_bool, OnlyReads, failed_to_read, IsWhole, AreObjects, IsMarked, Finds};
-ghost use Rattle.bplist_lint.specs.Prelude.{Shows, Standing, IsHeightWalk, AreClosed, AreLeastOf, state_at};
+ghost use Rattle.bplist_lint.specs.Prelude.{Shows, Rests, Settles, Walks, AreClosed, AreLeastOf, state_at};
 ghost use Rattle.bplist_lint.specs.Prelude.{first_state};
 ghost use Rattle.bplist_lint.specs.declared.heights.State.TheVariants as states;
 
@@ -205,18 +205,14 @@ impl HeightWalk {
     fn settle_from<R: References>(&mut self, graph: &mut R, n: u32) -> Result<(), Failure>
         requires fits { (R.graph graph.old).size < 2 ^ 32 }
         requires n_in { n < (R.graph graph.old).size }
-        requires empty { vec_len self.old.stack ≡ 0 }
-        requires standing { Standing (R.graph graph.old).size self.old.states.items self.old.heights.items [] }
+        requires rests { Rests (R.graph graph.old).size self.old }
         ensures same { R.graph graph.new ≡ R.graph graph.old }
         ensures reads { OnlyReads (failed_to_read result) (R.means graph.old) (R.means graph.new) }
-        ensures empty { OnOk result (vec_len self.new.stack ≡ 0) }
-        ensures standing { OnOk result (Standing (R.graph graph.old).size self.new.states.items self.new.heights.items []) }
-        ensures sees { OnOk result (state_at self.new.states.items n ≢ states.New) }
-        ensures keeps { OnOk result ((m : ℕ) → state_at self.old.states.items m ≢ states.New → state_at self.new.states.items m ≢ states.New) }
-        ensures walking { OnOk result (IsTrue (R.means graph.old).honest → (marks : List Bool) → AreClosed (R.graph graph.old) marks
-            → IsMarked marks n
-            → IsHeightWalk (R.graph graph.old).refs marks self.old.states.items self.old.heights.items []
-            → IsHeightWalk (R.graph graph.old).refs marks self.new.states.items self.new.heights.items []) }
+        ensures rests { OnOk result (Rests (R.graph graph.old).size self.new) }
+        ensures settles { OnOk result (Settles n self.old self.new) }
+        ensures walks { OnOk result (IsTrue (R.means graph.old).honest → (marks : List Bool)
+            → AreClosed (R.graph graph.old) marks → IsMarked marks n
+            → Walks (R.graph graph.old).refs marks self.old → Walks (R.graph graph.old).refs marks self.new) }
     {
         match self.states[n as usize] {
             State::New => {}

@@ -7,13 +7,13 @@ ghost use Rattle.bplist_lint.specs.Prelude.{HasShape, Head as head, IsMarked, Ar
 ghost use Rattle.bplist_lint.specs.Prelude.{KeepReached, key_rules, HasRoomFor, IsWalked, AreNamed, IsFileFault};
 ghost use Rattle.bplist_lint.specs.Prelude.{IsFileCircle, Lints, lint_failed, no_circle, KeepsRules, IsLintedBy};
 ghost use Rattle.bplist_lint.specs.Prelude.{IsLinted, IsLintedWithKind, HasNoHeights, reach_rules, HonestlyBy, IsSound};
-ghost use Rattle.bplist_lint.specs.Prelude.{IsNumbered};
+ghost use Rattle.bplist_lint.specs.Prelude.{AreFound, IsNumbered};
 
 use crate::answer::{Lint, LintRefusal, ObjectNos};
 use crate::circle::circle;
 use crate::containers::quick_heights;
 use crate::graph::{ObjectGraph, View};
-use crate::heights::{least_heights, unmarked};
+use crate::heights::least_heights;
 use crate::key_rules::{check_numbers, known_classes};
 use crate::reach::{Marked, mark_reached};
 use crate::tally::{Tally, check_reached};
@@ -131,26 +131,23 @@ fn heights_or_circle<P: Offsets>(
     Ok(yes(&frame, &tally, heights))
 }
 
-/// Returns the linter's answer for a file whose reached objects keep rules 14 to 20 and 31, and the numbers of their
-/// keys, which are classes or ranks.
-///
-/// If the quick pass does not succeed, first checks the keys, and then finds the heights or the circle. Gives the places
-/// up before it looks for a circle if more than a quarter of the objects may wait for others.
-pub fn finish<P: Offsets>(
+/// Checks the keys of the reached objects, which keep rules 14 to 20 and 31, by rules 21 and 22. The numbers of the keys
+/// are classes or ranks. Returns the numbers, and the heights too if the quick pass finds them.
+pub fn check_keys<P: Offsets>(
     alloc: Global,
     src: &mut P,
-    reached: Reached,
+    reached: &Reached,
     numbers: KeyNumbers,
-) -> Result<(Lint, KeyNumbers), LintRefusal>
-    requires fits { HasRoomFor (frame_in (P.means src.old)) reached }
-    requires known { HonestlyIn (P.means src.old) (λ f F. IsNumbered f F reached numbers.table.items) }
-    ensures reads { OnlyReads (lint_failed result) (P.means src.old) (P.means src.new) }
-    ensures count { IfOk result (λ done. length done.0.certificate.heights ≡ (frame_in (P.means src.old)).objects) }
-    ensures same { IfOk result (λ done. done.1.table.items ≡ numbers.table.items) }
-    ensures exact { HonestlyIn (P.means src.old)
-        (λ f F. Lints (λ done. IsLintedBy f F done.0) (IsFileFault f) (IsFileCircle f) result) }
+) -> Result<(Option<Vec<u32>>, KeyNumbers), Refusal>
+    requires fits { HasRoomFor (frame_in (P.means src.old)) reached.now }
+    requires known { HonestlyIn (P.means src.old) (λ f F. IsNumbered f F reached.now numbers.table.items) }
+    ensures reads { OnlyReads (refused_read result) (P.means src.old) (P.means src.new) }
+    ensures count { IfOk result (λ found. IfSome found.0 (λ heights. vec_len heights ≡ (frame_in (P.means src.old)).objects)) }
+    ensures same { IfOk result (λ found. found.1.table.items ≡ numbers.table.items) }
+    ensures exact { HonestlyIn (P.means src.old) (λ f F. Judges
+        (λ found. KeepsRules f F reached.now × IfSome found.0 (λ heights. AreFound f F heights.items)) (IsFileFault f) result) }
 {
-    let frame = src.frame();
+    let _frame = src.frame();
     let (heights, numbers) = quick_heights(
         alloc,
         src,
@@ -159,14 +156,33 @@ pub fn finish<P: Offsets>(
         numbers,
     )?;
     if let Some(heights) = heights {
-        return Ok((yes(&frame, &reached.tally, heights), numbers));
+        return Ok((Some(heights), numbers));
     }
-    let numbers = check_numbers(alloc, src, &reached.marks, &reached.childless, numbers)?; // rules 21 and 22
-    if unmarked(&reached.childless) > frame.objects as usize / 4 {
-        src.forget_places();
+    let numbers = check_numbers(alloc, src, &reached.marks, &reached.childless, numbers)?;
+    Ok((None, numbers))
+}
+
+/// Returns the linter's answer for a file whose reached objects keep rules 14 to 22 and 31, and of which these are the
+/// heights, if they are known.
+pub fn finish<P: Offsets>(
+    alloc: Global,
+    src: &mut P,
+    reached: Reached,
+    heights: Option<Vec<u32>>,
+) -> Result<Lint, LintRefusal>
+    requires fits { HasRoomFor (frame_in (P.means src.old)) reached }
+    requires all { IfSome heights (λ known. vec_len known ≡ (frame_in (P.means src.old)).objects) }
+    requires sifted { HonestlyIn (P.means src.old) (λ f F. KeepsRules f F reached × IfSome heights (λ known. AreFound f F known.items)) }
+    ensures reads { OnlyReads (lint_failed result) (P.means src.old) (P.means src.new) }
+    ensures count { IfOk result (λ lint. length lint.certificate.heights ≡ (frame_in (P.means src.old)).objects) }
+    ensures exact { HonestlyIn (P.means src.old)
+        (λ f F. Lints (IsLintedBy f F) (IsFileFault f) (IsFileCircle f) result) }
+{
+    let frame = src.frame();
+    match heights {
+        Some(heights) => Ok(yes(&frame, &reached.tally, heights)),
+        None => heights_or_circle(alloc, src, reached),
     }
-    let lint = heights_or_circle(alloc, src, reached)?; // rule 23
-    Ok((lint, numbers))
 }
 
 /// Returns the linter's answer for a file that was opened. First checks each reached object by itself, then the keys and
@@ -186,8 +202,9 @@ fn lint_opened<P: Offsets>(alloc: Global, src: &mut P) -> Result<Lint, LintRefus
         src.forget_places();
     }
     let classes = known_classes(alloc, src, named)?;
-    let (lint, _classes) = finish(alloc, src, reached, classes)?; // rules 21 to 23
-    Ok(lint)
+    let (heights, classes) = check_keys(alloc, src, &reached, classes)?; // rules 21 and 22
+    drop(classes);
+    finish(alloc, src, reached, heights) // rule 23
 }
 
 /// Returns the kind of the top, if the top keeps rules 14 to 17.

@@ -8,7 +8,7 @@ ghost use Rattle.bplist_lint.specs.Prelude.{Lints, no_circle, Upgrades, IsLinted
 ghost use Rattle.bplist_lint.specs.Prelude.{HasNoHeights, IsSound, AreRanks};
 
 use crate::answer::{LintRefusal, UpgradeFault};
-use crate::linter::{find_reached, finish, read_places};
+use crate::linter::{check_keys, find_reached, finish, read_places};
 use crate::upgrader::list_by_ranks;
 use bplist_cert::{Certificate, Refusal};
 use bplist_keys::{KeyNumbers, NamedKeys, ranks_of};
@@ -43,7 +43,8 @@ fn list_reached<P: Offsets>(
     let _frame = src.frame();
     let (reached, named) = find_reached(alloc, src)?; // rules 14 to 20 and 31
     let ranks = known_ranks(alloc, src, named)?;
-    let (lint, ranks) = finish(alloc, src, reached, ranks)?; // rules 21 to 23
+    let (heights, ranks) = check_keys(alloc, src, &reached, ranks)?; // rules 21 and 22
+    let lint = finish(alloc, src, reached, heights)?; // rule 23
     let heights = lint.certificate.heights;
     Ok(list_by_ranks(alloc, src, heights, ranks))
 }

@@ -9,7 +9,7 @@ use crate::graph::shape_there;
 use crate::key_rules::KeySorting;
 use bplist_cert::{Certificate, Checked, KeyLists, vouched_keys};
 use bplist_keys::{KeyNumbers, ranks_of};
-use bplist_objects::{Framed, Kind, Objects, Offsets, offsets_of};
+use bplist_objects::{Framed, Kind, Objects, Offsets, object_kind, offsets_of};
 use bplist_octets::Source;
 use std::alloc::Global;
 
@@ -27,6 +27,13 @@ fn list_object<P: Offsets>(src: &mut P, n: u32, lists: &mut KeySorting) -> Resul
         → Listed f F heights n starts lists.old.positions.items
         → Upgrades (λ start. Listed f F heights (n + 1) (set starts n start) lists.new.positions.items) result) }
 {
+    let _frame = src.frame();
+    // The marker alone says of most objects that they are no dictionary.
+    if let Some(kind) = object_kind(src, n)? {
+        if kind != Kind::Dict {
+            return Ok(0);
+        }
+    }
     let Some(head) = shape_there(src, n)? else {
         return Err(UpgradeFault::Changed);
     };

@@ -1,10 +1,10 @@
 //! Checks all reached objects in one quick walk, which succeeds if none of them breaks a rule and all have room.
 
-ghost use Rattle.std.specs.Prelude.{◌≡◌, ◌↔◌, ℕ, ◌+◌, ◌-◌, ◌≤◌, ◌<◌, [], ◌∷◌, ◌++◌, not, IsTrue, None, IfOk, IfSome};
-ghost use Rattle.std.specs.Prelude.{OnOk, count_by, length, min, slice_index, vec_len};
+ghost use Rattle.std.specs.Prelude.{◌≡◌, ◌↔◌, ℕ, ◌+◌, ◌-◌, ◌≤◌, ◌<◌, [], ◌∷◌, ◌++◌, IsTrue, None, IfOk, IfSome};
+ghost use Rattle.std.specs.Prelude.{OnOk, length, min, slice_index, vec_len};
 ghost use Rattle.bplist_lint.specs.Prelude.{OnlyReads, ObjectFault as object_fault, frame_in, HonestlyIn, content_at};
 ghost use Rattle.bplist_lint.specs.Prelude.{refs, IsSafeHead, ref_count, AreBelow, ref, Dict, failed_to_read, IsMarked};
-ghost use Rattle.bplist_lint.specs.Prelude.{IsRoomy, IsSteady, IsSteadyWalk, Noted, IsWalking, HasRoomFor, IsWalked};
+ghost use Rattle.bplist_lint.specs.Prelude.{IsRoomy, IsSteady, IsSteadyWalk, Worked, NotedIn, KeepsNames, IsWalking, HasRoomFor, IsWalked};
 ghost use Rattle.bplist_lint.specs.Prelude.{AreNamed, of_object, stop_failed, Read as is_read, key_count};
 ghost use Rattle.bplist_lint.specs.declared.walk.Stop.TheVariants.{Memory as is_memory};
 
@@ -104,12 +104,9 @@ fn mark_block(frame: &Frame, numbers: &[u64], worklist: &mut Worklist) -> Result
     requires steady { IsSteady frame.now.objects worklist.old }
     ensures steady { OnOk result (IsSteady frame.now.objects worklist.new) }
     ensures reads { stop_failed result ≡ None }
-    ensures current { worklist.new.current ≡ worklist.old.current }
-    ensures work { OnOk result (count_by not worklist.new.marks.items + vec_len worklist.new.stack
-        ≤ count_by not worklist.old.marks.items + vec_len worklist.old.stack) }
+    ensures worked { OnOk result (Worked worklist.old worklist.new) }
     ensures below { OnOk result ((k : ℕ) → k < length numbers.now → slice_index numbers.now k < frame.now.objects) }
-    ensures noted { OnOk result (Noted numbers.now (worklist.old.current + 1) (length numbers.now)
-        worklist.old.marks.items worklist.old.stack.items worklist.new.marks.items worklist.new.stack.items) }
+    ensures noted { OnOk result (NotedIn numbers.now (length numbers.now) worklist.old worklist.new) }
 {
     for number in numbers {
         let Some(m) = frame.object(*number) else {
@@ -149,15 +146,11 @@ fn mark_body<P: Framed>(
     requires all_named { length named.old.marks.items ≡ (frame_in (P.means src.old)).objects }
     ensures reads { OnlyReads (stop_failed result) (P.means src.old) (P.means src.new) }
     ensures steady { OnOk result (IsSteady (frame_in (P.means src.old)).objects worklist.new) }
-    ensures current { worklist.new.current ≡ worklist.old.current }
-    ensures work { OnOk result (count_by not worklist.new.marks.items + vec_len worklist.new.stack
-        ≤ count_by not worklist.old.marks.items + vec_len worklist.old.stack) }
-    ensures all_named { length named.new.marks.items ≡ (frame_in (P.means src.old)).objects }
-    ensures keeps_named { (m : ℕ) → IsMarked named.old.marks.items m → IsMarked named.new.marks.items m }
+    ensures worked { OnOk result (Worked worklist.old worklist.new) }
+    ensures names { KeepsNames (frame_in (P.means src.old)).objects named.old named.new }
     ensures exact { OnOk result (HonestlyIn (P.means src.old) (λ f F.
         AreBelow f head.now.body F.ref_size (ref_count head.now.kind head.now.count) F.objects
-        × Noted (refs (content_at f F head.now)) (worklist.old.current + 1) (ref_count head.now.kind head.now.count)
-        worklist.old.marks.items worklist.old.stack.items worklist.new.marks.items worklist.new.stack.items
+        × NotedIn (refs (content_at f F head.now)) (ref_count head.now.kind head.now.count) worklist.old worklist.new
         × (head.now.kind ≡ Dict → (k : ℕ) → k < head.now.count → IsMarked named.new.marks.items (ref f F head.now k)))) }
 {
     let frame = src.frame();
@@ -177,9 +170,7 @@ fn visit<P: Offsets>(src: &mut P, n: u32, progress: &mut Progress) -> Result<(),
     requires steady { IsSteadyWalk (frame_in (P.means src.old)) progress.old }
     ensures reads { OnlyReads (stop_failed result) (P.means src.old) (P.means src.new) }
     ensures steady { OnOk result (IsSteadyWalk (frame_in (P.means src.old)) progress.new) }
-    ensures current { progress.new.worklist.current ≡ progress.old.worklist.current }
-    ensures work { OnOk result (count_by not progress.new.worklist.marks.items + vec_len progress.new.worklist.stack
-        ≤ count_by not progress.old.worklist.marks.items + vec_len progress.old.worklist.stack) }
+    ensures worked { OnOk result (Worked progress.old.worklist progress.new.worklist) }
     ensures walking { OnOk result (HonestlyIn (P.means src.old) (λ f F.
         IsWalking f F (progress.old.worklist.current + 1) (progress.old.worklist.stack.items ++ n ∷ []) progress.old
         → IsWalking f F (progress.old.worklist.current + 1) progress.new.worklist.stack.items progress.new)) }

@@ -10,8 +10,10 @@ loop-n-init g c = record {
   same = cc;
   reads = cc;
   inside = omega arith;
-  empty = c.in_ok-walk.ensures.empty;
-  standing = rw (c.in_ok-walk.ensures.states, c.in_ok-walk.ensures.heights) (standing_first _ _ c.requires.all_childless);
+  rests = record {
+    empty = c.in_ok-walk.ensures.empty;
+    standing = rw (c.in_ok-walk.ensures.states, c.in_ok-walk.ensures.heights) (standing_first _ _ c.requires.all_childless);
+  };
   sees = λ m h is. absurd (let low = marked_within c.args.marks.now m is in grind (arith, common_steps));
   walking = λ honest closed known. rw (c.in_ok-walk.ensures.states, c.in_ok-walk.ensures.heights) (walking_first _ _ _ known);
 }
@@ -25,22 +27,21 @@ loop-n-preserved g c =
       same = c.settle_from.ensures.same ∙ i.same;
       reads = walked.reads ∙ i.reads;
       inside = omega (arith, found.0, i.inside);
-      empty = walked.empty;
-      standing = rw i.same at walked.standing;
+      rests = rw i.same at walked.rests;
       sees = λ m h is. elim (cases_eq m c.in-Some.n) [
-        | inl e ↦ rw e walked.sees
-        | inr ne ↦ walked.keeps m (elim (cases_lt m c.loop-n.before) [
+        | inl e ↦ rw e walked.settles.sees
+        | inr ne ↦ walked.settles.keeps m (elim (cases_lt m c.loop-n.before) [
           | inl early ↦ found.2 m (omega (arith, h, ne)) early is
           | inr late ↦ i.sees m late is
         ])
       ];
-      walking = λ honest closed known. (rw (i.same, i.reads) at walked.walking) honest _ closed found.1 (i.walking honest closed known);
+      walking = λ honest closed known. (rw (i.same, i.reads) at walked.walks) honest _ closed found.1 (i.walking honest closed known);
     }
 
 pub returns-clause-exact : goal.returns-clause-exact
 returns-clause-exact g c = λ honest closed known.
     let i = c.loop-n.invariant in
-    are_least _ _ _ _ _ i.standing (i.walking honest closed known) (λ m is. elim (cases_lt m c.loop-n.before) [
+    are_least _ _ _ _ _ i.rests.standing (i.walking honest closed known) (λ m is. elim (cases_lt m c.loop-n.before) [
       | inl early ↦ c.in_default.ensures m early is
       | inr late ↦ i.sees m late is
     ])

@@ -1,6 +1,6 @@
-use Rattle.std.proofs.Common.{◌≡◌, ◌≢◌, ◌≤◌, ℕ, [], IsTrue, length, vec_len}
+use Rattle.std.proofs.Common.{◌≡◌, ◌≢◌, ◌≤◌, ℕ, [], IsTrue, length}
 use Rattle.bplist_keys.specs.Marks.{IsMarked}
-use Rattle.bplist_lint.specs.HeightWalks.{state_at, Standing, IsHeightWalk, AreClosed}
+use Rattle.bplist_lint.specs.HeightWalks.{state_at, Rests, Walks, AreClosed}
 use Rattle.bplist_lint.specs.declared.heights.State.TheVariants.{New}
 use Rattle.bplist_lint.proofs.heights.least_heights.Given as goal
 
@@ -9,10 +9,9 @@ invariant-loop-n g l = record {
   same : g.R.References.graph l.graph ≡ g.R.References.graph l.fn.graph;
   reads : g.R.References.means l.graph ≡ g.R.References.means l.fn.graph;
   inside : l.before ≤ length l.marks;
-  empty : vec_len l.walk.stack ≡ 0;
-  standing : Standing (g.R.References.graph l.fn.graph).size l.walk.states.items l.walk.heights.items [];
+  rests : Rests (g.R.References.graph l.fn.graph).size l.walk;
   sees : (m : ℕ) → l.before ≤ m → IsMarked l.marks m → state_at l.walk.states.items m ≢ New;
-  walking : IsTrue (g.R.References.means l.fn.graph).honest → AreClosed (g.R.References.graph l.fn.graph) l.marks → ((m : ℕ) → IsMarked l.childless m → IsMarked l.marks m × ((g.R.References.graph l.fn.graph).refs m ≡ [])) → IsHeightWalk (g.R.References.graph l.fn.graph).refs l.marks l.walk.states.items l.walk.heights.items [];
+  walking : IsTrue (g.R.References.means l.fn.graph).honest → AreClosed (g.R.References.graph l.fn.graph) l.marks → ((m : ℕ) → IsMarked l.childless m → IsMarked l.marks m × ((g.R.References.graph l.fn.graph).refs m ≡ [])) → Walks (g.R.References.graph l.fn.graph).refs l.marks l.walk;
 }
 
 abbrev pub decreases-loop-n : goal.decreases-loop-n

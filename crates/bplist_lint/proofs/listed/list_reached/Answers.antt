@@ -19,18 +19,30 @@ returns-in_err-reached-clause-exact g c = λ honest.
     let p = err_from_is_err_and c.from_residual.result c.from_residual.ensures.1 in
     rw (p.1, p.2) (check_means _ _ (IsFileCircle f) c.in_err-reached.field-0.0 (λ fault h. inr (F, framed, inl h)) (c.in_err-reached.ensures.exact honest))
 
+pub returns-in_err-heights-clause-exact : goal.returns-in_err-heights-clause-exact
+returns-in_err-heights-clause-exact g c = λ honest.
+    let f = (g.P.Source.means c.args.src.now).octets in
+    let p = err_from_is_err_and c.from_residual-in_err-heights.result c.from_residual-in_err-heights.ensures.1 in
+    let told = (rw (c.in_ok-ranks.ensures.reads, c.in_ok-reached.ensures.reads) at c.in_err-heights.ensures.exact) honest in
+    rw (p.1, p.2) (check_means _ _ (IsFileCircle f) c.in_err-heights.field-0.0 (λ fault h. h) told)
+
+pub returns-in_err-lint-clause-exact : goal.returns-in_err-lint-clause-exact
+returns-in_err-lint-clause-exact g c = λ honest.
+    let p = err_from_is_err_and c.from_residual-in_err-lint.result c.from_residual-in_err-lint.ensures.1 in
+    rw (p.1, p.2) ((rw (c.in_ok-heights.ensures.reads, c.in_ok-ranks.ensures.reads, c.in_ok-reached.ensures.reads) at c.in_err-lint.ensures.exact) honest)
+
 pub returns-clause-exact : goal.returns-clause-exact
 returns-clause-exact g c = λ honest.
     let f = (g.P.Source.means c.args.src.now).octets in
     let F : Frame = frame_in (g.P.Source.means c.args.src.now) in
     let known = c.in_ok-reached.ensures.exact honest in
     let ranks = (rw c.in_ok-reached.ensures.reads at c.in_ok-ranks.ensures.exact) honest in
-    let yes = (rw (c.in_ok-ranks.ensures.reads, c.in_ok-reached.ensures.reads) at c.in_ok-lint.ensures.exact) honest in
+    let yes = (rw (c.in_ok-heights.ensures.reads, c.in_ok-ranks.ensures.reads, c.in_ok-reached.ensures.reads) at c.in_ok-lint.ensures.exact) honest in
     let same = ap (λ (lint : Lint). lint.certificate.heights) c.lint.view_is in
-    let listed = (rw (same, c.in_ok-lint.ensures.reads, c.in_ok-ranks.ensures.reads, c.in_ok-reached.ensures.reads, c.in_ok-lint.ensures.same) at c.list_by_ranks.ensures.exact) honest yes.valid (_, ranks, λ n v. known.1 n (yes.least.only n v)) in
+    let listed = (rw (same, c.in_ok-lint.ensures.reads, c.in_ok-heights.ensures.reads, c.in_ok-ranks.ensures.reads, c.in_ok-reached.ensures.reads, c.in_ok-heights.ensures.same) at c.list_by_ranks.ensures.exact) honest yes.valid (_, ranks, λ n v. known.1 n (yes.least.only n v)) in
     upgrades_mean (IsUpgraded f F c.in_ok-lint.lint.certificate.heights) (IsLintedWithLists f) c.list_by_ranks.result (λ certificate is. (F, c.in_ok-lint.lint, yes.valid.frame, yes, is)) listed
 
 pub returns-clause-sound : goal.returns-clause-sound
 returns-clause-sound g c = λ honest.
-    let yes = (rw (c.in_ok-ranks.ensures.reads, c.in_ok-reached.ensures.reads) at c.in_ok-lint.ensures.exact) honest in
+    let yes = (rw (c.in_ok-heights.ensures.reads, c.in_ok-ranks.ensures.reads, c.in_ok-reached.ensures.reads) at c.in_ok-lint.ensures.exact) honest in
     merely (sound _ _ _ yes.valid)

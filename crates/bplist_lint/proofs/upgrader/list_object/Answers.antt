@@ -1,6 +1,9 @@
-use Rattle.std.proofs.Common.{◌≡◌, length, arith}
+use Rattle.std.proofs.Common.{◌≡◌, ◌∙◌, sym, length, arith}
+use Rattle.std.proofs.lemmas.Bool.{false≢true}
+use Rattle.std.proofs.lemmas.Option.{same_Some}
 use Rattle.std.proofs.lemmas.Result.{err_from_is_err_and}
 use Rattle.bplist_objects.specs.declared.frame.Frame.{Frame}
+use Rattle.bplist_objects.specs.declared.head.Kind.TheVariants as kinds
 use Rattle.bplist_objects.specs.Framed.{frame_in}
 use Rattle.bplist_objects.proofs.HeadTies.{shape_announced}
 use Rattle.bplist_objects.proofs.FrameTies.{numbered}
@@ -9,18 +12,28 @@ use Rattle.bplist_cert.proofs.AcceptedCertificates.{vouched_keys}
 use Rattle.bplist_lint.proofs.ListSteps.{listed_other, listed_dict, listed_room}
 use Rattle.bplist_lint.proofs.upgrader.list_object.Goals as goal
 
-pub returns-in_default-clause-exact : goal.returns-in_default-clause-exact
-returns-in_default-clause-exact g c = λ honest named heights starts ranked given valid v room l.
+pub returns-then-ne-clause-exact : goal.returns-then-ne-clause-exact
+returns-then-ne-clause-exact g c = λ honest named heights starts ranked given valid v room l.
+    let f = (g.P.Source.means c.args.src.now).octets in
+    let F : Frame = frame_in (g.P.Source.means c.args.src.now) in
     let s = (valid.vouched c.args.n v).spells in
-    absurd ((rw c.in_default.is at c.in_ok-head.ensures.shape) honest s.shape s.has)
+    let kind = rw c.in-Some.is at (c.in_ok-kind.ensures.shape honest s.shape s.has) in
+    listed_other f F heights c.args.n starts c.args.lists.now.positions.items l v room s.shape s.has (λ dict.
+    let is : c.in-Some.kind ≡ kinds.Dict = same_Some _ _ kind ∙ dict in
+    false≢true (sym (rw is at c.ne.ensures) ∙ c.if-ne.true))
+
+pub returns-in_default-2-clause-exact : goal.returns-in_default-2-clause-exact
+returns-in_default-2-clause-exact g c = λ honest named heights starts ranked given valid v room l.
+    let s = (valid.vouched c.args.n v).spells in
+    absurd ((rw (c.in_default-2.is, c.in_ok-kind.ensures.reads) at c.in_ok-head.ensures.shape) honest s.shape s.has)
 
 pub returns-then-head-start-clause-exact : goal.returns-then-head-start-clause-exact
 returns-then-head-start-clause-exact g c = λ honest named heights starts ranked given valid v room l.
     let f = (g.P.Source.means c.args.src.now).octets in
     let F : Frame = frame_in (g.P.Source.means c.args.src.now) in
     let n = c.args.n in
-    let head = c.in-Some.head in
-    let shape = (rw c.in-Some.is at c.in_ok-head.ensures.shape) honest in
+    let head = c.in-Some-2.head in
+    let shape = (rw (c.in-Some-2.is, c.in_ok-kind.ensures.reads) at c.in_ok-head.ensures.shape) honest in
     let has = shape_announced f F n head shape in
     let begin : c.len-start.result ≡ length c.args.lists.now.positions.items = omega (arith, c.args.lists.now.positions.ok.0, c.len-start.ensures) in
     let fits = listed_room f F heights n starts c.args.lists.now.positions.items l v room head shape c.in-Dict.is (numbered valid.frame).ref_size.0 valid.room in
@@ -31,39 +44,39 @@ returns-in_err-list-in-Dict-clause-exact g c = λ honest named heights starts ra
     let f = (g.P.Source.means c.args.src.now).octets in
     let F : Frame = frame_in (g.P.Source.means c.args.src.now) in
     let n = c.args.n in
-    let head = c.in-Some.head in
-    let shape = (rw c.in-Some.is at c.in_ok-head.ensures.shape) honest in
+    let head = c.in-Some-2.head in
+    let shape = (rw (c.in-Some-2.is, c.in_ok-kind.ensures.reads) at c.in_ok-head.ensures.shape) honest in
     let has = shape_announced f F n head shape in
     let keys = vouched_keys f F heights valid n v head has c.in-Dict.is in
     let have = have_ranks f F named c.args.lists.now.ranks.table.items ranked n given head has c.in-Dict.is keys.0 keys.1 in
     let p = err_from_is_err_and c.from_residual-in_err-list-in-Dict.result c.from_residual-in_err-list-in-Dict.ensures.1 in
-    rw (p.1, p.2) ((rw c.in_ok-head.ensures.reads at c.in_err-list-in-Dict.ensures.exact) honest have)
+    rw (p.1, p.2) ((rw (c.in_ok-head.ensures.reads, c.in_ok-kind.ensures.reads) at c.in_err-list-in-Dict.ensures.exact) honest have)
 
 pub returns-in_ok-list-in-Dict-clause-exact : goal.returns-in_ok-list-in-Dict-clause-exact
 returns-in_ok-list-in-Dict-clause-exact g c = λ honest named heights starts ranked given valid v room l.
     let f = (g.P.Source.means c.args.src.now).octets in
     let F : Frame = frame_in (g.P.Source.means c.args.src.now) in
     let n = c.args.n in
-    let head = c.in-Some.head in
-    let shape = (rw c.in-Some.is at c.in_ok-head.ensures.shape) honest in
+    let head = c.in-Some-2.head in
+    let shape = (rw (c.in-Some-2.is, c.in_ok-kind.ensures.reads) at c.in_ok-head.ensures.shape) honest in
     let has = shape_announced f F n head shape in
     let keys = vouched_keys f F heights valid n v head has c.in-Dict.is in
     let have = have_ranks f F named c.args.lists.now.ranks.table.items ranked n given head has c.in-Dict.is keys.0 keys.1 in
     let begin : c.len-start.result ≡ length c.args.lists.now.positions.items = omega (arith, c.args.lists.now.positions.ok.0, c.len-start.ensures) in
-    let listed = (rw c.in_ok-head.ensures.reads at c.in_ok-list-in-Dict.ensures.exact) honest have in
+    let listed = (rw (c.in_ok-head.ensures.reads, c.in_ok-kind.ensures.reads) at c.in_ok-list-in-Dict.ensures.exact) honest have in
     rw begin (listed_dict f F heights n starts c.args.lists.now.positions.items l v room head shape c.in-Dict.is (numbered valid.frame).ref_size.0 c.list.new.self.positions.items listed)
 
 pub returns-in_default-kind : goal.returns-in_default-kind
 returns-in_default-kind g c = record {
-  reads = c.in_ok-head.ensures.reads;
+  reads = c.in_ok-head.ensures.reads ∙ c.in_ok-kind.ensures.reads;
   same = cc;
   few = c.requires.few;
   exact = λ honest named heights starts ranked given valid v room l.
       let f = (g.P.Source.means c.args.src.now).octets in
       let F : Frame = frame_in (g.P.Source.means c.args.src.now) in
       let n = c.args.n in
-      let head = c.in-Some.head in
-      let shape = (rw c.in-Some.is at c.in_ok-head.ensures.shape) honest in
+      let head = c.in-Some-2.head in
+      let shape = (rw (c.in-Some-2.is, c.in_ok-kind.ensures.reads) at c.in_ok-head.ensures.shape) honest in
       let has = shape_announced f F n head shape in
       listed_other f F heights n starts c.args.lists.now.positions.items l v room head shape c.in_default-kind.not-Dict;
 }

@@ -10,8 +10,7 @@ use Rattle.bplist_lint.proofs.walk.mark_block.Goals.{then-not-index+then-m-workl
 pub loop-number-init : goal.loop-number-init
 loop-number-init c = record {
   steady = c.requires.steady;
-  current = refl;
-  work = omega arith;
+  worked = record { current = refl; work = omega arith };
   below = λ k low. absurd (omega arith);
   noted = noted_none _ _ _ _;
 }
@@ -34,25 +33,22 @@ loop-number-preserved c =
           let long : vec_len w.push.new.self ≡ vec_len c.loop-number.worklist.stack + 1 = grind (arith, common_steps) in
           rw w.worklist-is (record {
             steady = record { all_marks = grind (arith, common_steps); stack_in = grind (arith, elements) };
-            current = i.current;
-            work = omega (arith, less, long, i.work);
+            worked = record { current = i.worked.current; work = omega (arith, less, long, i.worked.work) };
             below = below;
-            noted = rw w.in_ok-push.ensures.items (note_new _ _ _ _ _ _ _ i.noted m c.loop-number-test.true is fits unmarked (omega (arith, i.current, w.if-m-worklist.true)));
+            noted = rw w.in_ok-push.ensures.items (note_new _ _ _ _ _ _ _ i.noted m c.loop-number-test.true is fits unmarked (omega (arith, i.worked.current, w.if-m-worklist.true)));
           })
       | then-not-index+else-m-worklist w ↦
           let unmarked : get_or c.loop-number.worklist.marks.items m false ≡ false = sym read ∙ w.if-not-index.true in
           let less = rw unmarked at more in
           rw w.worklist-is (record {
             steady = record { all_marks = grind (arith, common_steps); stack_in = stack_in };
-            current = i.current;
-            work = omega (arith, less, i.work);
+            worked = record { current = i.worked.current; work = omega (arith, less, i.worked.work) };
             below = below;
-            noted = note_later _ _ _ _ _ _ _ i.noted m c.loop-number-test.true is fits (omega (arith, i.current, w.if-m-worklist.false));
+            noted = note_later _ _ _ _ _ _ _ i.noted m c.loop-number-test.true is fits (omega (arith, i.worked.current, w.if-m-worklist.false));
           })
       | else-not-index w ↦ rw w.worklist-is (record {
         steady = i.steady;
-        current = i.current;
-        work = i.work;
+        worked = i.worked;
         below = below;
         noted = note_old _ _ _ _ _ _ _ i.noted (subst (IsMarked c.loop-number.worklist.marks.items) is (sym read ∙ w.if-not-index.false));
       })

@@ -28,22 +28,20 @@ loop-refs-preserved g c =
       reads = c.in_ok-read.ensures.reads ∙ i.reads;
       of = still_of i.of c.in_ok-read.ensures.same;
       steady = rw c.frame-frame.ensures.frame at marked.steady;
-      current = marked.current ∙ i.current;
-      work = omega (arith, marked.work, i.work);
-      all_named = c.insert_all.ensures.all ∙ i.all_named;
-      keeps_named = λ m h. c.insert_all.ensures.keeps m (i.keeps_named m h);
+      worked = record { current = marked.worked.current ∙ i.worked.current; work = omega (arith, marked.worked.work, i.worked.work) };
+      names = record { all = c.insert_all.ensures.all ∙ i.names.all; keeps = λ m h. c.insert_all.ensures.keeps m (i.names.keeps m h) };
       named = λ honest dict. each_more (λ k. k < h.count → IsMarked names (ref f F h k)) block
           (λ k low key. c.insert_all.ensures.keeps _ (i.named honest dict k low key))
           (λ j low key.
           let is = block.numbers honest j low in
           let there : j < c.keys_among.result = (c.keys_among.ensures.keys dict j low).1 (rw (c.in_ok-read.ensures.first c.if-branch.true) key) in
-          named_front c.keys_among.result lent names j (ref f F h (from + j)) there c.keys_among.ensures.few is (omega (arith, rw is at (below_block j low), c.insert_all.ensures.all, i.all_named)) c.insert_all.ensures.named);
+          named_front c.keys_among.result lent names j (ref f F h (from + j)) there c.keys_among.ensures.few is (omega (arith, rw is at (below_block j low), c.insert_all.ensures.all, i.names.all)) c.insert_all.ensures.named);
       below = λ honest. each_more (λ k. ref f F h k < F.objects) block (i.below honest) (λ j low. rw (block.numbers honest j low) at (below_block j low));
       noted = λ honest. rw block.long at (noted_more (refs (content_at f F h)) (c.args.worklist.now.current + 1) c.args.worklist.now.marks.items c.args.worklist.now.stack.items from c.loop-refs.worklist.marks.items c.loop-refs.worklist.stack.items (i.noted honest)
           lent (length lent) c.mark_block.new.worklist.marks.items c.mark_block.new.worklist.stack.items
           (omega (arith, most, length-refs f F h.kind h.count h.body)) refl
           (λ k low. block.numbers honest k low ∙ sym (nth-refs f F h.kind h.count h.body (from + k) (omega (arith, low, most))))
-          (rw i.current at marked.noted));
+          (rw i.worked.current at marked.noted));
     }
 
 pub returns-clause-exact : goal.returns-clause-exact

@@ -38,5 +38,5 @@ returns-else-references-eq0-clause-walking g c = on_ok_weaker c.mark_body.result
     let b = body honest in
     walking_container _ F c.args.n c.in-Body.head v.0 v.1 framed c.requires.within _ _ _ _ _ _ _ w
     (record { reached = with.reached; used = rw is at with.used; references = omega (arith, with.references, c.refs_of-references.ensures) })
-    (omega (arith, c.refs_of-references.ensures, c.if-references-eq0.false)) b.0 _ _ _ b.1 c.mark_body.ensures.keeps_named b.2)
+    (omega (arith, c.refs_of-references.ensures, c.if-references-eq0.false)) b.0 _ _ _ b.1 c.mark_body.ensures.names.keeps b.2)
     (rw (c.in_ok-end.ensures.reads, c.in_ok-place.ensures.reads) at c.mark_body.ensures.exact)

@@ -9,7 +9,7 @@ loop-m-init g c =
     record {
       reads = c.in_ok-visit.ensures.reads;
       steady = c.in_ok-visit.ensures.steady;
-      current = c.visit.ensures.current;
+      current = c.in_ok-visit.ensures.worked.current;
       walking = λ honest marked w. c.in_ok-visit.ensures.walking honest (rw none (walking_on _ _ _ _ _ _ _ w marked));
     }
 
@@ -35,6 +35,6 @@ loop-m-preserved g c =
     record {
       reads = c.in_ok-visit-2.ensures.reads ∙ i.reads;
       steady = rw i.reads at c.in_ok-visit-2.ensures.steady;
-      current = c.visit-in-Some.ensures.current ∙ i.current;
+      current = c.in_ok-visit-2.ensures.worked.current ∙ i.current;
       walking = λ honest marked w. (rw (i.reads, i.current) at c.in_ok-visit-2.ensures.walking) honest (rw c.in-Some.ensures.items at (i.walking honest marked w));
     }

@@ -32,8 +32,10 @@ loop-m-preserved-in-Continue-branch-5 g c =
       reads = c.in_ok-i.ensures.reads ∙ i.reads;
       standing = rw (c.open-in-New-2.ensures.states, c.in_ok-open-in-New-2.ensures.stack, c.in_ok-push-in-New-2.ensures.items)
           (standing_open _ _ _ _ next (standing_back _ _ _ _ _ s heights' long others) new.0 new.1);
-      sees = rw c.open-in-New-2.ensures.states (stays_known states next Open within (λ e. cc e) c.args.n i.sees);
-      keeps = λ k known. rw c.open-in-New-2.ensures.states (stays_known states next Open within (λ e. cc e) k (i.keeps k known));
+      settles = record {
+        sees = rw c.open-in-New-2.ensures.states (stays_known states next Open within (λ e. cc e) c.args.n i.settles.sees);
+        keeps = λ k known. rw c.open-in-New-2.ensures.states (stays_known states next Open within (λ e. cc e) k (i.settles.keeps k known));
+      };
       walking = λ honest marks closed marked w0.
           let w = rw c.in-Some.ensures.items at (i.walking honest marks closed marked w0) in
           let whole = closed m (top_marked _ _ _ _ _ _ m s w) in
@@ -67,8 +69,10 @@ loop-m-preserved-in-Circular g c =
       reads = c.in_ok-i.ensures.reads ∙ i.reads;
       standing = rw (c.settle.ensures.states, c.settle.ensures.heights, c.settle.ensures.stack)
           (standing_settle _ _ _ _ m s Circular 0 (λ e. cc e) refl (λ e. cc e) (λ h. absurd (omega arith)));
-      sees = rw c.settle.ensures.states (stays_known states m Circular within (λ e. cc e) c.args.n i.sees);
-      keeps = λ k known. rw c.settle.ensures.states (stays_known states m Circular within (λ e. cc e) k (i.keeps k known));
+      settles = record {
+        sees = rw c.settle.ensures.states (stays_known states m Circular within (λ e. cc e) c.args.n i.settles.sees);
+        keeps = λ k known. rw c.settle.ensures.states (stays_known states m Circular within (λ e. cc e) k (i.settles.keeps k known));
+      };
       walking = λ honest marks closed marked w0.
           let w = rw c.in-Some.ensures.items at (i.walking honest marks closed marked w0) in
           let whole = closed m (top_marked _ _ _ _ _ _ m s w) in
@@ -109,8 +113,10 @@ loop-m-preserved g c =
       reads = c.in_ok-i.ensures.reads ∙ i.reads;
       standing = rw (settled.states, settled.heights, settled.stack)
           (standing_settle _ _ _ _ m s Founded _ (λ e. cc e) refl (λ _. omega (arith, low)) (λ _. refl));
-      sees = rw settled.states (stays_known states m Founded within (λ e. cc e) c.args.n i.sees);
-      keeps = λ k known. rw settled.states (stays_known states m Founded within (λ e. cc e) k (i.keeps k known));
+      settles = record {
+        sees = rw settled.states (stays_known states m Founded within (λ e. cc e) c.args.n i.settles.sees);
+        keeps = λ k known. rw settled.states (stays_known states m Founded within (λ e. cc e) k (i.settles.keeps k known));
+      };
       walking = λ honest marks closed marked w0.
           let w = rw c.in-Some.ensures.items at (i.walking honest marks closed marked w0) in
           let whole = closed m (top_marked _ _ _ _ _ _ m s w) in

@@ -1,7 +1,6 @@
-use Rattle.std.proofs.Common.{◌≡◌, ◌≢◌, ℕ, Bool, List, [], IsTrue}
+use Rattle.std.proofs.Common.{◌≡◌, Bool, List, IsTrue}
 use Rattle.bplist_keys.specs.Marks.{IsMarked}
-use Rattle.bplist_lint.specs.HeightWalks.{state_at, Standing, IsHeightWalk, AreClosed}
-use Rattle.bplist_lint.specs.declared.heights.State.TheVariants.{New}
+use Rattle.bplist_lint.specs.HeightWalks.{Standing, Settles, Walks, IsHeightWalk, AreClosed}
 use Rattle.bplist_lint.proofs.HeightSteps.{work}
 use Rattle.bplist_lint.proofs.heights.HeightWalk.settle_from.Given as goal
 
@@ -10,9 +9,8 @@ invariant-loop-m g l = record {
   same : g.R.References.graph l.graph ≡ g.R.References.graph l.fn.graph;
   reads : g.R.References.means l.graph ≡ g.R.References.means l.fn.graph;
   standing : Standing (g.R.References.graph l.fn.graph).size l.self.states.items l.self.heights.items l.self.stack.items;
-  sees : state_at l.self.states.items l.n ≢ New;
-  keeps : (m : ℕ) → state_at l.fn.self.states.items m ≢ New → state_at l.self.states.items m ≢ New;
-  walking : IsTrue (g.R.References.means l.fn.graph).honest → (marks : List Bool) → AreClosed (g.R.References.graph l.fn.graph) marks → IsMarked marks l.n → IsHeightWalk (g.R.References.graph l.fn.graph).refs marks l.fn.self.states.items l.fn.self.heights.items [] → IsHeightWalk (g.R.References.graph l.fn.graph).refs marks l.self.states.items l.self.heights.items l.self.stack.items;
+  settles : Settles l.n l.fn.self l.self;
+  walking : IsTrue (g.R.References.means l.fn.graph).honest → (marks : List Bool) → AreClosed (g.R.References.graph l.fn.graph) marks → IsMarked marks l.n → Walks (g.R.References.graph l.fn.graph).refs marks l.fn.self → IsHeightWalk (g.R.References.graph l.fn.graph).refs marks l.self.states.items l.self.heights.items l.self.stack.items;
 }
 
 abbrev pub decreases-loop-m : goal.decreases-loop-m
