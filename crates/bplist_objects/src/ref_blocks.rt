@@ -21,13 +21,12 @@ const BLOCK: usize = 32;
 #[derive(Drop)]
 pub struct RefBlocks {
     head: Head,
+    /// How many of the object's references are to be read.
+    bound: u64,
     /// The number of the first reference of the block.
     pub first: u64,
     /// The number of the reference after the block.
     next: u64,
-    /// How many of the object's references are to be read.
-    // It stands between the fields that begin as 0, because LLVM calls memset to clear more than 256 bytes in a row.
-    bound: u64,
     block: [u64; BLOCK],
     ghost ahead: { first ≤ next },
     ghost within: { next ≤ bound },
