@@ -105,7 +105,7 @@ pub(crate) fn check_texts<P: Offsets>(
 {
     let mut keys = RefBlocks::keys_of(&dict.head);
     while keys.read(src)? {
-        if let Some(i) = first_keyless(src, low, keys.first, keys.block())? {
+        if let Some(i) = first_keyless(src, low, keys.first(), keys.block())? {
             let wrong = KeyDefect::NotText(i);
             return Err(ObjectFault::Fault(wrong.fault(src, dict.n, &dict.head)));
         }

@@ -158,7 +158,7 @@ fn mark_body<P: Framed>(
     while refs.read(src)? {
         let block = refs.block();
         mark_block(&frame, block, worklist)?;
-        named.insert_all(&block[..keys_among(head, refs.first, block.len())]);
+        named.insert_all(&block[..keys_among(head, refs.first(), block.len())]);
     }
     Ok(())
 }

@@ -1,14 +1,15 @@
 -- The units of a text, block by block. Source: profile.
-use Rattle.std.specs.Prelude.{◌≡◌, ℕ, ◌+◌, ◌≤◌, ◌<◌, List, length, take}
+use Rattle.std.specs.Prelude.{◌≡◌, ℕ, ◌+◌, ◌≤◌, ◌<◌, List, length}
 use Rattle.bplist_octets.specs.Meaning.{Meaning, Honestly}
 use Rattle.bplist_octets.specs.Octets.{part}
 use Rattle.bplist_objects.specs.declared.head.Head.{Head}
-use Rattle.bplist_objects.specs.declared.unit_blocks.UnitBlocks.{UnitBlocks}
 use Rattle.bplist_objects.specs.Units.{units_of}
 
--- the units that were read last
-unfoldable pub last_units : UnitBlocks → List ℕ
-last_units blocks = take blocks.held blocks.block
+-- how far a text is read: its head, the number of the unit after the block, and the block that was read last
+pub record UnitReading : Type 0 where
+  pub head : Head
+  pub next : ℕ
+  pub block : List ℕ
 
 -- the block has some of the units of a text with this head: from one number up to another, which it does not have. Over
 -- an honest source they are those of the text

@@ -13,6 +13,7 @@ use crate::framed::{Framed, read_refs_in};
 use crate::head::Head;
 use crate::refs::refs_of;
 use bplist_octets::ReadFault;
+use std::marker::Model;
 
 /// The most references in one block. It is small because most objects have few, and the block is cleared for each.
 const BLOCK: usize = 32;
@@ -21,18 +22,27 @@ const BLOCK: usize = 32;
 #[derive(Drop)]
 pub struct RefBlocks {
     head: Head,
+    /// How many of the object's references are to be read.
+    bound: u64,
     /// The number of the first reference of the block.
-    pub first: u64,
+    first: u64,
     /// The number of the reference after the block.
     next: u64,
-    /// How many of the object's references are to be read.
-    // It stands between the fields that begin as 0, because LLVM calls memset to clear more than 256 bytes in a row.
-    bound: u64,
     block: [u64; BLOCK],
-    ghost ahead: { first ≤ next },
-    ghost within: { next ≤ bound },
-    ghost room: { next ≤ first + 32 },
-    ghost there: { bound ≤ ref_count head.kind head.count },
+}
+
+impl Model for RefBlocks {
+    ghost use Rattle.std.specs.Prelude.{◌+◌, ◌-◌, ◌≤◌, take};
+    ghost use Rattle.bplist_objects.specs.Safe.{ref_count};
+    ghost use Rattle.bplist_objects.specs.RefBlocks.{RefReading};
+
+    ghost Value = { RefReading };
+
+    ghost view = { λ r. record { head = r.head; bound = r.bound; first = r.first; next = r.next;
+        block = take (r.next - r.first) r.block } };
+
+    ghost invariant = { λ r. (r.first ≤ r.next) × (r.next ≤ r.bound) × (r.next ≤ r.first + 32)
+        × (r.bound ≤ ref_count r.head.kind r.head.count) };
 }
 
 /// Reads the `count` references from number `from` on into the first places of `into`.
@@ -56,7 +66,7 @@ fn read_front<P: Framed>(
 }
 
 impl RefBlocks {
-    ghost use Rattle.bplist_objects.specs.RefBlocks.{AreOf, IsBlock, block_of};
+    ghost use Rattle.bplist_objects.specs.RefBlocks.{AreOf, IsBlock};
 
     /// Returns the references of an object with this head. None of them is read yet.
     #[inline(always)]
@@ -104,7 +114,7 @@ impl RefBlocks {
         ensures same { AreOf self.old.head self.old.bound self.new }
         ensures stays { OnErr result (self.new.next ≡ self.old.next) }
         ensures next { IfOk result (λ more. IsTrue more
-            → IsBlock (P.means src.old) self.old.head self.old.bound self.old.next self.new.next (block_of self.new)) }
+            → IsBlock (P.means src.old) self.old.head self.old.bound self.old.next self.new.next self.new.block) }
         ensures first { IfOk result (λ more. IsTrue more → self.new.first ≡ self.old.next) }
         ensures end { IfOk result (λ more. more ≡ false → (self.new ≡ self.old) × (self.old.next ≡ self.old.bound)) }
     {
@@ -119,10 +129,18 @@ impl RefBlocks {
         Ok(true)
     }
 
+    /// Returns the number of the first reference of the block that was read last.
+    #[inline(always)]
+    pub fn first(&self) -> u64
+        ensures { result ≡ self.now.first }
+    {
+        self.first
+    }
+
     /// Returns the references of the block that was read last.
     #[inline(always)]
     pub fn block(&self) -> &[u64]
-        ensures { result.now ≡ block_of self.now }
+        ensures { result.now ≡ self.now.block }
     {
         &self.block[..(self.next - self.first) as usize]
     }

@@ -11,6 +11,7 @@ ghost use Rattle.bplist_objects.specs.Units.{IsTextKind, units_of};
 use crate::head::Head;
 use crate::leaf::read_units;
 use bplist_octets::{ReadFault, Source};
+use std::marker::Model;
 
 /// The most units in one block.
 const BLOCK: usize = 128;
@@ -24,8 +25,17 @@ pub struct UnitBlocks {
     /// How many units the block has.
     held: usize,
     block: [u16; BLOCK],
-    ghost within: { next ≤ head.count },
-    ghost room: { held ≤ 128 },
+}
+
+impl Model for UnitBlocks {
+    ghost use Rattle.std.specs.Prelude.{◌≤◌, take};
+    ghost use Rattle.bplist_objects.specs.UnitBlocks.{UnitReading};
+
+    ghost Value = { UnitReading };
+
+    ghost view = { λ u. record { head = u.head; next = u.next; block = take u.held u.block } };
+
+    ghost invariant = { λ u. (u.next ≤ u.head.count) × (u.held ≤ 128) };
 }
 
 /// Reads the `count` units from number `from` on into the first places of `into`.
@@ -50,7 +60,7 @@ fn read_front<S: Source>(
 }
 
 impl UnitBlocks {
-    ghost use Rattle.bplist_objects.specs.UnitBlocks.{IsUnitBlock, last_units};
+    ghost use Rattle.bplist_objects.specs.UnitBlocks.{IsUnitBlock};
 
     /// Returns the units of a text with this head. None of them is read yet.
     #[inline(always)]
@@ -80,7 +90,7 @@ impl UnitBlocks {
         ensures same { self.new.head ≡ self.old.head }
         ensures stays { OnErr result (self.new.next ≡ self.old.next) }
         ensures next { IfOk result (λ more. IsTrue more
-            → IsUnitBlock (S.means src.old) self.old.head self.old.next self.new.next (last_units self.new)) }
+            → IsUnitBlock (S.means src.old) self.old.head self.old.next self.new.next self.new.block) }
         ensures end { IfOk result (λ more. more ≡ false
             → (self.new ≡ self.old) × (self.old.next ≡ self.old.head.count)) }
     {
@@ -98,7 +108,7 @@ impl UnitBlocks {
     /// Returns the units of the block that was read last.
     #[inline(always)]
     pub fn block(&self) -> &[u16]
-        ensures units { result.now ≡ last_units self.now }
+        ensures units { result.now ≡ self.now.block }
         ensures few { length result.now ≤ 128 }
     {
         &self.block[..self.held]

@@ -34,7 +34,7 @@ loop-refs-preserved g c =
           (λ k low key. c.insert_all.ensures.keeps _ (i.named honest dict k low key))
           (λ j low key.
           let is = block.numbers honest j low in
-          let there : j < c.keys_among.result = (c.keys_among.ensures.keys dict j low).1 (rw (c.in_ok-read.ensures.first c.if-branch.true) key) in
+          let there : j < c.keys_among.result = (c.keys_among.ensures.keys dict j low).1 (rw (c.first.ensures, c.in_ok-read.ensures.first c.if-branch.true) key) in
           named_front c.keys_among.result lent names j (ref f F h (from + j)) there c.keys_among.ensures.few is (omega (arith, rw is at (below_block j low), c.insert_all.ensures.all, i.names.all)) c.insert_all.ensures.named);
       below = λ honest. each_more (λ k. ref f F h k < F.objects) block (i.below honest) (λ j low. rw (block.numbers honest j low) at (below_block j low));
       noted = λ honest. rw block.long at (noted_more (refs (content_at f F h)) (c.args.worklist.now.current + 1) c.args.worklist.now.marks.items c.args.worklist.now.stack.items from c.loop-refs.worklist.marks.items c.loop-refs.worklist.stack.items (i.noted honest)
