@@ -9,6 +9,7 @@ use crate::key_names::KeyNames;
 use bplist_objects::{
     Fault, Framed, Head, ObjectFault, ObjectNo, Rule, read_refs_in, ref_place, refs_of,
 };
+use bplist_octets::entry_or;
 
 /// The most references that are read at once. It is small because the block is cleared for each container.
 const BLOCK: usize = 32;
@@ -46,17 +47,6 @@ impl Wanted {
     }
 }
 
-/// Returns the height of an object, or 0 if there is no such object.
-pub(crate) fn height_at(heights: &[u32], n: u64) -> u32
-    ensures { result ≡ slice_index heights.now n }
-{
-    if n < heights.len() as u64 {
-        heights[n as usize]
-    } else {
-        0
-    }
-}
-
 /// Returns the entries of at most `n` objects from number `from` on, as far as the list goes. A loop over the result
 /// needs no bounds checks.
 pub(crate) fn block_of(numbers: &[u32], from: u32, n: usize) -> &[u32]
@@ -74,7 +64,7 @@ fn first_unmet_in(heights: &[u32], refs: &[u64], wanted: Wanted) -> Option<usize
         (IsFirstUnmetBy heights.now wanted refs.now) }
 {
     for (i, m) in refs.iter().enumerate() {
-        if !wanted.meets(height_at(heights, *m)) {
+        if !wanted.meets(entry_or(heights, *m, 0)) {
             return Some(i);
         }
     }
@@ -137,7 +127,7 @@ pub(crate) fn check_dict_refs<P: Framed>(
     ensures apart { HonestlyIn (P.means src.old) (λ f F. IfOk result (λ _. IsTrue names.new.apart → HaveStamps f F head.now head.now.count names.new.last.items)) }
 {
     let _frame = src.frame();
-    let wanted = Wanted::VouchedBelow(height_at(heights, n.0 as u64));
+    let wanted = Wanted::VouchedBelow(entry_or(heights, n.0 as u64, 0));
     let refs = refs_of(head);
     let mut buffer = [0u64; BLOCK];
     let mut seen = 0u64;

@@ -13,12 +13,13 @@ ghost use Rattle.bplist_cert.specs.Prelude.{AreKnown, AreListed, IsListed, HaveG
 
 use crate::caches::{LowBytesCache, OrderedPairsCache};
 use crate::certificate::KeyLists;
-use crate::heights::{block_of, height_at};
+use crate::heights::block_of;
 use crate::key_names::KeyNames;
 use crate::key_order::order_fault;
 use crate::key_rules::{Dictionary, check_key_repeats, check_texts};
 use crate::refusal::Refusal;
 use bplist_objects::{Framed, Kind, ObjectFault, ObjectNo, Offsets, object_shape, shape_in};
+use bplist_octets::entry_or;
 use std::alloc::{AllocError, Global};
 
 /// The vouched objects with numbers below `bound`, all of which keep the rules before those of keys, and the key lists.
@@ -264,10 +265,10 @@ pub(crate) fn check_key_orders<P: Offsets>(
         return Ok(());
     }
     for n in 0..seen.bound {
-        let height = height_at(seen.heights, n as u64);
+        let height = entry_or(seen.heights, n as u64, 0);
         if may_be_wrong(
             height,
-            height_at(&keys.starts, n as u64),
+            entry_or(&keys.starts, n as u64, 0),
             keys.positions.len(),
         ) {
             check_dict_order(src, seen, keys, n, look)?;

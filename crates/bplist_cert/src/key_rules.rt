@@ -17,13 +17,12 @@ ghost use Rattle.bplist_cert.specs.Prelude.{lists, KeepBeforeKeysBelow, IsVouche
 ghost use Rattle.bplist_cert.specs.Prelude.{HaveGoodKeys, BreaksKeys, IsFirstKeysFault, Judges, refused_read};
 
 use crate::caches::LowBytesCache;
-use crate::heights::height_at;
 use crate::key_lists::VouchedPrefix;
 use crate::key_names::{KeyNames, seen_keys};
 use crate::refusal::Refusal;
 use bplist_keys::{ClassTable, KeyDefect, KeyNumbers, NamedKeys, classes_of, object_text};
 use bplist_objects::{Head, Kind, ObjectFault, ObjectNo, Offsets, RefBlocks, object_shape};
-use bplist_octets::ReadFault;
+use bplist_octets::{ReadFault, entry_or};
 use std::alloc::{AllocError, Global};
 
 /// All places are worth their memory if at least one object in this many is a key.
@@ -182,7 +181,7 @@ fn check_named<P: Offsets>(
         low: LowBytesCache::new(src.len()),
     };
     for n in 0..seen.bound {
-        if height_at(seen.heights, n as u64) > 1 {
+        if entry_or(seen.heights, n as u64, 0) > 1 {
             check_dict_repeats(src, seen, n, &mut look)?;
         }
     }

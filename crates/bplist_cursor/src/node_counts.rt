@@ -16,7 +16,7 @@ use crate::faults::{CursorFault, Unread};
 use crate::node::{Node, checked_head};
 use bplist_cert::Checked;
 use bplist_objects::{Head, ObjectNo, RefBlocks};
-use bplist_octets::Source;
+use bplist_octets::{Source, entry_or};
 use std::alloc::Global;
 
 /// Returns the objects that are higher than this, by number.
@@ -58,24 +58,13 @@ pub(crate) fn in_order<S: Source>(
     Ok(order)
 }
 
-/// Returns the table's count for an object, or 0 for an object outside the table.
-fn count_at(counts: &[u64], n: u64) -> u64
-    ensures { result ≡ slice_index counts.now n }
-{
-    if n < counts.len() as u64 {
-        counts[n as usize]
-    } else {
-        0
-    }
-}
-
 /// Adds the counts of these objects to the total. Returns 18446744073709551615 if the sum is greater.
 fn add_counts(counts: &[u64], objects: &[u64], start: u64) -> u64
     ensures { result ≡ cap (start + sum_by (slice_index counts.now) objects.now) }
 {
     let mut total = start;
     for n in objects {
-        total = total.saturating_add(count_at(counts, *n));
+        total = total.saturating_add(entry_or(counts, *n, 0));
     }
     total
 }
@@ -176,5 +165,5 @@ pub fn count_nodes<S: Source>(
         return Err(CursorFault::Changed);
     }
     let counts = count_all(alloc, checked)?;
-    Ok(count_at(&counts, node.object.0 as u64))
+    Ok(entry_or(&counts, node.object.0 as u64, 0))
 }

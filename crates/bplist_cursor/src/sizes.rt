@@ -7,7 +7,7 @@ ghost use Rattle.std.specs.Prelude.{◌≡◌, ◌≤◌, ◌+◌, ◌*◌, leng
 ghost use Rattle.bplist_cursor.specs.Prelude.{joined, HonestlyChecked, IsSafeBody, IsTextKind, GivesRead, read_failed};
 ghost use Rattle.bplist_cursor.specs.Prelude.{OnlyReadsFile, cap, Value, Leaf, Content, Spells, leaf, refs, content_at};
 ghost use Rattle.bplist_cursor.specs.Prelude.{Holds, IsSafeHead, IsValid, GivesCursor, cursor_read, leaf_text};
-ghost use Rattle.bplist_cursor.specs.Prelude.{form_of_text, size_of, size_in, added, IsSized, AreMeasures};
+ghost use Rattle.bplist_cursor.specs.Prelude.{form_of_text, size_of, added, IsSized, AreMeasures};
 ghost use Rattle.bplist_cursor.specs.Prelude.{TakeOctets, Takes, item_size, pass_bytes, ref_count};
 ghost use Rattle.bplist_cursor.specs.Prelude.{punctuation_of, AreInside, IsOrder, IsEmpty, AreSet, Size as size};
 ghost use Rattle.bplist_cursor.specs.Sizes.{both, nodes_in, form_in};
@@ -21,7 +21,7 @@ use crate::node::checked_head;
 use crate::node_counts::in_order;
 use bplist_cert::Checked;
 use bplist_objects::{Head, Kind, ObjectNo, RefBlocks, UnitBlocks};
-use bplist_octets::Source;
+use bplist_octets::{Source, entry_or};
 use std::alloc::Global;
 use std::marker::Model;
 
@@ -176,24 +176,13 @@ pub(crate) fn text_length<S: Source>(checked: &mut Checked<S>, head: &Head) -> R
     })
 }
 
-/// Returns the table's entry for an object, or None if the table has none.
-fn size_at(sizes: &[Option<Size>], n: u64) -> Option<Size>
-    ensures { result ≡ size_in sizes.now n }
-{
-    if n < sizes.len() as u64 {
-        sizes[n as usize]
-    } else {
-        None
-    }
-}
-
 /// Adds the sizes of these objects to `start`. Returns None if the table lacks one of them.
 fn add_sizes(sizes: &[Option<Size>], refs: &[u64], start: Size) -> Option<Size>
     ensures { result ≡ added sizes.now start refs.now }
 {
     let mut total = start;
     for m in refs {
-        total = total.and(size_at(sizes, *m)?);
+        total = total.and(entry_or(sizes, *m, None)?);
     }
     Some(total)
 }

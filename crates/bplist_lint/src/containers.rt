@@ -10,12 +10,11 @@ ghost use Rattle.bplist_lint.specs.Prelude.{AreNamed, AreClasses, Judges, refuse
 ghost use Rattle.bplist_lint.specs.Prelude.{refs_at, IsVouchedBy, from_bool, AreMeasured, HasHeight, AreFinished};
 
 use crate::graph::{BLOCK, shape_there};
-use crate::key_rules::number_at;
 use crate::walk::keys_among;
 use bplist_cert::Refusal;
 use bplist_keys::{ClassTable, KeyNumbers, numbers_of};
 use bplist_objects::{Framed, Offsets, read_refs_in, refs_of};
-use bplist_octets::ReadFault;
+use bplist_octets::{ReadFault, entry_or};
 use std::alloc::Global;
 
 /// Returns the greatest height of these objects, or 0 if there are none. Returns None if one of them has no height.
@@ -24,7 +23,7 @@ fn greatest_height(heights: &[u32], numbers: &[u64]) -> Option<u32>
 {
     let mut best = 0;
     for m in numbers {
-        let height = number_at(heights, *m);
+        let height = entry_or(heights, *m, 0);
         if height == 0 {
             return None;
         }

@@ -17,6 +17,7 @@ use crate::answer::UpgradeFault;
 use bplist_cert::Refusal;
 use bplist_keys::{ClassTable, KeyNumbers, NamedKeys, classes_of};
 use bplist_objects::{Failure, Framed, Head, Kind, ObjectNo, Offsets, RefBlocks, object_shape};
+use bplist_octets::entry_or;
 use std::alloc::{AllocError, Global};
 
 /// A key of a dictionary: the rank of its text, or 0 if it has none, and its number among the keys in written order.
@@ -67,17 +68,6 @@ impl KeySorting {
     }
 }
 
-/// Returns the number of object `m` in a list of numbers, or 0 if there is no such object.
-pub(crate) fn number_at(numbers: &[u32], m: u64) -> u32
-    ensures { result ≡ slice_index numbers.now m }
-{
-    if m < numbers.len() as u64 {
-        numbers[m as usize]
-    } else {
-        0
-    }
-}
-
 /// Appends the keys with these references.
 fn push_keys(ranks: &[u32], numbers: &[u64], keys: &mut Vec<RankedKey>) -> Result<(), AllocError>
     requires { length keys.old.items + length numbers.now < 2 ^ 32 }
@@ -89,7 +79,7 @@ fn push_keys(ranks: &[u32], numbers: &[u64], keys: &mut Vec<RankedKey>) -> Resul
 {
     for m in numbers {
         let position = keys.len() as u32;
-        let rank = number_at(ranks, *m);
+        let rank = entry_or(ranks, *m, 0);
         keys.push(RankedKey { rank, position })?;
     }
     Ok(())

@@ -34,7 +34,7 @@ returns-in_err-check_dict_order-clause-exact g c = λ honest seen lists.
     let v = c.loop-n.invariant in
     let n = c.loop-n.n in
     let before = v.exact honest seen lists in
-    let here : IsVouchedBy c.args.seen.now.heights.now n = omega (arith, c.height_at-height.ensures, c.may_be_wrong.ensures.vouched c.if-may_be_wrong.true) in
+    let here : IsVouchedBy c.args.seen.now.heights.now n = omega (arith, c.entry_or-height.ensures, c.may_be_wrong.ensures.vouched c.if-may_be_wrong.true) in
     let given = (rw v.reads at c.in_err-check_dict_order.ensures.exact) honest c.loop-n-test.true here seen before.0 in
     let p = err_from_is_err_and c.from_residual.result c.from_residual.ensures.1 in
     rw (p.1, p.2) (given_weaker _ _ c.in_err-check_dict_order.field-0.0 (λ fault h. record {
@@ -57,7 +57,7 @@ loop-n-preserved g c =
         reads = rw w.src-is (w.in_ok-check_dict_order.ensures.reads ∙ v.reads);
         exact = λ honest seen lists.
             let before = v.exact honest seen lists in
-            let here : IsVouchedBy heights n = omega (arith, c.height_at-height.ensures, c.may_be_wrong.ensures.vouched w.if-may_be_wrong.true) in
+            let here : IsVouchedBy heights n = omega (arith, c.entry_or-height.ensures, c.may_be_wrong.ensures.vouched w.if-may_be_wrong.true) in
             let good = (rw v.reads at w.in_ok-check_dict_order.ensures.exact) honest c.loop-n-test.true here seen before.0 in (
               rw w.look-is good.0,
               λ m low vouched. elim (cases_eq m n) [
@@ -76,9 +76,9 @@ loop-n-preserved g c =
                     let here = subst (IsVouchedBy heights) e vouched in
                     let starts = c.deref.ensures.value ∙ ap (λ (x : Keyed). x.starts) c.keys.view_is in
                     let positions = ap (λ (x : Keyed). length x.positions) c.keys.view_is in
-                    let none = c.may_be_wrong.ensures.none w.if-may_be_wrong.false (omega (arith, c.height_at-height.ensures, here)) in
-                    let low_height : slice_index heights n ≤ 1 = omega (arith, c.height_at-height.ensures, none.0) in
-                    let whole : IsCompleteList c.args.keys.now n 0 = omega (arith, c.height_at.ensures ∙ ap (λ xs. slice_index xs n) starts, none.1, c.len.ensures, positions) in
+                    let none = c.may_be_wrong.ensures.none w.if-may_be_wrong.false (omega (arith, c.entry_or-height.ensures, here)) in
+                    let low_height : slice_index heights n ≤ 1 = omega (arith, c.entry_or-height.ensures, none.0) in
+                    let whole : IsCompleteList c.args.keys.now n 0 = omega (arith, c.entry_or.ensures ∙ ap (λ xs. slice_index xs n) starts, none.1, c.len.ensures, positions) in
                     subst (HasGoodKeys f F (Some c.args.keys.now)) (sym e) (low_list f F heights n (seen n c.loop-n-test.true here) c.args.keys.now low_height whole)
                 | inr d ↦ before.1 m (omega (arith, low, d)) vouched
               ],

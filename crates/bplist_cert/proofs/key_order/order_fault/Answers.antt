@@ -16,8 +16,8 @@ returns-in-None-clause-exact g c = λ honest known.
     let n = c.args.dict.now.n.0 in
     let found = (rw c.in-None.is at c.in_ok-first_unordered.ensures.exact) honest known in
     let positions : c.deref-2.result.now ≡ keyed.positions = c.deref-2.ensures.value ∙ ap (λ (k : Keyed). k.positions) c.keys.view_is in
-    let start : c.height_at-start.result ≡ slice_index keyed.starts n =
-    c.height_at-start.ensures ∙ ap (λ xs. slice_index xs n) (c.deref.ensures.value ∙ ap (λ (k : Keyed). k.starts) c.keys.view_is) in
+    let start : c.entry_or-start.result ≡ slice_index keyed.starts n =
+    c.entry_or-start.ensures ∙ ap (λ xs. slice_index xs n) (c.deref.ensures.value ∙ ap (λ (k : Keyed). k.starts) c.keys.view_is) in
     let list : c.part_of-list.result.now ≡ list_of keyed n head.count = c.part_of-list.ensures.part ∙ ap₂ (λ xs p. part xs p head.count) positions start in
     let whole : slice_index keyed.starts n + head.count ≤ length keyed.positions =
     omega (arith, c.if-start-dict.false, c.len.ensures, c.deref-2.ensures.len, ap length positions, start) in
@@ -33,11 +33,11 @@ returns-in-Some-clause-exact g c = λ honest known.
     let found = (rw c.in-Some.is at c.in_ok-first_unordered.ensures.exact) honest known in
     let objects : c.frame-count.result.objects ≡ F.objects = ap (λ (x : Frame). x.objects) c.frame-count.ensures.frame in
     let positions : c.deref-2.result.now ≡ keyed.positions = c.deref-2.ensures.value ∙ ap (λ (k : Keyed). k.positions) c.keys.view_is in
-    let start : c.height_at-start.result ≡ slice_index keyed.starts n =
-    c.height_at-start.ensures ∙ ap (λ xs. slice_index xs n) (c.deref.ensures.value ∙ ap (λ (k : Keyed). k.starts) c.keys.view_is) in
+    let start : c.entry_or-start.result ≡ slice_index keyed.starts n =
+    c.entry_or-start.ensures ∙ ap (λ xs. slice_index xs n) (c.deref.ensures.value ∙ ap (λ (k : Keyed). k.starts) c.keys.view_is) in
     let list : c.part_of-list.result.now ≡ list_of keyed n head.count = c.part_of-list.ensures.part ∙ ap₂ (λ xs p. part xs p head.count) positions start in
     let whole : slice_index keyed.starts n + head.count ≤ length keyed.positions =
     omega (arith, c.if-start-dict.false, c.len.ensures, c.deref-2.ensures.len, ap length positions, start) in
-    let place : 16 + 8 * c.frame-count.result.objects + 4 * (c.height_at-start.result + c.in-Some.j) ≡ 16 + 8 * F.objects + 4 * (slice_index keyed.starts n + c.in-Some.j) =
+    let place : 16 + 8 * c.frame-count.result.objects + 4 * (c.entry_or-start.result + c.in-Some.j) ≡ 16 + 8 * F.objects + 4 * (slice_index keyed.starts n + c.in-Some.j) =
     omega (arith, objects, start) in
     (found.0, λ texts. (refl, refl, inr (whole, (c.in-Some.j, subst (λ xs. FailsAt (AreInOrder f F head xs) head.count c.in-Some.j) list (found.1 texts), place))))

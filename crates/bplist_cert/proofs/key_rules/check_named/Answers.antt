@@ -9,7 +9,7 @@ use Rattle.bplist_cert.specs.KeyRepeats.{HasGoodKeys, BreaksKeys}
 use Rattle.bplist_cert.proofs.KeyRepeats.{keys_classed, good_low, good_stamped}
 use Rattle.bplist_cert.proofs.CheckSteps.{refused_weaker, vouched_inside}
 use Rattle.bplist_cert.proofs.key_rules.check_named.Goals as goal
-use Rattle.bplist_cert.proofs.key_rules.check_named.Goals.{then-height_at-gt1+in_ok-check_dict_repeats, else-height_at-gt1}
+use Rattle.bplist_cert.proofs.key_rules.check_named.Goals.{then-entry_or-gt1+in_ok-check_dict_repeats, else-entry_or-gt1}
 
 pub returns-in_err-check_dict_repeats-clause-exact : goal.returns-in_err-check_dict_repeats-clause-exact
 returns-in_err-check_dict_repeats-clause-exact g c = λ honest seen named stamped.
@@ -19,7 +19,7 @@ returns-in_err-check_dict_repeats-clause-exact g c = λ honest seen named stampe
     let n = c.loop-n.n in
     let before = v.exact honest seen named in
     let table_is : c.loop-n.look.table.classes.table.items ≡ c.in_ok-classes.classes.table.items = v.same ∙ c.in_ok-new.ensures.classes in
-    let here : IsVouchedBy c.args.seen.now.heights.now n = omega (arith, c.height_at.ensures, c.if-height_at-gt1.true) in
+    let here : IsVouchedBy c.args.seen.now.heights.now n = omega (arith, c.entry_or.ensures, c.if-entry_or-gt1.true) in
     let judged = (rw (v.reads, table_is) at c.in_err-check_dict_repeats.ensures.exact) honest c.loop-n-test.true here seen
     (keys_classed f F _ c.in_ok-classes.classes.table.items n (c.in_ok-classes.ensures.exact honest) (named.1 n c.loop-n-test.true here)) (new_low n _ (v.stamps honest)) before.0 in
     let p = err_from_is_err_and c.from_residual-in_err-check_dict_repeats.result c.from_residual-in_err-check_dict_repeats.ensures.1 in
@@ -38,10 +38,10 @@ loop-n-preserved g c =
     let heights = c.args.seen.now.heights.now in
     let v = c.loop-n.invariant in
     let n = c.loop-n.n in
-    elim c.if-height_at-gt1.branch [
-      | then-height_at-gt1+in_ok-check_dict_repeats w ↦
+    elim c.if-entry_or-gt1.branch [
+      | then-entry_or-gt1+in_ok-check_dict_repeats w ↦
           let table_is : c.loop-n.look.table.classes.table.items ≡ c.in_ok-classes.classes.table.items = v.same ∙ c.in_ok-new.ensures.classes in
-          let here : IsVouchedBy heights n = omega (arith, c.height_at.ensures, w.if-height_at-gt1.true) in
+          let here : IsVouchedBy heights n = omega (arith, c.entry_or.ensures, w.if-entry_or-gt1.true) in
           record {
             reads = rw w.src-is (w.in_ok-check_dict_repeats.ensures.reads ∙ v.reads);
             same = rw w.look-is (w.in_ok-check_dict_repeats.ensures.same ∙ v.same);
@@ -57,7 +57,7 @@ loop-n-preserved g c =
                   ],
                 );
           }
-      | else-height_at-gt1 w ↦ record {
+      | else-entry_or-gt1 w ↦ record {
         reads = rw w.src-is v.reads;
         same = rw w.look-is v.same;
         stamps = λ honest x. rw w.look-is (let l = v.stamps honest x in omega (arith, l));
@@ -65,7 +65,7 @@ loop-n-preserved g c =
             let before = v.exact honest seen named in (
               rw w.look-is before.0,
               λ m low vouched. elim (cases_eq m n) [
-                | inl e ↦ good_low f F heights m (seen m (omega (arith, e, c.loop-n-test.true)) vouched) (rw e (omega (arith, c.height_at.ensures, w.if-height_at-gt1.false)))
+                | inl e ↦ good_low f F heights m (seen m (omega (arith, e, c.loop-n-test.true)) vouched) (rw e (omega (arith, c.entry_or.ensures, w.if-entry_or-gt1.false)))
                 | inr d ↦ before.1 m (omega (arith, low, d)) vouched
               ],
             );

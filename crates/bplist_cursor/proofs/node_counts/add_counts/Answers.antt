@@ -8,7 +8,7 @@ loop-n-preserved c =
     let next = sum_by-drop_more (slice_index c.args.counts.now) c.args.objects.now c.loop-n.n-index 0 c.loop-n-test.true in
     record {
       fits = omega (arith, c.saturating_add-total.ensures);
-      left = omega (arith, next, c.loop-n.invariant.left, c.count_at.ensures, c.saturating_add-total.ensures);
+      left = omega (arith, next, c.loop-n.invariant.left, c.entry_or.ensures, c.saturating_add-total.ensures);
     }
 
 pub returns : goal.returns

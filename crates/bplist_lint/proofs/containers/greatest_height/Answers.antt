@@ -8,7 +8,7 @@ loop-m-preserved c =
     let i = c.loop-m.invariant in
     let heights = c.args.heights.now in
     let m = slice_index c.args.numbers.now c.loop-m.m-index in
-    let some : 0 < slice_index heights m = omega (arith, c.number_at-height.ensures, c.if-height-eq0.false) in
+    let some : 0 < slice_index heights m = omega (arith, c.entry_or-height.ensures, c.if-height-eq0.false) in
     let best : c.max-best.result ≡ max c.loop-m.best (slice_index heights m) = grind (arith, common_steps) in
     record {
       each = below_more _ _ i.each some;
