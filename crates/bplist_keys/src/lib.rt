@@ -25,6 +25,7 @@
 //! | grouping | the order of texts: groups that share their first units, split until each is settled |
 //! | pivot | how the texts of a group compare with one of them, as numbers that are sorted in memory |
 //! | long_texts | [`LongTexts`], ranks of long texts in a table of fixed size |
+//! | window_length | how many of the pivot's units a split has in memory |
 //! | run_cache | [`RunCache`], what earlier comparisons found of texts that overlap, so that shared units are not read again |
 #![tactic(auto)]
 
@@ -37,6 +38,7 @@ mod pivot;
 mod ranks;
 mod run_cache;
 mod text;
+mod window_length;
 
 pub use class_table::{ClassTable, KeyDefect};
 pub use classes::classes_of;
