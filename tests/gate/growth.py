@@ -54,9 +54,6 @@ EACH_OF = {
     "keys_of_one_fingerprint": {"check FILE, version 2": 140, "get FILE": 140},
     "keys_of_our_fingerprint": {"check FILE, version 2": 140, "get FILE": 140},
     "keys_over_keys_vouched": {"check FILE, version 1": 40, "check FILE, version 2": 40},
-    # A split parts one key from all others, and each visit of a key reads its head and its next units: two jumps.
-    "keys_that_peel": {"certify --sorted FILE": 350},
-    "keys_of_one_length_that_peel": {"lint FILE": 200, "check FILE, version 1": 200, "certify --sorted FILE": 400},
     # At 64 kB the keys are just too short for a rank, so that each pair is compared.
     "pairs_of_keys": {"check-2": 20},
 }
