@@ -24,24 +24,24 @@ pub struct RefBlocks {
     head: Head,
     /// How many of the object's references are to be read.
     bound: u64,
-    /// The number of the first reference of the block.
-    first: u64,
     /// The number of the reference after the block.
     next: u64,
+    /// How many references the block has.
+    held: usize,
     block: [u64; BLOCK],
 }
 
 impl Model for RefBlocks {
-    ghost use Rattle.std.specs.Prelude.{◌+◌, ◌-◌, ◌≤◌, take};
+    ghost use Rattle.std.specs.Prelude.{◌-◌, ◌≤◌, take};
     ghost use Rattle.bplist_objects.specs.Safe.{ref_count};
     ghost use Rattle.bplist_objects.specs.RefBlocks.{RefReading};
 
     ghost Value = { RefReading };
 
-    ghost view = { λ r. record { head = r.head; bound = r.bound; first = r.first; next = r.next;
-        block = take (r.next - r.first) r.block } };
+    ghost view = { λ r. record { head = r.head; bound = r.bound; first = r.next - r.held; next = r.next;
+        block = take r.held r.block } };
 
-    ghost invariant = { λ r. (r.first ≤ r.next) × (r.next ≤ r.bound) × (r.next ≤ r.first + 32)
+    ghost invariant = { λ r. (r.held ≤ r.next) × (r.held ≤ 32) × (r.next ≤ r.bound)
         × (r.bound ≤ ref_count r.head.kind r.head.count) };
 }
 
@@ -79,8 +79,8 @@ impl RefBlocks {
         RefBlocks {
             head: *head,
             bound: refs_of(head),
-            first: 0,
             next: 0,
+            held: 0,
             block: [0; BLOCK],
         }
     }
@@ -95,8 +95,8 @@ impl RefBlocks {
         RefBlocks {
             head: *head,
             bound: head.count,
-            first: 0,
             next: 0,
+            held: 0,
             block: [0; BLOCK],
         }
     }
@@ -124,7 +124,7 @@ impl RefBlocks {
         let head = self.head;
         let count = (self.bound - self.next).min(BLOCK as u64);
         read_front(src, &head, self.next, &mut self.block, count as usize)?;
-        self.first = self.next;
+        self.held = count as usize;
         self.next += count;
         Ok(true)
     }
@@ -134,7 +134,7 @@ impl RefBlocks {
     pub fn first(&self) -> u64
         ensures { result ≡ self.now.first }
     {
-        self.first
+        self.next - self.held as u64
     }
 
     /// Returns the references of the block that was read last.
@@ -142,6 +142,6 @@ impl RefBlocks {
     pub fn block(&self) -> &[u64]
         ensures { result.now ≡ self.now.block }
     {
-        &self.block[..(self.next - self.first) as usize]
+        &self.block[..self.held]
     }
 }

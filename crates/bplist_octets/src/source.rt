@@ -69,18 +69,8 @@ impl<'a> Source for SliceSource<'a> {
         self.octets.len() as u64
     }
 
-    fn read_at(&mut self, at: u64, into: &mut [u8]) -> Result<(), ReadFault>
-        requires { at + length into.old ≤ length (⟦<SliceSource<'a> as Source>⟧.means self.old).octets }
-        ensures reads { OnlyReads (result_err result) (⟦<SliceSource<'a> as Source>⟧.means self.old)
-            (⟦<SliceSource<'a> as Source>⟧.means self.new) }
-        ensures filled { OnOk result (IsTrue (⟦<SliceSource<'a> as Source>⟧.means self.old).honest
-            → into.new ≡ part (⟦<SliceSource<'a> as Source>⟧.means self.old).octets at (length into.old)) }
-        ensures asks { ⟦<SliceSource<'a> as Source>⟧.asked self.new ≤ ⟦<SliceSource<'a> as Source>⟧.asked self.old + length into.old }
-        ensures never_fails { result ≡ Ok tt }
-        ensures same { self.new ≡ self.old }
-    {
-        let start = at as usize;
-        into.copy_from_slice(&self.octets[start..start + into.len()]);
+    fn read_at(&mut self, at: u64, into: &mut [u8]) -> Result<(), ReadFault> {
+        self.read(at, into);
         Ok(())
     }
 }
@@ -92,6 +82,15 @@ impl<'a> SliceSource<'a> {
         ensures means { ⟦<SliceSource<'a> as Source>⟧.means result ≡ source_over octets.entry }
     {
         SliceSource { octets }
+    }
+
+    /// Fills `into` with the bytes from place `at` on. All of them must be inside the source.
+    pub fn read(&self, at: u64, into: &mut [u8])
+        requires { at + length into.old ≤ length (⟦<SliceSource<'a> as Source>⟧.means self.now).octets }
+        ensures { into.new ≡ part (⟦<SliceSource<'a> as Source>⟧.means self.now).octets at (length into.old) }
+    {
+        let start = at as usize;
+        into.copy_from_slice(&self.octets[start..start + into.len()]);
     }
 
     /// Returns the `n` bytes from place `at` on, without a copy. All of them must be inside the source.
