@@ -33,8 +33,8 @@ use Rattle.bplist_cert.specs.Heights.{AreMet, AreLower, IsHeightFault, IsUnmetFa
 use Rattle.bplist_objects.specs.Claims.{FailsAt}
 use Rattle.bplist_cert.specs.DictKeys.{KeysAreTexts, KeysDiffer, IsKeylessFault}
 use Rattle.bplist_cert.specs.CheckRules.{Asks, KeepsRule, BreaksRule, KeepsCheck, IsCheckFault, check_rules, rules_before_keys, key_rules, KeepsLast}
-use Rattle.bplist_cert.specs.declared.checker.Pass.{Pass}
-use Rattle.bplist_cert.specs.declared.checker.Pass.TheVariants.{Quick, Exact}
+use Rattle.bplist_cert.specs.declared.walk.Pass.{Pass}
+use Rattle.bplist_cert.specs.declared.walk.Pass.TheVariants.{Quick, Exact}
 use Rattle.bplist_cert.specs.Looks.{KeepsBeforeKeys, KeepBeforeKeysBelow, IsShown, IsShownFault}
 use Rattle.bplist_cert.specs.KeyRepeats.{HasGoodKeys, BreaksKeys, IsFirstKeysFault}
 use Rattle.bplist_cert.specs.PairFault.{IsCheckedObject, AreCheckedBelow, IsWalkFault, IsSeenFault, IsVouchedFault, IsPairFault}

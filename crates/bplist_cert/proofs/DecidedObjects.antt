@@ -23,7 +23,7 @@ use Rattle.bplist_objects.proofs.HeadTies.{kept_announces}
 use Rattle.bplist_objects.specs.Scan.{ref}
 use Rattle.bplist_cert.specs.declared.heights.Wanted.{Wanted}
 use Rattle.bplist_cert.specs.declared.heights.Wanted.TheVariants.{Vouched, Below, VouchedBelow}
-use Rattle.bplist_cert.specs.declared.checker.Pass.TheVariants.{Exact}
+use Rattle.bplist_cert.specs.declared.walk.Pass.TheVariants.{Exact}
 use Rattle.bplist_cert.specs.Lists.{Keyed, Lists, lists, list_of}
 use Rattle.bplist_cert.specs.Valid.{IsVouchedBy}
 use Rattle.bplist_cert.specs.Heights.{Meets, AreMet, IsFirstUnmet, IsHeightFault}

@@ -1,7 +1,9 @@
 -- What the classes of the keys of a vouched dictionary say about the keys.
-use Rattle.std.proofs.Common.{Bool, not, IsTrue, Option, Some, None, MatchOption, is_some, ◌≡◌, ℕ, ◌*◌, ◌<◌, ◌≤◌, List, suc, [], ◌∷◌, inl, inr, length, slice_index, count_by, sym, ap, ◌∙◌, subst, arith}
-use Rattle.std.proofs.lemmas.Bool.{false≢true, cases_lt}
-use Rattle.std.proofs.lemmas.List.{get_or_past}
+use Rattle.std.proofs.Common.{Bool, not, IsTrue, Option, Some, None, MatchOption, is_some, ◌≡◌, ℕ, ◌*◌, ◌<◌, ◌≤◌, List, suc, zero, nat_lt, false, take, [], ◌∷◌, inl, inr, length, slice_index, slice_index_or, count_by, sym, ap, ◌∙◌, subst, arith}
+use Rattle.std.proofs.Math.Numerals.{add-one}
+use Rattle.std.proofs.lemmas.Bool.{false≢true, cases_eq, cases_lt, cases_Bool, le-ltb, lt-ltb}
+use Rattle.std.proofs.lemmas.List.{get_or_past, take_all}
+use Rattle.std.proofs.lemmas.List.Sums.{count_by_more_yes, count_by_more_no}
 use Rattle.bplist_objects.specs.declared.rule.Rule.{Rule}
 use Rattle.bplist_objects.specs.declared.rule.Rule.TheVariants as rules
 use Rattle.bplist_objects.specs.declared.fault.Fault.{Fault}
@@ -18,6 +20,7 @@ use Rattle.bplist_objects.specs.Units.{units_of}
 use Rattle.bplist_objects.proofs.RuleLaws.{kept_all_parts}
 use Rattle.bplist_objects.proofs.BodyLaws.{HasHead-unique}
 use Rattle.bplist_objects.proofs.HeadTies.{shape_announced}
+use Rattle.bplist_keys.specs.Marks.{IsMarked}
 use Rattle.bplist_keys.specs.Texts.{text_units}
 use Rattle.bplist_keys.specs.Ranks.{AreClasses}
 use Rattle.bplist_keys.specs.declared.class_table.KeyDefect.{KeyDefect}
@@ -34,11 +37,11 @@ use Rattle.bplist_objects.specs.Scan.{ref}
 use Rattle.bplist_cert.specs.Valid.{IsVouchedBy}
 use Rattle.bplist_cert.specs.Looks.{KeepsBeforeKeys, KeepBeforeKeysBelow}
 use Rattle.bplist_cert.specs.KeyRepeats.{KeysAreSound, HasGoodKeys}
-use Rattle.bplist_cert.specs.Walks.{HaveOwnNumbers, HaveStamps}
+use Rattle.bplist_cert.specs.Walks.{AreOwn, HasKeysApart}
 use Rattle.bplist_cert.proofs.TextObjects.{text_there}
 
 -- a number that is not 0 is in the list
-vouched_below : (numbers : List ℕ) (n : ℕ) → 0 < slice_index numbers n → n < length numbers
+pub vouched_below : (numbers : List ℕ) (n : ℕ) → 0 < slice_index numbers n → n < length numbers
 vouched_below numbers n some = elim (cases_lt n (length numbers)) [
   | inl a ↦ a
   | inr b ↦ absurd (let none = get_or_past numbers n 0 b in omega (arith, some, none))
@@ -160,22 +163,61 @@ module _ (f : List ℕ) (F : Frame) where
           let t = classed.only k low (some k under) in
           (t.0, text_there f F m framed (inside k low) t.0 (shape_announced f F m t.0 t.1.0) (sound k low (inside k low)) t.1.1)
 
--- if each object with a stamp has a class of its own, keys that are different objects with stamps are good
-pub good_stamped : (f : List ℕ) (F : Frame) (heights : List ℕ) → IsFrame f F → KeepBeforeKeysBelow f F heights F.objects → (named : List Bool) (classes last : List ℕ)
-    → AreClasses f F named classes → HaveOwnNumbers last classes (length last) → (n : ℕ) → n < F.objects → IsVouchedBy heights n → HasNamedKeys f F named n
-    → ((head : Head) → HasHead f F n head → head.kind ≡ Dict → HaveStamps f F head head.count last) → HasGoodKeys f F None n
-good_stamped f F heights framed seen named classes last are own n within vouched named_keys stamped head has dict =
+-- if only marks have numbers above 0, there are no more of these than of marks; and if there are as many, each mark has one
+counted : (marks : List Bool) (numbers : List ℕ) → length numbers ≡ length marks → ((m : ℕ) → 0 < slice_index numbers m → IsMarked marks m) → (n : ℕ) → n ≤ length marks
+    → (count_by (nat_lt 0) (take n numbers) ≤ count_by (λ marked. marked) (take n marks))
+    × (count_by (λ marked. marked) (take n marks) ≤ count_by (nat_lt 0) (take n numbers) → (m : ℕ) → m < n → IsMarked marks m → 0 < slice_index numbers m)
+counted marks numbers same only zero few = (omega arith, λ enough m low. absurd (omega (arith, low)))
+counted marks numbers same only (suc n) few = let before = counted marks numbers same only n (omega (arith, few)) in elim (cases_lt 0 (slice_index numbers n)) [
+  | inl some ↦
+      let a = rw (add-one n) at (count_by_more_yes (nat_lt 0) numbers n 0 (omega (arith, few, same)) (lt-ltb 0 (slice_index numbers n) some)) in
+      let b = rw (add-one n) at (count_by_more_yes (λ marked. marked) marks n false (omega (arith, few)) (only n some)) in (
+        omega (arith, a, b, before.0),
+        λ enough m low marked. elim (cases_eq m n) [
+          | inl e ↦ subst (λ x. 0 < slice_index numbers x) (sym e) some
+          | inr d ↦ before.1 (omega (arith, enough, a, b)) m (omega (arith, low, d)) marked
+        ],
+      )
+  | inr none ↦
+      let a = rw (add-one n) at (count_by_more_no (nat_lt 0) numbers n 0 (omega (arith, few, same)) (le-ltb 0 (slice_index numbers n) none)) in
+      elim (cases_Bool (slice_index_or marks n false)) [
+        | inl is ↦
+            let b = rw (add-one n) at (count_by_more_yes (λ marked. marked) marks n false (omega (arith, few)) is) in
+            (omega (arith, a, b, before.0), λ enough m low marked. absurd (omega (arith, enough, a, b, before.0)))
+        | inr is ↦
+            let b = rw (add-one n) at (count_by_more_no (λ marked. marked) marks n false (omega (arith, few)) is) in (
+              omega (arith, a, b, before.0),
+              λ enough m low marked. elim (cases_eq m n) [
+                | inl e ↦ absurd (false≢true (sym (subst (λ x. slice_index_or marks x false ≡ false) (sym e) is) ∙ marked))
+                | inr d ↦ before.1 (omega (arith, enough, a, b)) m (omega (arith, low, d)) marked
+              ],
+            )
+      ]
+]
+
+-- if as many objects have classes as are named, each that is named has one
+all_classed : (named : List Bool) (classes : List ℕ) → length classes ≡ length named → ((m : ℕ) → 0 < slice_index classes m → IsMarked named m)
+    → count_by (nat_lt 0) classes ≡ count_by (λ marked. marked) named → (m : ℕ) → m < length named → IsMarked named m → 0 < slice_index classes m
+all_classed named classes same only enough =
+    let front = ap (count_by (nat_lt 0)) (take_all (length named) classes (omega (arith, same))) in
+    let marks = ap (count_by (λ marked. marked)) (take_all (length named) named (omega arith)) in
+    (counted named classes same only (length named) (omega arith)).1 (omega (arith, enough, front, marks))
+
+-- if each named object has a class of its own, keys that are different objects are good
+pub good_apart : (f : List ℕ) (F : Frame) (heights : List ℕ) → IsFrame f F → KeepBeforeKeysBelow f F heights F.objects → (named : List Bool) (classes : List ℕ) → length named ≡ F.objects
+    → length classes ≡ F.objects → AreClasses f F named classes → AreOwn classes (count_by (λ marked. marked) named) → (n : ℕ) → n < F.objects → IsVouchedBy heights n → HasNamedKeys f F named n
+    → HasKeysApart f F n → HasGoodKeys f F None n
+good_apart f F heights framed seen named classes all_named all are (enough, own) n within vouched named_keys different head has dict =
     let classed = keys_classed f F named classes n are named_keys head has dict in
-    let stamps = stamped head has dict in
-    let inside : (k : ℕ) → k < head.count → ref f F head k < length last = λ k low. vouched_below last (ref f F head k) (stamps.0 k low) in
-    let some : HaveClasses (ref f F head) classes head.count = λ k low. own.0 (ref f F head k) (inside k low) (stamps.0 k low) in
+    let inside = keys_inside f F n (seen_own f F heights n (seen n within vouched)) head has dict in
+    let some : HaveClasses (ref f F head) classes head.count = λ k low.
+    all_classed named classes (omega (arith, all_named, all)) (λ m class. ((are.given m).0 class).0) enough (ref f F head k) (omega (arith, inside k low, all_named)) (named_keys head has dict k low) in
     let apart : HaveOwnClasses (ref f F head) classes head.count = λ i j less low same. elim (cases_lt (ref f F head i) (ref f F head j)) [
-      | inl under ↦ own.1 (ref f F head i) (ref f F head j) under (inside j low) (stamps.0 i (omega (arith, less, low))) (stamps.0 j low) same
+      | inl under ↦ own (ref f F head i) (ref f F head j) under (omega (arith, inside j low, all)) (some i (omega (arith, less, low))) same
       | inr over ↦
-          let under : ref f F head j < ref f F head i = omega (arith, over, stamps.1 i j less low) in
-          own.1 (ref f F head j) (ref f F head i) under (inside i (omega (arith, less, low))) (stamps.0 j low) (stamps.0 i (omega (arith, less, low))) (sym same)
+          let under : ref f F head j < ref f F head i = omega (arith, over, different head has dict i j less low) in
+          own (ref f F head j) (ref f F head i) under (omega (arith, inside i (omega (arith, less, low)), all)) (some j low) (sym same)
     ] in (
-      classed_texts f F head classes classed framed (sound_keys f F heights seen n within vouched head has dict)
-          (keys_inside f F n (seen_own f F heights n (seen n within vouched)) head has dict) head.count (omega arith) some,
+      classed_texts f F head classes classed framed (sound_keys f F heights seen n within vouched head has dict) inside head.count (omega arith) some,
       apart_differ f F head classes classed head.count (omega arith) apart,
     )

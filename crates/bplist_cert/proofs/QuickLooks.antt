@@ -1,5 +1,5 @@
 -- What a quick look at the body of object n shows.
-use Rattle.std.proofs.Common.{◌≡◌, ℕ, List, length, slice_index, Result, Ok, Err, IfOk, arith, refl, sym, ap, ◌∙◌, subst}
+use Rattle.std.proofs.Common.{◌≡◌, ℕ, List, length, slice_index, Result, Ok, Err, IfOk, OnOk, arith, refl, sym, ap, ◌∙◌, subst}
 use Rattle.bplist_objects.specs.declared.frame.Frame.{Frame}
 use Rattle.bplist_objects.specs.declared.head.Head.{Head}
 use Rattle.bplist_objects.specs.declared.head.Kind.{Kind}
@@ -48,15 +48,9 @@ module _ (f : List ℕ) (F : Frame) (heights : List ℕ) (n : ℕ) (head : Head)
   rest_by_body Q (Ok _) none body = (body, (λ k lt. absurd (omega (arith, lt, none)), λ k lt. absurd (omega (arith, lt, none))))
   rest_by_body Q (Err e) none body = tt
 
-  -- with references it shows that by their heights
-  pub rest_by_heights : (Q : Fault → Type 0) (result : Result (Unit {0}) ObjectFault) → HasHead f F n head → (refs ≡ 0 → ⊥) → length heights ≡ F.objects
-      → Gives (λ _. AreMet f F heights head (VouchedBelow (slice_index heights n)) refs) Q result → IfOk result Rest
-  rest_by_heights Q (Ok _) has some all met = (body_kept has some all met, (λ k lt. (met k lt).0, λ k lt. (met k lt).1))
-  rest_by_heights Q (Err e) has some all met = tt
-
-  -- the same with more claims
-  pub rest_and_more : {A B C : Type 0} (result : Result (Unit {0}) ObjectFault) → HasHead f F n head → (refs ≡ 0 → ⊥) → length heights ≡ F.objects
-      → (AreMet f F heights head (VouchedBelow (slice_index heights n)) refs → A → B → C)
-      → IfOk result (λ _. AreMet f F heights head (VouchedBelow (slice_index heights n)) refs × A) → IfOk result (λ _. B) → IfOk result (λ x. Rest x × C)
-  rest_and_more (Ok _) has some all more (met, a) b = ((body_kept has some all met, (λ k lt. (met k lt).0, λ k lt. (met k lt).1)), more met a b)
-  rest_and_more (Err e) has some all more met b = tt
+  -- with references it shows that by their heights, and what follows from more claims
+  pub rest_by_heights : {A B : Type 0} (Q : Fault → Type 0) (result : Result (Unit {0}) ObjectFault) → HasHead f F n head → (refs ≡ 0 → ⊥) → length heights ≡ F.objects
+      → (AreMet f F heights head (VouchedBelow (slice_index heights n)) refs → A → B)
+      → Gives (λ _. AreMet f F heights head (VouchedBelow (slice_index heights n)) refs) Q result → OnOk result A → IfOk result (λ x. Rest x × B)
+  rest_by_heights Q (Ok _) has some all more met a = ((body_kept has some all met, (λ k lt. (met k lt).0, λ k lt. (met k lt).1)), more met a)
+  rest_by_heights Q (Err e) has some all more met a = tt

@@ -10,7 +10,7 @@ use Rattle.bplist_cert.specs.Lists.{Keyed, Lists}
 use Rattle.bplist_cert.specs.Valid.{IsVouchedBy}
 use Rattle.bplist_cert.specs.CheckRules.{HasOrder}
 use Rattle.bplist_cert.specs.KeyPairs.{AreKnown, HaveTextShapes}
-use Rattle.bplist_cert.specs.Walks.{AreNamed}
+use Rattle.bplist_cert.specs.Walks.{AreCollected}
 use Rattle.bplist_cert.specs.LowBytes.{AreLowStretches}
 
 -- if object n is a dictionary, its keys are texts by marker and count, and its key list has them in order
@@ -30,9 +30,9 @@ pub record HaveGoodLists (f : List ℕ) (F : Frame) (heights : List ℕ) (keyed 
 abbrev pub AreListed : List ℕ → Frame → Lists → ℕ → KeyListFindings → Type 0
 AreListed f F certificate bound look = IfSome certificate.keys (λ keyed. HaveGoodLists f F certificate.heights keyed bound look)
 
--- version 1: the keys of the vouched dictionaries below a bound are named, if they are to be; version 2: their key
+-- version 1: the keys of the vouched dictionaries below a bound are collected, if they are to be; version 2: their key
 -- lists are good, if the walk found so
 abbrev pub AreSeen : List ℕ → Frame → Lists → ℕ → KeyFindings → Type 0
 AreSeen f F certificate bound look =
-    MatchOption certificate.keys (AreNamed f F certificate.heights bound look.named)
+    MatchOption certificate.keys (AreCollected f F certificate.heights bound look.named)
     (λ keyed. HaveGoodLists f F certificate.heights keyed bound look.lists)

@@ -4,8 +4,8 @@ use Rattle.bplist_objects.specs.declared.fault.Fault.{Fault}
 use Rattle.bplist_objects.specs.declared.frame.Frame.{Frame}
 use Rattle.bplist_objects.specs.Frame.{off}
 use Rattle.bplist_objects.specs.Rules.{KeepsAll}
-use Rattle.bplist_cert.specs.declared.checker.Pass.{Pass}
-use Rattle.bplist_cert.specs.declared.checker.Pass.TheVariants.{Quick, Exact}
+use Rattle.bplist_cert.specs.declared.walk.Pass.{Pass}
+use Rattle.bplist_cert.specs.declared.walk.Pass.TheVariants.{Quick, Exact}
 use Rattle.bplist_cert.specs.Lists.{Lists, lists}
 use Rattle.bplist_cert.specs.Valid.{IsVouchedBy}
 use Rattle.bplist_cert.specs.CheckRules.{KeepsRule, KeepBelow, KeepsCheck, IsCheckFault, rules_before_keys}

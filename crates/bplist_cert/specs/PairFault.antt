@@ -9,8 +9,8 @@ use Rattle.bplist_objects.specs.Extents.{Sums}
 use Rattle.bplist_cert.specs.Lists.{Lists}
 use Rattle.bplist_cert.specs.Valid.{IsVouchedBy}
 use Rattle.bplist_cert.specs.CheckRules.{IsLeastFault, IsCheckFault, check_rules}
-use Rattle.bplist_cert.specs.declared.checker.Pass.{Pass}
-use Rattle.bplist_cert.specs.declared.checker.Pass.TheVariants.{Quick, Exact}
+use Rattle.bplist_cert.specs.declared.walk.Pass.{Pass}
+use Rattle.bplist_cert.specs.declared.walk.Pass.TheVariants.{Quick, Exact}
 use Rattle.bplist_cert.specs.Looks.{IsShown, KeepBeforeKeysBelow}
 
 -- the first fault of the least vouched object that has one

@@ -12,6 +12,7 @@ pub use Rattle.bplist_objects.specs.Frame.{IsFrame, off}
 pub use Rattle.bplist_objects.specs.Framed.{HonestlyIn, frame_in}
 pub use Rattle.bplist_objects.specs.Heads.{Content, HasShape, Spells, refs}
 pub use Rattle.bplist_objects.specs.Holds.{Holds}
+pub use Rattle.bplist_objects.specs.KeyCounts.{key_count}
 pub use Rattle.bplist_objects.specs.ObjectRules.{KeepsByObject, body_rules, object_rules}
 pub use Rattle.bplist_objects.specs.Reach.{Chain, Reach, Refs}
 pub use Rattle.bplist_objects.specs.Rules.{KeepsAll}
@@ -46,8 +47,8 @@ pub use Rattle.bplist_cert.specs.Sorted.{IsAccepted, IsSorted}
 pub use Rattle.bplist_cert.specs.Sound.{IsSound}
 pub use Rattle.bplist_cert.specs.Valid.{HoldsOneValue, IsValid, IsVouchedBy, SpellsText}
 pub use Rattle.bplist_cert.specs.Versions.{header_octets, is_keyed}
-pub use Rattle.bplist_cert.specs.Walks.{AreNamed, AreNamedNext, AreStamped, HaveOwnNumbers, HaveStampedKeys, HaveStamps}
-pub use Rattle.bplist_cert.specs.declared.checker.Pass.TheVariants.{Exact, Quick}
+pub use Rattle.bplist_cert.specs.Walks.{AreCollected, AreCollectedNext, AreOwn, AreStamped, HasCollected, HasStamped, HaveKeysApart, IfCollected}
+pub use Rattle.bplist_cert.specs.declared.walk.Pass.TheVariants.{Exact, Quick}
 pub use Rattle.bplist_cert.specs.declared.certificate.CertRefusal.TheVariants.{Memory as CertMemory}
 pub use Rattle.bplist_cert.specs.declared.heights.Wanted.TheVariants.{VouchedBelow}
 pub use Rattle.bplist_cert.specs.declared.refusal.Refusal.TheVariants.{Memory, Read}

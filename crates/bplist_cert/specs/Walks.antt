@@ -1,5 +1,5 @@
--- The keys that a walk over the vouched objects has named so far. Source: profile.
-use Rattle.std.specs.Prelude.{◌≡◌, ◌≢◌, ◌⊎◌, ◌<◌, ℕ, suc, List, length, slice_index, IsTrue, Option, IfSome}
+-- The keys that a walk over the vouched objects has collected so far. Source: profile.
+use Rattle.std.specs.Prelude.{◌≡◌, ◌≢◌, ◌⊎◌, ◌<◌, ℕ, suc, nat_lt, List, count_by, length, slice_index, IsTrue, Option, IfSome, MatchOption}
 use Rattle.bplist_objects.specs.declared.frame.Frame.{Frame}
 use Rattle.bplist_objects.specs.declared.head.Head.{Head}
 use Rattle.bplist_objects.specs.declared.head.Kind.TheVariants.{Dict}
@@ -7,7 +7,6 @@ use Rattle.bplist_objects.specs.Announced.{HasHead}
 use Rattle.bplist_objects.specs.Scan.{ref}
 use Rattle.bplist_cert.specs.Valid.{IsVouchedBy}
 use Rattle.bplist_cert.specs.declared.key_names.KeyNames.{KeyNames}
-use Rattle.bplist_cert.specs.KeyRepeats.{HaveNamedKeys}
 
 -- different objects have got this stamp, and none had it before
 abbrev pub AreStamped : ℕ → List ℕ → List ℕ → List ℕ → Type 0
@@ -16,28 +15,54 @@ AreStamped stamp numbers before after =
     × ((j k : ℕ) → j < k → k < length numbers → slice_index numbers j ≢ slice_index numbers k)
     × ((x : ℕ) → (slice_index after x ≡ slice_index before x) ⊎ (slice_index after x ≡ stamp))
 
--- the first `count` keys are different objects with stamps
-abbrev pub HaveStamps : List ℕ → Frame → Head → ℕ → List ℕ → Type 0
-HaveStamps f F head count last =
-    ((k : ℕ) → k < count → 0 < slice_index last (ref f F head k))
-    × ((j k : ℕ) → j < k → k < count → ref f F head j ≢ ref f F head k)
+-- these numbers have got a stamp; and if no dictionary has named an object twice so far, they are different objects
+pub record HasStamped (stamp : ℕ) (numbers : List ℕ) (before after : KeyNames) : Type 0 where
+  pub all : length after.last.items ≡ length before.last.items
+  pub keeps : (x : ℕ) → 0 < slice_index before.last.items x → 0 < slice_index after.last.items x
+  pub stamped : (k : ℕ) → k < length numbers → slice_index numbers k < length before.last.items → 0 < slice_index after.last.items (slice_index numbers k)
+  pub apart : IsTrue after.apart → IsTrue before.apart × AreStamped stamp numbers before.last.items after.last.items
 
--- the objects below a bound that have stamps have different numbers, and none of them 0
-abbrev pub HaveOwnNumbers : List ℕ → List ℕ → ℕ → Type 0
-HaveOwnNumbers last numbers bound =
-    ((m : ℕ) → m < bound → 0 < slice_index last m → 0 < slice_index numbers m)
-    × ((a b : ℕ) → a < b → b < bound → 0 < slice_index last a → 0 < slice_index last b → slice_index numbers a ≢ slice_index numbers b)
+-- the keys of a dictionary with this head are different objects
+abbrev pub AreApart : List ℕ → Frame → Head → Type 0
+AreApart f F head = (j k : ℕ) → j < k → k < head.count → ref f F head j ≢ ref f F head k
 
--- the keys of each vouched dictionary below a bound are different objects with stamps
-abbrev pub HaveStampedKeys : List ℕ → Frame → List ℕ → ℕ → List ℕ → Type 0
-HaveStampedKeys f F heights bound last =
-    (n : ℕ) → n < bound → IsVouchedBy heights n → (head : Head) → HasHead f F n head → head.kind ≡ Dict → HaveStamps f F head head.count last
+-- if this is the head of a dictionary, its keys have got stamps; and they are different objects, if no dictionary has
+-- named one twice so far
+pub record HasCollected (f : List ℕ) (F : Frame) (head : Head) (before after : KeyNames) : Type 0 where
+  pub all : length after.last.items ≡ length before.last.items
+  pub keeps : (x : ℕ) → 0 < slice_index before.last.items x → 0 < slice_index after.last.items x
+  pub stamped : head.kind ≡ Dict → (k : ℕ) → k < head.count → ref f F head k < length before.last.items → 0 < slice_index after.last.items (ref f F head k)
+  pub apart : IsTrue after.apart → IsTrue before.apart × (head.kind ≡ Dict → AreApart f F head)
 
--- the keys of the vouched dictionaries below a bound are named, if they are to be
-abbrev pub AreNamed : List ℕ → Frame → List ℕ → ℕ → Option KeyNames → Type 0
-AreNamed f F heights bound names = IfSome names (λ names. HaveNamedKeys f F heights bound names.named.marks.items
-    × (IsTrue names.apart → HaveStampedKeys f F heights bound names.last.items))
+-- if there are names afterwards, there were names before, and this relation is true of both
+abbrev pub IfCollected : Option KeyNames → Option KeyNames → (KeyNames → KeyNames → Type 0) → Type 0
+IfCollected before after Relation = IfSome after (λ now. MatchOption before ⊥ (λ was. Relation was now))
 
--- with object n, the keys of the vouched dictionaries up to it are named
-abbrev pub AreNamedNext : List ℕ → Frame → List ℕ → ℕ → Option KeyNames → Option KeyNames → Type 0
-AreNamedNext f F heights n before after = AreNamed f F heights n before → AreNamed f F heights (suc n) after
+-- so many numbers are not 0, and they are different
+abbrev pub AreOwn : List ℕ → ℕ → Type 0
+AreOwn numbers count =
+    (count_by (nat_lt 0) numbers ≡ count)
+    × ((a b : ℕ) → a < b → b < length numbers → 0 < slice_index numbers a → slice_index numbers a ≢ slice_index numbers b)
+
+-- if object n is a dictionary, its keys have stamps
+abbrev pub HasStampedKeys : List ℕ → Frame → List ℕ → ℕ → Type 0
+HasStampedKeys f F last n = (head : Head) → HasHead f F n head → head.kind ≡ Dict → (k : ℕ) → k < head.count → 0 < slice_index last (ref f F head k)
+
+-- if object n is a dictionary, its keys are different objects
+abbrev pub HasKeysApart : List ℕ → Frame → ℕ → Type 0
+HasKeysApart f F n = (head : Head) → HasHead f F n head → head.kind ≡ Dict → AreApart f F head
+
+-- the keys of each vouched dictionary below a bound are different objects
+abbrev pub HaveKeysApart : List ℕ → Frame → List ℕ → ℕ → Type 0
+HaveKeysApart f F heights bound = (n : ℕ) → n < bound → IsVouchedBy heights n → HasKeysApart f F n
+
+-- the keys of the vouched dictionaries below a bound have stamps, if they are to be collected; and those of each
+-- dictionary are different objects, if no dictionary has named one twice
+abbrev pub AreCollected : List ℕ → Frame → List ℕ → ℕ → Option KeyNames → Type 0
+AreCollected f F heights bound names = IfSome names (λ names. (length names.last.items ≡ F.objects)
+    × ((n : ℕ) → n < bound → IsVouchedBy heights n → HasStampedKeys f F names.last.items n)
+    × (IsTrue names.apart → HaveKeysApart f F heights bound))
+
+-- with object n, the keys of the vouched dictionaries up to it are collected
+abbrev pub AreCollectedNext : List ℕ → Frame → List ℕ → ℕ → Option KeyNames → Option KeyNames → Type 0
+AreCollectedNext f F heights n before after = AreCollected f F heights n before → AreCollected f F heights (suc n) after

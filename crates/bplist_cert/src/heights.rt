@@ -1,9 +1,10 @@
 //! Checks the heights of references: rules 28 and 29.
 
-ghost use Rattle.std.specs.Prelude.{◌≡◌, ◌↔◌, ℕ, ◌+◌, ◌≤◌, ◌<◌, length, slice_index, IsTrue, IfOk, MatchOption};
+ghost use Rattle.std.specs.Prelude.{◌≡◌, ◌↔◌, ℕ, ◌+◌, ◌-◌, ◌^◌, ◌≤◌, ◌<◌, length, min, slice_index, take, IsTrue, MatchOption};
+ghost use Rattle.std.specs.Prelude.{OnOk};
 ghost use Rattle.bplist_cert.specs.Prelude.{OnlyReads, frame_in, HonestlyIn, IsSafeHead, ref_count, Gives, read_failed};
 ghost use Rattle.bplist_cert.specs.Prelude.{Meets, AreMet, AreMetBy, IsFirstUnmetBy, IsUnmetFault, rule_of};
-ghost use Rattle.bplist_cert.specs.Prelude.{AreLower, IsHeightFault, Dict, IsMarked, ref, VouchedBelow, HaveStamps};
+ghost use Rattle.bplist_cert.specs.Prelude.{AreLower, IsHeightFault, HasCollected, HasStamped, IfCollected, key_count};
 
 use crate::key_names::KeyNames;
 use bplist_objects::{
@@ -71,21 +72,47 @@ fn first_unmet_in(heights: &[u32], refs: &[u64], wanted: Wanted) -> Option<usize
     None
 }
 
-/// Checks that all references of object `n` have heights as wanted. The fault is at the first that has not.
+/// A container: the number of its object, and its head.
+#[derive(Clone, Copy, Drop)]
+pub(crate) struct Container<'a> {
+    pub n: ObjectNo,
+    pub head: &'a Head,
+}
+
+/// Stamps those of these references of a container that are to keys, if keys are to be collected. The first of the
+/// references is the one with number `first`.
+#[inline(always)]
+fn collect_keys(names: &mut Option<KeyNames>, container: Container, first: u64, refs: &[u64])
+    requires { container.n.0 < 2 ^ 32 - 1 }
+    ensures { IfCollected names.old names.new (HasStamped (container.entry.n.0 + 1)
+        (take (min (length refs.now) (key_count container.entry.head.now.kind container.entry.head.now.count - first)) refs.now)) }
+{
+    if let Some(stamps) = names {
+        let keys = container.head.keys_among(first, refs.len());
+        stamps.insert_all(container.n.0, &refs[..keys]);
+    }
+}
+
+/// Checks that all references of a container have heights as wanted. The fault is at the first that has not. Stamps the
+/// keys of a dictionary, if keys are to be collected; after a fault some of them may have no stamps.
 pub(crate) fn check_refs<P: Framed>(
     src: &mut P,
     heights: &[u32],
-    n: ObjectNo,
-    head: &Head,
+    container: Container,
     wanted: Wanted,
+    names: &mut Option<KeyNames>,
 ) -> Result<(), ObjectFault>
-    requires { IsSafeHead (frame_in (P.means src.old)) head.now }
+    requires within { container.n.0 < (frame_in (P.means src.old)).objects }
+    requires head { IsSafeHead (frame_in (P.means src.old)) container.head.now }
     ensures reads { OnlyReads (read_failed result) (P.means src.old) (P.means src.new) }
     ensures exact { HonestlyIn (P.means src.old) (λ f F. Gives
-        (λ _. AreMet f F heights.now head.now wanted (ref_count head.now.kind head.now.count))
-        (IsUnmetFault f F heights.now n.0 head.now wanted) result) }
+        (λ _. AreMet f F heights.now container.entry.head.now wanted (ref_count container.entry.head.now.kind container.entry.head.now.count))
+        (IsUnmetFault f F heights.now container.entry.n.0 container.entry.head.now wanted) result) }
+    ensures names { HonestlyIn (P.means src.old) (λ f F. OnOk result
+        (IfCollected names.old names.new (HasCollected f F container.entry.head.now))) }
 {
     let _frame = src.frame();
+    let head = container.head;
     let refs = refs_of(head);
     let mut buffer = [0u64; BLOCK];
     let mut done = 0u64;
@@ -96,55 +123,12 @@ pub(crate) fn check_refs<P: Framed>(
         if let Some(i) = first_unmet_in(heights, block, wanted) {
             return Err(ObjectFault::Fault(Fault {
                 rule: wanted.rule(),
-                object: Some(n),
+                object: Some(container.n),
                 place: ref_place(src, head, done + i as u64),
             }));
         }
+        collect_keys(names, container, done, block);
         done += now;
-    }
-    Ok(())
-}
-
-/// Checks that all references of dictionary `n` have heights by rules 28 and 29, and names its keys. The fault need not be
-/// the first, and after it not all keys may be named.
-pub(crate) fn check_dict_refs<P: Framed>(
-    src: &mut P,
-    heights: &[u32],
-    n: ObjectNo,
-    head: &Head,
-    names: &mut KeyNames,
-) -> Result<(), ObjectFault>
-    requires within { n.0 < (frame_in (P.means src.old)).objects }
-    requires head { IsSafeHead (frame_in (P.means src.old)) head.now }
-    requires dict { head.now.kind ≡ Dict }
-    ensures reads { OnlyReads (read_failed result) (P.means src.old) (P.means src.new) }
-    ensures all { length names.new.named.marks.items ≡ length names.old.named.marks.items }
-    ensures keeps { (m : ℕ) → IsMarked names.old.named.marks.items m → IsMarked names.new.named.marks.items m }
-    ensures stamps { IsTrue names.new.apart → IsTrue names.old.apart × ((x : ℕ) → 0 < slice_index names.old.last.items x → 0 < slice_index names.new.last.items x) }
-    ensures exact { HonestlyIn (P.means src.old) (λ f F. IfOk result (λ _.
-        AreMet f F heights.now head.now (VouchedBelow (slice_index heights.now n.0)) (ref_count head.now.kind head.now.count)
-        × ((k : ℕ) → k < head.now.count → ref f F head.now k < length names.old.named.marks.items → IsMarked names.new.named.marks.items (ref f F head.now k)))) }
-    ensures apart { HonestlyIn (P.means src.old) (λ f F. IfOk result (λ _. IsTrue names.new.apart → HaveStamps f F head.now head.now.count names.new.last.items)) }
-{
-    let _frame = src.frame();
-    let wanted = Wanted::VouchedBelow(entry_or(heights, n.0 as u64, 0));
-    let refs = refs_of(head);
-    let mut buffer = [0u64; BLOCK];
-    let mut seen = 0u64;
-    while seen < refs {
-        let now = (refs - seen).min(BLOCK as u64);
-        let block = &mut buffer[..now as usize];
-        read_refs_in(src, head, seen, block)?;
-        if first_unmet_in(heights, block, wanted).is_some() {
-            return Err(ObjectFault::Fault(Fault {
-                rule: wanted.rule(),
-                object: Some(n),
-                place: head.body,
-            }));
-        }
-        let keys = head.count.saturating_sub(seen).min(now);
-        names.insert_all(n.0, &block[..keys as usize]);
-        seen += now;
     }
     Ok(())
 }
@@ -164,7 +148,8 @@ pub(crate) fn check_heights<P: Framed>(
     ensures exact { HonestlyIn (P.means src.old) (λ f F. Gives
         (λ _. AreLower f F heights.now n.0 head.now) (IsHeightFault f F heights.now n.0 head.now) result) }
 {
-    check_refs(src, heights, n, head, Wanted::Vouched)?;
+    let container = Container { n, head };
+    check_refs(src, heights, container, Wanted::Vouched, &mut None)?;
     let own = heights[n.0 as usize];
-    check_refs(src, heights, n, head, Wanted::Below(own))
+    check_refs(src, heights, container, Wanted::Below(own), &mut None)
 }

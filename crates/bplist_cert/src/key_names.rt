@@ -1,10 +1,10 @@
 //! Collects the objects that vouched dictionaries name as keys.
 
-ghost use Rattle.std.specs.Prelude.{◌≡◌, ◌⊎◌, ◌+◌, ◌<◌, ◌≤◌, ℕ, None, IfOk, IfSome, IsTrue, OnOk, length, ◌^◌, ◌-◌, slice_index, replicate, false};
+ghost use Rattle.std.specs.Prelude.{◌≡◌, ◌≢◌, ◌↔◌, ◌⊎◌, ◌+◌, ◌<◌, ◌≤◌, ℕ, None, IfOk, IsTrue, OnOk, length, ◌^◌, ◌-◌, slice_index, replicate};
 ghost use Rattle.bplist_cert.specs.Prelude.{OnlyReads, Gives, Never, read_failed, off, frame_in, HonestlyIn, KeepsAll};
 ghost use Rattle.bplist_cert.specs.Prelude.{KeepsByObject, object_rules, HasNamedKeys, HaveNamedKeys, IsKeyOf};
 ghost use Rattle.bplist_cert.specs.Prelude.{IsVouchedKey, ArePlaces, IsMarked, IsVouchedBy, KeepBeforeKeysBelow};
-ghost use Rattle.bplist_cert.specs.Prelude.{Judges, refused_read, AreStamped};
+ghost use Rattle.bplist_cert.specs.Prelude.{Judges, refused_read, AreCollected, AreStamped, HasStamped};
 
 use crate::heights::block_of;
 use crate::refusal::Refusal;
@@ -15,25 +15,54 @@ use std::alloc::{AllocError, Global};
 /// The most entries of the offset table that are read at once.
 const BLOCK: usize = 512;
 
+/// Gives object `m` this stamp. Returns true only if there is such an object, and it had another stamp.
+#[inline(always)]
+fn stamp_one(last: &mut [u32], stamp: u32, m: u64) -> bool
+    ensures all { length last.new ≡ length last.old }
+    ensures stamped { m < length last.old → slice_index last.new m ≡ stamp }
+    ensures only { (x : ℕ) → (slice_index last.new x ≡ slice_index last.old x) ⊎ (slice_index last.new x ≡ stamp) }
+    ensures other { IsTrue result → (m < length last.old) × (slice_index last.old m ≢ stamp) }
+{
+    if m >= last.len() as u64 {
+        return false;
+    }
+    let other = last[m as usize] != stamp;
+    last[m as usize] = stamp;
+    other
+}
+
 /// Stamps the objects with these numbers. Returns true only if they are different objects, and none had this stamp.
 fn stamp_all(last: &mut [u32], stamp: u32, numbers: &[u64]) -> bool
+    requires { 0 < stamp }
     ensures all { length last.new ≡ length last.old }
+    ensures keeps { (x : ℕ) → 0 < slice_index last.old x → 0 < slice_index last.new x }
+    ensures stamped { (k : ℕ) → k < length numbers.now → slice_index numbers.now k < length last.old
+        → 0 < slice_index last.new (slice_index numbers.now k) }
     ensures apart { IsTrue result → AreStamped stamp numbers.now last.old last.new }
 {
+    let mut apart = true;
     for m in numbers {
-        if *m >= last.len() as u64 || last[*m as usize] == stamp {
-            return false;
-        }
-        last[*m as usize] = stamp;
+        apart &= stamp_one(last, stamp, *m);
     }
-    true
+    apart
+}
+
+/// Returns a mark for each object: set if the object has a stamp.
+fn marks_of(alloc: Global, last: &[u32]) -> Result<NamedKeys, AllocError>
+    ensures all { IfOk result (λ named. length named.marks.items ≡ length last.now) }
+    ensures exact { IfOk result (λ named. (m : ℕ) → m < length last.now → IsMarked named.marks.items m ↔ (0 < slice_index last.now m)) }
+{
+    let mut marks = vec![in alloc; false; last.len()]?;
+    for (m, stamp) in last.iter().enumerate() {
+        marks[m] = *stamp > 0;
+    }
+    Ok(NamedKeys { marks })
 }
 
 /// The objects that are named as keys, and whether each dictionary names different ones.
 #[derive(Drop)]
 pub(crate) struct KeyNames {
-    pub named: NamedKeys,
-    /// For each object the last dictionary that names it: its number plus 1, or 0 for none.
+    /// For each object the last dictionary that names it, by a stamp: the dictionary's number plus 1, or 0 for none.
     pub last: Vec<u32>,
     /// True only if no dictionary names an object twice.
     pub apart: bool,
@@ -42,10 +71,9 @@ pub(crate) struct KeyNames {
 impl KeyNames {
     /// Returns no names, for so many objects.
     pub(crate) fn new(alloc: Global, objects: u32) -> Result<KeyNames, AllocError>
-        ensures { IfOk result (λ names. names.named.marks.items ≡ replicate objects false) }
+        ensures { IfOk result (λ names. names.last.items ≡ replicate objects 0) }
     {
         Ok(KeyNames {
-            named: NamedKeys::new(alloc, objects)?,
             last: vec![in alloc; 0u32; objects as usize]?,
             apart: true,
         })
@@ -54,14 +82,10 @@ impl KeyNames {
     /// Names keys of dictionary `n`.
     pub(crate) fn insert_all(&mut self, n: u32, keys: &[u64])
         requires { n < 2 ^ 32 - 1 }
-        ensures all { length self.new.named.marks.items ≡ length self.old.named.marks.items }
-        ensures keeps { (m : ℕ) → IsMarked self.old.named.marks.items m → IsMarked self.new.named.marks.items m }
-        ensures named { (k : ℕ) → k < length keys.now → slice_index keys.now k < length self.new.named.marks.items
-            → IsMarked self.new.named.marks.items (slice_index keys.now k) }
-        ensures apart { IsTrue self.new.apart → IsTrue self.old.apart × AreStamped (n + 1) keys.now self.old.last.items self.new.last.items }
+        ensures { HasStamped (n + 1) keys.now self.old self.new }
     {
-        self.named.insert_all(keys);
-        self.apart = self.apart && stamp_all(&mut self.last, n + 1, keys);
+        let different = stamp_all(&mut self.last, n + 1, keys);
+        self.apart &= different;
     }
 }
 
@@ -118,27 +142,28 @@ pub(crate) fn name_key_block<P: Framed>(
     Ok(())
 }
 
-/// Returns the objects that the vouched dictionaries below `bound` name as keys: those given, or else found by a walk.
+/// Returns the objects that the vouched dictionaries below `bound` name as keys: those collected, or else found by a
+/// walk.
 pub(crate) fn seen_keys<P: Framed>(
     alloc: Global,
     src: &mut P,
     heights: &[u32],
     bound: u32,
-    given: Option<NamedKeys>,
+    collected: Option<KeyNames>,
 ) -> Result<NamedKeys, Refusal>
     requires { bound ≤ (frame_in (P.means src.old)).objects }
     ensures reads { OnlyReads (refused_read result) (P.means src.old) (P.means src.new) }
     ensures all { IfOk result (λ named. length named.marks.items ≡ (frame_in (P.means src.old)).objects) }
     ensures exact { HonestlyIn (P.means src.old) (λ f F. KeepBeforeKeysBelow f F heights.now bound
-        → IfSome given (λ keys. HaveNamedKeys f F heights.now bound keys.marks.items)
+        → AreCollected f F heights.now bound collected
         → Judges (λ named. HaveNamedKeys f F heights.now bound named.marks.items) Never result) }
-    ensures only { HonestlyIn (P.means src.old) (λ f F. given ≡ None → IfOk result (λ named. (m : ℕ)
+    ensures only { HonestlyIn (P.means src.old) (λ f F. collected ≡ None → IfOk result (λ named. (m : ℕ)
         → IsMarked named.marks.items m → IsVouchedKey f F heights.now m)) }
 {
     let objects = src.frame().objects;
-    if let Some(named) = given {
-        if named.marks.len() == objects as usize {
-            return Ok(named);
+    if let Some(names) = collected {
+        if names.last.len() == objects as usize {
+            return Ok(marks_of(alloc, &names.last)?);
         }
     }
     let mut named = NamedKeys::new(alloc, objects)?;

@@ -11,7 +11,7 @@ ghost use Rattle.std.specs.Prelude.{None};
 ghost use Rattle.std.specs.Result.{result_err};
 ghost use Rattle.bplist_cert.specs.Prelude.{OnlyReads, frame_in, HonestlyIn, IsSafeHead, Gives, read_failed, KeyKind};
 ghost use Rattle.bplist_cert.specs.Prelude.{Dict, Head as head_record, IsText, KeysAreTexts, IsKeylessFault, AreLowStretches};
-ghost use Rattle.bplist_cert.specs.Prelude.{FailsAt, HasHead, ref, HaveOwnNumbers, HaveStampedKeys, AreNamed};
+ghost use Rattle.bplist_cert.specs.Prelude.{FailsAt, HasHead, ref, AreOwn, AreCollected, HaveKeysApart};
 ghost use Rattle.bplist_cert.specs.Prelude.{Head as head, HaveNamedKeys, AreClassed, IsStamped, IsNew};
 ghost use Rattle.bplist_cert.specs.Prelude.{lists, KeepBeforeKeysBelow, IsVouchedBy, HasGoodKeys};
 ghost use Rattle.bplist_cert.specs.Prelude.{HaveGoodKeys, BreaksKeys, IsFirstKeysFault, Judges, refused_read};
@@ -152,27 +152,29 @@ fn check_dict_repeats<P: Offsets>(
 }
 
 /// Checks the keys of the vouched dictionaries seen so far. Their keys are already named, and the places of keys given.
-/// If each key has a class of its own, and no dictionary names an object twice, no dictionary need be read again.
+/// If all objects were seen, no dictionary names an object twice (`apart`), and each key has a class of its own, no
+/// dictionary need be read again.
 fn check_named<P: Offsets>(
     alloc: Global,
     src: &mut P,
     seen: &VouchedPrefix,
     named: NamedKeys,
-    last: Option<Vec<u32>>,
+    apart: bool,
 ) -> Result<(), Refusal>
     requires all { length seen.now.heights.now ≡ (frame_in (P.means src.old)).objects }
     requires all_named { length named.marks.items ≡ (frame_in (P.means src.old)).objects }
     ensures reads { OnlyReads (refused_read result) (P.means src.old) (P.means src.new) }
     ensures exact { HonestlyIn (P.means src.old) (λ f F. KeepBeforeKeysBelow f F seen.now.heights.now seen.now.bound
         → HaveNamedKeys f F seen.now.heights.now seen.now.bound named.marks.items
-        → IfSome last (λ last. (F.objects ≤ seen.now.bound) × HaveStampedKeys f F seen.now.heights.now seen.now.bound last.items)
+        → (IsTrue apart → (F.objects ≤ seen.now.bound) × HaveKeysApart f F seen.now.heights.now seen.now.bound)
         → Judges (λ _. HaveGoodKeys f F seen.now.heights.now None seen.now.bound)
         (IsFirstKeysFault f F (lists seen.now.heights.now None) seen.now.bound) result) }
 {
     let _frame = src.frame();
+    let keys = named.count();
     let classes = classes_of(alloc, src, named)?;
-    if let Some(last) = &last {
-        if are_own(alloc, last, &classes)? {
+    if apart {
+        if are_own(alloc, &classes, keys)? {
             return Ok(());
         }
     }
@@ -188,40 +190,34 @@ fn check_named<P: Offsets>(
     Ok(())
 }
 
-/// Whether each object with a stamp has a class, and no two of them have the same.
-fn are_own(alloc: Global, last: &[u32], classes: &KeyNumbers) -> Result<bool, AllocError>
-    ensures { IfOk result (λ own. IsTrue own → HaveOwnNumbers last.now classes.now.table.items (length last.now)) }
+/// Whether so many objects have a class, and no two of them the same.
+fn are_own(alloc: Global, classes: &KeyNumbers, keys: usize) -> Result<bool, AllocError>
+    ensures { IfOk result (λ own. IsTrue own → AreOwn classes.now.table.items keys) }
 {
     let mut seen = vec![in alloc; false; classes.greatest as usize]?;
     let numbers: &[u32] = &classes.table;
-    if numbers.len() != last.len() {
-        return Ok(false);
-    }
-    for m in 0..last.len() {
-        if last[m] > 0 {
-            let class = numbers[m] as usize;
-            if class == 0 || seen[class - 1] {
+    let mut count = 0usize;
+    for m in 0..numbers.len() {
+        if numbers[m] > 0 {
+            let row = numbers[m] as usize - 1;
+            if seen[row] {
                 return Ok(false);
             }
-            seen[class - 1] = true;
+            seen[row] = true;
+            count += 1;
         }
     }
-    Ok(true)
+    Ok(count == keys)
 }
 
-/// Returns the marks, and the stamps if no objects are left to be seen and no dictionary names an object twice.
-fn parts_of(names: Option<KeyNames>, left: u32) -> (Option<NamedKeys>, Option<Vec<u32>>)
-    ensures named { IfSome result.0 (λ named. IfSome names (λ given. named ≡ given.named)) }
-    ensures none { names ≡ None → (result.0 ≡ None) × (result.1 ≡ None) }
-    ensures last { IfSome result.1 (λ last. (left ≡ 0) × IfSome names (λ given. (last.items ≡ given.last.items) × IsTrue given.apart)) }
+/// Whether keys were collected, and no dictionary names an object twice.
+fn are_apart(names: &Option<KeyNames>) -> bool
+    ensures { IsTrue result → MatchOption names.now ⊥ (λ given. IsTrue given.apart) }
 {
-    let Some(names) = names else {
-        return (None, None);
-    };
-    if left == 0 && names.apart {
-        return (Some(names.named), Some(names.last));
+    match names {
+        Some(names) => names.apart,
+        None => false,
     }
-    (Some(names.named), None)
 }
 
 /// Checks that the keys of the vouched dictionaries seen so far are texts that differ. The first units of each named
@@ -238,13 +234,13 @@ pub(crate) fn check_key_repeats<P: Offsets>(
     requires { length seen.now.heights.now ≡ (frame_in (P.means src.old)).objects }
     ensures reads { OnlyReads (refused_read result) (P.means src.old) (P.means src.new) }
     ensures exact { HonestlyIn (P.means src.old) (λ f F. KeepBeforeKeysBelow f F seen.now.heights.now seen.now.bound
-        → AreNamed f F seen.now.heights.now seen.now.bound names
+        → AreCollected f F seen.now.heights.now seen.now.bound names
         → Judges (λ _. HaveGoodKeys f F seen.now.heights.now None seen.now.bound)
         (IsFirstKeysFault f F (lists seen.now.heights.now None) seen.now.bound) result) }
 {
     let objects = src.frame().objects;
-    let (named, last) = parts_of(names, objects.saturating_sub(seen.bound));
-    let named = seen_keys(alloc, src, seen.heights, seen.bound, named)?;
+    let apart = are_apart(&names) && seen.bound == objects;
+    let named = seen_keys(alloc, src, seen.heights, seen.bound, names)?;
     let keys = named.count();
     if keys == 0 {
         return Ok(());
@@ -252,5 +248,5 @@ pub(crate) fn check_key_repeats<P: Offsets>(
     if keys >= (objects / OBJECTS_FOR_A_KEY) as usize {
         src.keep_places(alloc)?;
     }
-    check_named(alloc, src, seen, named, last)
+    check_named(alloc, src, seen, named, apart)
 }

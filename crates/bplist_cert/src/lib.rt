@@ -23,7 +23,8 @@
 //! | certificate | heights and key lists, and a certificate as bytes | [`Certificate`], [`KeyLists`], [`CertRefusal`] |
 //! | decoding | a certificate from bytes: rules 24 and 25 | `Certificate::from_source`, `from_octets` |
 //! | checked | a source with a certificate that was accepted | [`Checked`] |
-//! | checker | the check: rules 26, 27 and 31, and the walk over the objects | [`check`] |
+//! | checker | the check: rules 26 and 27, the walk, and then the keys | [`check`] |
+//! | walk | the walk over the objects: rules 14 to 20, 28, 29 and 31 | |
 //! | refusal | why the check says no | [`Refusal`] |
 //! | heights | rules 28 and 29 | |
 //! | key_lists | what the walk finds out about keys, and rules 21 and 32 for version 2 | |
@@ -46,6 +47,7 @@ mod key_order;
 mod key_rules;
 mod laws;
 mod refusal;
+mod walk;
 
 pub use certificate::{CertRefusal, Certificate, KeyLists};
 pub use checked::Checked;

@@ -28,7 +28,8 @@ use Rattle.bplist_lint.specs.declared.graph.View.TheVariants as views
 use Rattle.bplist_lint.specs.Containers.{AreFinished, AreMeasured, HasHeight}
 use Rattle.bplist_lint.specs.Graph.{AreLeast, greatest, IsPart, Least}
 use Rattle.bplist_lint.specs.Graph.Least.{above}
-use Rattle.bplist_lint.specs.ReferenceGraph.{AreChildless, key_count, refs_in}
+use Rattle.bplist_objects.specs.KeyCounts.{key_count}
+use Rattle.bplist_lint.specs.ReferenceGraph.{AreChildless, refs_in}
 use Rattle.bplist_lint.specs.ReachRules.{KeepReached, reach_rules}
 use Rattle.bplist_lint.proofs.ValueHeights.{are_least_all}
 use Rattle.bplist_lint.proofs.HeightSteps.{first_is, greatest_part}

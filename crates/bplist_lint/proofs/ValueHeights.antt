@@ -25,7 +25,8 @@ use Rattle.bplist_lint.specs.Graph.Ends.{ends}
 use Rattle.bplist_lint.specs.Graph.Least.{above}
 use Rattle.bplist_cert.specs.CheckRules.{key_rules}
 use Rattle.bplist_lint.specs.ReachRules.{KeepReached, reach_rules}
-use Rattle.bplist_lint.specs.ReferenceGraph.{key_count, hidden, refs_in, graph_of}
+use Rattle.bplist_objects.specs.KeyCounts.{key_count}
+use Rattle.bplist_lint.specs.ReferenceGraph.{hidden, refs_in, graph_of}
 use Rattle.bplist_lint.specs.HeightWalks.{AreClosed, AreLeastOf}
 use Rattle.bplist_lint.proofs.KeptRules.{kept_spells}
 use Rattle.bplist_lint.proofs.ObjectReferences.{found_as, as_spelled, all_announced, no_refs_leaf}

@@ -39,7 +39,7 @@ pub use Rattle.bplist_lint.specs.Linted.{HasNoHeights, IsLinted, IsLintedBy, IsL
 pub use Rattle.bplist_lint.specs.ReachRules.{IsReachedFault, KeepReached, Tallied, reach_rules}
 pub use Rattle.bplist_lint.specs.ReachSearch.{AreFollowed, AreGood, HasMarks, IsReady, Looked, Searching, index_count, place_index}
 pub use Rattle.bplist_lint.specs.ReachWalk.{AreNamed, HasRoomFor, IsSteady, IsSteadyWalk, IsWalked, IsWalking, KeepsNames, NotedIn, Worked, of_object, stop_failed}
-pub use Rattle.bplist_lint.specs.ReferenceGraph.{AreChildless, graph_of, hidden, key_count}
+pub use Rattle.bplist_lint.specs.ReferenceGraph.{AreChildless, graph_of, hidden}
 pub use Rattle.bplist_lint.specs.Refusals.{Lints, Refuses, read_of_refusal, lint_failed, no_circle}
 pub use Rattle.bplist_lint.specs.Tallies.{IsRoomy}
 pub use Rattle.bplist_lint.specs.Trail.{AllHave, IsFirstIndex, number, object}

@@ -2,10 +2,9 @@
 use Rattle.std.specs.Prelude.{◌≡◌, ℕ, ◌-◌, Bool, List, [], drop, Option, Some, None}
 use Rattle.bplist_objects.specs.declared.frame.Frame.{Frame}
 use Rattle.bplist_objects.specs.declared.head.Head.{Head}
-use Rattle.bplist_objects.specs.declared.head.Kind.{Kind}
-use Rattle.bplist_objects.specs.declared.head.Kind.TheVariants as kinds
 use Rattle.bplist_objects.specs.Reach.{Reach}
 use Rattle.bplist_objects.specs.Safe.{ref_count}
+use Rattle.bplist_objects.specs.KeyCounts.{key_count}
 use Rattle.bplist_objects.specs.Markers.{head_found}
 use Rattle.bplist_objects.specs.Spelled.{refs_at}
 use Rattle.bplist_keys.specs.Marks.{IsMarked}
@@ -17,11 +16,6 @@ use Rattle.bplist_lint.specs.Graph.{Graph}
 abbrev pub refs_announced : Option Head → ℕ
 refs_announced None = 0
 refs_announced (Some head) = ref_count head.kind head.count
-
--- how many keys a head announces
-abbrev pub key_count : Kind → ℕ → ℕ
-key_count kinds.Dict count = count
-key_count _ count = 0
 
 -- how many of the first references a view leaves out: those to the keys of a dictionary, in the view of values
 abbrev pub hidden : View → Option Head → ℕ

@@ -10,7 +10,6 @@ ghost use Rattle.bplist_lint.specs.Prelude.{AreNamed, AreClasses, Judges, refuse
 ghost use Rattle.bplist_lint.specs.Prelude.{refs_at, IsVouchedBy, from_bool, AreMeasured, HasHeight, AreFinished};
 
 use crate::graph::{BLOCK, shape_there};
-use crate::walk::keys_among;
 use bplist_cert::Refusal;
 use bplist_keys::{ClassTable, KeyNumbers, numbers_of};
 use bplist_objects::{Framed, Offsets, read_refs_in, refs_of};
@@ -63,7 +62,7 @@ fn container_height<P: Offsets>(
     while done < refs {
         let now = (refs - done).min(block.len() as u64) as usize;
         read_refs_in(src, &head, done, &mut block[..now])?;
-        let (keys, values) = block[..now].split_at(keys_among(&head, done, now));
+        let (keys, values) = block[..now].split_at(head.keys_among(done, now));
         if !table.are_new(n, keys, done.min(head.count)) {
             return Ok(None);
         }

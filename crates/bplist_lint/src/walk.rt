@@ -5,7 +5,7 @@ ghost use Rattle.std.specs.Prelude.{OnOk, length, min, slice_index, vec_len};
 ghost use Rattle.bplist_lint.specs.Prelude.{OnlyReads, ObjectFault as object_fault, frame_in, HonestlyIn, content_at};
 ghost use Rattle.bplist_lint.specs.Prelude.{refs, IsSafeHead, ref_count, AreBelow, ref, Dict, failed_to_read, IsMarked};
 ghost use Rattle.bplist_lint.specs.Prelude.{IsRoomy, IsSteady, IsSteadyWalk, Worked, NotedIn, KeepsNames, IsWalking, HasRoomFor, IsWalked};
-ghost use Rattle.bplist_lint.specs.Prelude.{AreNamed, of_object, stop_failed, Read as is_read, key_count};
+ghost use Rattle.bplist_lint.specs.Prelude.{AreNamed, of_object, stop_failed, Read as is_read};
 ghost use Rattle.bplist_lint.specs.declared.walk.Stop.TheVariants.{Memory as is_memory};
 
 use crate::tally::Tally;
@@ -122,18 +122,6 @@ fn mark_block(frame: &Frame, numbers: &[u64], worklist: &mut Worklist) -> Result
     Ok(())
 }
 
-/// Returns how many of `references` references, from number `done` on, are to keys.
-pub(crate) fn keys_among(head: &Head, done: u64, references: usize) -> usize
-    ensures value { result ≡ min references (key_count head.now.kind head.now.count - done) }
-    ensures few { result ≤ references }
-    ensures keys { head.now.kind ≡ Dict → (k : ℕ) → k < references → (k < result) ↔ (done + k < head.now.count) }
-{
-    match head.kind {
-        Kind::Dict => head.count.saturating_sub(done).min(references as u64) as usize,
-        _ => 0,
-    }
-}
-
 /// Marks the objects that an object with this head refers to, block by block, and names its keys.
 fn mark_body<P: Framed>(
     src: &mut P,
@@ -158,7 +146,7 @@ fn mark_body<P: Framed>(
     while refs.read(src)? {
         let block = refs.block();
         mark_block(&frame, block, worklist)?;
-        named.insert_all(&block[..keys_among(head, refs.first(), block.len())]);
+        named.insert_all(&block[..head.keys_among(refs.first(), block.len())]);
     }
     Ok(())
 }

@@ -24,6 +24,7 @@ pub mod Spelled
 pub mod SmallFiles
 pub mod Framed
 pub mod RefBlocks
+pub mod KeyCounts
 pub mod UnitBlocks
 pub mod Visits
 pub mod Prelude

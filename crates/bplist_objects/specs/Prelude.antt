@@ -14,6 +14,7 @@ pub use Rattle.bplist_objects.specs.FrameRules.{Breaks, IsFrameFault}
 pub use Rattle.bplist_objects.specs.Framed.{HonestlyBy, HonestlyIn, IsFramed, frame_in, with_frame}
 pub use Rattle.bplist_objects.specs.Heads.{Content, HasShape, IsHeadOf, Spells, content_at, refs}
 pub use Rattle.bplist_objects.specs.Holds.{Holds}
+pub use Rattle.bplist_objects.specs.KeyCounts.{key_count}
 pub use Rattle.bplist_objects.specs.Kinds.{IsLeafKind}
 pub use Rattle.bplist_objects.specs.Markers.{Announces, HasLongCount, IsLongOf, MarkersCount, Marks, is_counted, markers_of}
 pub use Rattle.bplist_objects.specs.Numbers.{integer, num_at}
@@ -32,6 +33,6 @@ pub use Rattle.bplist_objects.specs.declared.fault.ObjectFault.TheVariants.{Faul
 pub use Rattle.bplist_objects.specs.declared.frame.Frame.{Frame}
 pub use Rattle.bplist_objects.specs.declared.frame.ObjectNo.{ObjectNo}
 pub use Rattle.bplist_objects.specs.declared.head.Head.{Head}
-pub use Rattle.bplist_objects.specs.declared.head.Kind.TheVariants.{Int, Uid}
+pub use Rattle.bplist_objects.specs.declared.head.Kind.TheVariants.{Dict, Int, Uid}
 pub use Rattle.bplist_objects.specs.declared.rule.Rule.{Rule}
 pub use Rattle.bplist_objects.specs.declared.rule.Rule.TheVariants.{Magic, OffsetHigh, Overfull}

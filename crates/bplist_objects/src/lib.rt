@@ -22,7 +22,7 @@
 //! | head | [`Kind`], the kinds of objects; [`Head`], what marker and count say, by rules 14 to 17: [`shape_of`], and [`shape_at`] for a known place |
 //! | marker | what the marker alone says: the kind, by rule 15, the count and the size |
 //! | body | heads by rules 14 to 20: [`head_of`], [`head_at`]; [`check_body`] |
-//! | refs | the references of a container: [`refs_of`], [`ref_at`], [`read_refs`] |
+//! | refs | the references of a container: [`refs_of`], [`ref_at`], [`read_refs`]; [`Head::keys_among`], how many are to keys |
 //! | extents | [`Extents`], what objects take together, by rule 31 |
 //! | leaf | the values of leaves: [`int_of`], [`uid_of`], [`octets_at`]; the units of texts: [`unit_at`], [`read_units`]; their order: [`key_cmp`] |
 //! | unit_blocks | the units of a text, block by block: [`UnitBlocks`] |

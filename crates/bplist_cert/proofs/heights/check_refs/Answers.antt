@@ -4,13 +4,14 @@ use Rattle.bplist_objects.specs.declared.frame.Frame.{Frame}
 use Rattle.bplist_objects.specs.Framed.{frame_in}
 use Rattle.bplist_objects.proofs.BodyLaws.{refs_fit}
 use Rattle.bplist_cert.specs.Heights.{AreMet}
-use Rattle.bplist_cert.proofs.Blocks.{met_more, unmet_there}
+use Rattle.bplist_cert.proofs.Blocks.{HasCollectedFirst, met_more, unmet_there, collected_none, collected_more, collected_all}
+use Rattle.bplist_cert.specs.Walks.{IfCollected}
 use Rattle.bplist_cert.proofs.heights.check_refs.Goals as goal
 
 pub refs_of-refs-requires : goal.refs_of-refs-requires
 refs_of-refs-requires g c =
-    let fit = refs_fit (frame_in (g.P.Source.means c.args.src.now)).ref_size c.args.head.now.count c.args.head.now.kind c.frame-frame.ensures.framed.safe.safe.ref_low in
-    omega (arith, fit.1, c.requires.body)
+    let fit = refs_fit (frame_in (g.P.Source.means c.args.src.now)).ref_size c.args.container.head.now.count c.args.container.head.now.kind c.frame-frame.ensures.framed.safe.safe.ref_low in
+    omega (arith, fit.1, c.requires.head.body)
 
 pub returns-in-Some-clause-exact : goal.returns-in-Some-clause-exact
 returns-in-Some-clause-exact g c = λ honest.
@@ -19,7 +20,7 @@ returns-in-Some-clause-exact g c = λ honest.
     let v = c.loop-done.invariant in
     let all : length c.read_refs_in.new.into ≡ c.min-now.result = omega (arith, length-take-le c.min-now.result c.loop-done.buffer (omega arith)) in
     let next = (rw v.same at c.in_ok-read_refs_in.ensures.numbers) honest in
-    let there = unmet_there m.octets F c.args.heights.now c.args.head.now c.args.wanted c.loop-done.done c.read_refs_in.new.into next (v.met honest) (omega (arith, all, c.refs_of-refs.ensures, c.min-now.ensures)) c.in-Some.i c.in-Some.ensures in
+    let there = unmet_there m.octets F c.args.heights.now c.args.container.head.now c.args.wanted c.loop-done.done c.read_refs_in.new.into next (v.met honest) (omega (arith, all, c.refs_of-refs.ensures, c.min-now.ensures)) c.in-Some.i c.in-Some.ensures in
     let place = rw (c.in_ok-read_refs_in.ensures.reads, v.same) at c.ref_place.ensures in
     (c.rule.ensures, refl, (c.loop-done.done + c.in-Some.i, there, place))
 
@@ -34,6 +35,25 @@ loop-done-preserved g c =
       reached = omega arith;
       met = λ honest.
           let next = (rw v.same at c.in_ok-read_refs_in.ensures.numbers) honest in
-          subst (λ k. AreMet m.octets F c.args.heights.now c.args.head.now c.args.wanted (c.loop-done.done + k)) all
-          (met_more m.octets F c.args.heights.now c.args.head.now c.args.wanted c.loop-done.done c.read_refs_in.new.into next (v.met honest) (length c.read_refs_in.new.into) (omega arith) c.in_default.ensures);
+          subst (λ k. AreMet m.octets F c.args.heights.now c.args.container.head.now c.args.wanted (c.loop-done.done + k)) all
+          (met_more m.octets F c.args.heights.now c.args.container.head.now c.args.wanted c.loop-done.done c.read_refs_in.new.into next (v.met honest) (length c.read_refs_in.new.into) (omega arith) c.in_default.ensures);
+      collected = λ honest.
+          let next = (rw v.same at c.in_ok-read_refs_in.ensures.numbers) honest in
+          subst (λ k. IfCollected c.args.names.now c.collect_keys.new.names (HasCollectedFirst m.octets F c.args.container.head.now (c.loop-done.done + k) (c.args.container.n.0 + 1))) all
+          (collected_more m.octets F c.args.container.head.now (c.args.container.n.0 + 1) c.loop-done.done c.read_refs_in.new.into next c.args.names.now c.loop-done.names c.collect_keys.new.names
+          (v.collected honest) c.collect_keys.ensures);
     }
+
+pub loop-done-init : goal.loop-done-init
+loop-done-init g c = record {
+  same = refl;
+  reached = omega arith;
+  met = λ honest k low. absurd (omega (arith, low));
+  collected = λ honest. collected_none (g.P.Source.means c.args.src.now).octets (frame_in (g.P.Source.means c.args.src.now)) c.args.container.head.now (c.args.container.n.0 + 1) c.args.names.now;
+}
+
+pub returns-clause-names : goal.returns-clause-names
+returns-clause-names g c = λ honest.
+    let m = g.P.Source.means c.args.src.now in
+    collected_all m.octets (frame_in m) c.args.container.head.now (c.args.container.n.0 + 1) c.loop-done.done (omega (arith, c.refs_of-refs.ensures, c.loop-done-test.false)) c.args.names.now c.loop-done.names
+    (c.loop-done.invariant.collected honest)

@@ -1,4 +1,4 @@
-use Rattle.std.proofs.Common.{◌∙◌, Bool, false, length, ap, arith}
+use Rattle.std.proofs.Common.{◌∙◌, ℕ, length, ap, arith}
 use Rattle.std.proofs.lemmas.List.{length-replicate}
 use Rattle.bplist_objects.specs.declared.frame.Frame.{Frame}
 use Rattle.bplist_objects.specs.Framed.{frame_in}
@@ -12,7 +12,7 @@ returns-clause-none g c = λ honest heights.
     let F : Frame = frame_in (g.P.Source.means c.args.src.now) in
     elim c.match-keys.branch [
       | in-None+in_ok-new-in-None w ↦
-          let all = ap length w.in_ok-new-in-None.ensures ∙ length-replicate {A = Bool} c.frame-objects.result.objects false ∙ ap (λ (x : Frame). x.objects) c.frame-objects.ensures.frame in
-          rw (w.in-None.is, w.named-is) ((all, λ n low. absurd (omega (arith, low))), λ true n low. absurd (omega (arith, low)))
+          let all = ap length w.in_ok-new-in-None.ensures ∙ length-replicate {A = ℕ} c.frame-objects.result.objects 0 ∙ ap (λ (x : Frame). x.objects) c.frame-objects.ensures.frame in
+          rw (w.in-None.is, w.named-is) (all, λ n low. absurd (omega (arith, low)), λ true n low. absurd (omega (arith, low)))
       | in-Some w ↦ rw w.in-Some.is (none_listed f F heights _ _ (c.new-2.ensures f F))
     ]

@@ -3,7 +3,9 @@ use Rattle.std.proofs.lemmas.Grind.{common_steps}
 use Rattle.std.proofs.lemmas.List.{length-take-le}
 use Rattle.std.proofs.lemmas.Result.{err_from_is_err_and}
 use Rattle.bplist_objects.specs.Answers.{Never}
+use Rattle.bplist_objects.specs.Framed.{frame_in}
 use Rattle.bplist_cert.proofs.CheckSteps.{never_refused}
+use Rattle.bplist_cert.proofs.KeysLooks.{stamps_marked}
 use Rattle.bplist_cert.proofs.key_names.seen_keys.Goals as goal
 
 pub returns-in_err-name_key_block-clause-exact : goal.returns-in_err-name_key_block-clause-exact
@@ -41,3 +43,9 @@ returns-clause-exact g c = λ honest seen given.
 
 pub loop-done-init : goal.loop-done-init
 loop-done-init g c = grind (arith, common_steps)
+
+pub returns-then-len-objects-clause-exact : goal.returns-then-len-objects-clause-exact
+returns-then-len-objects-clause-exact g c = λ honest seen given.
+    let m = g.P.Source.means c.args.src.now in
+    stamps_marked m.octets (frame_in m) c.args.heights.now c.args.bound c.in-Some.names c.in_ok-marks_of.field-0.marks.items
+    (rw c.deref.ensures.value at c.in_ok-marks_of.ensures.all) (rw c.deref.ensures.value at c.in_ok-marks_of.ensures.exact) (rw c.in-Some.is at given)

@@ -1,41 +1,40 @@
-use Rattle.std.proofs.Common.{◌≡◌, ◌∙◌, ap, count_by, arith}
+use Rattle.std.proofs.Common.{◌≡◌, ◌≤◌, ◌∙◌, ap, sym, count_by, arith}
+use Rattle.std.proofs.lemmas.Bool.{eqb-true, false≢true}
 use Rattle.std.proofs.lemmas.Result.{err_from_is_err_and}
 use Rattle.bplist_objects.specs.declared.frame.Frame.{Frame}
 use Rattle.bplist_objects.specs.Framed.{frame_in}
 use Rattle.bplist_cert.proofs.CheckSteps.{refused_weaker}
 use Rattle.bplist_cert.proofs.KeyRepeats.{good_unnamed}
-use Rattle.bplist_cert.proofs.KeysLooks.{marks_named, stamps_named}
+use Rattle.bplist_cert.proofs.KeysLooks.{collected_apart}
 use Rattle.bplist_cert.proofs.key_rules.check_key_repeats.Goals as goal
-use Rattle.bplist_cert.proofs.key_rules.check_key_repeats.Goals.{then-keys-objects+in_ok-keep_places, else-keys-objects}
+use Rattle.bplist_cert.proofs.key_rules.check_key_repeats.Goals.{then-are_apart, else-are_apart, then-keys-objects+in_ok-keep_places, else-keys-objects}
 
 pub returns-in_err-named-clause-exact : goal.returns-in_err-named-clause-exact
 returns-in_err-named-clause-exact g c = λ honest seen given.
-    let m = g.P.Source.means c.args.src.now in
-    let marks = marks_named m.octets (frame_in m) c.args.seen.now.heights.now c.args.seen.now.bound c.args.names c.parts_of-named.result.0 c.parts_of-named.ensures.named (λ none. (c.parts_of-named.ensures.none none).0) given in
     let p = err_from_is_err_and c.from_residual.result c.from_residual.ensures.1 in
-    rw (p.1, p.2) (refused_weaker _ _ c.in_err-named.field-0.0 (λ x never. absurd never) (c.in_err-named.ensures.exact honest seen marks))
+    rw (p.1, p.2) (refused_weaker _ _ c.in_err-named.field-0.0 (λ x never. absurd never) (c.in_err-named.ensures.exact honest seen given))
 
 pub returns-then-keys-eq0-clause-exact : goal.returns-then-keys-eq0-clause-exact
 returns-then-keys-eq0-clause-exact g c = λ honest seen given n low vouched.
     let m = g.P.Source.means c.args.src.now in
-    let marks = marks_named m.octets (frame_in m) c.args.seen.now.heights.now c.args.seen.now.bound c.args.names c.parts_of-named.result.0 c.parts_of-named.ensures.named (λ none. (c.parts_of-named.ensures.none none).0) given in
     let named = c.in_ok-named.named.marks.items in
     let none : count_by (λ marked. marked) named ≡ 0 = omega (arith, c.count-keys.ensures, c.if-keys-eq0.true) in
-    good_unnamed m.octets (frame_in m) named n none ((c.in_ok-named.ensures.exact honest seen marks).1 n low vouched)
+    good_unnamed m.octets (frame_in m) named n none ((c.in_ok-named.ensures.exact honest seen given).1 n low vouched)
 
 pub returns-clause-exact : goal.returns-clause-exact
 returns-clause-exact g c = λ honest seen given.
     let m = g.P.Source.means c.args.src.now in
     let F : Frame = frame_in m in
-    let heights = c.args.seen.now.heights.now in
-    let bound = c.args.seen.now.bound in
     let objects : c.frame-objects.result.objects ≡ F.objects = ap (λ (x : Frame). x.objects) c.frame-objects.ensures.frame in
-    let marks = marks_named m.octets F heights bound c.args.names c.parts_of-named.result.0 c.parts_of-named.ensures.named (λ none. (c.parts_of-named.ensures.none none).0) given in
-    let stamps = stamps_named m.octets F heights bound (λ last. last.items) c.saturating_sub.result c.args.names c.parts_of-named.result.1 c.parts_of-named.ensures.last (λ none. (c.parts_of-named.ensures.none none).1)
-    (λ none. omega (arith, none, objects, c.saturating_sub.ensures)) given in
     let same : g.P.Source.means c.if-keys-objects.src ≡ g.P.Source.means c.args.src.now =
     elim c.if-keys-objects.branch [
       | then-keys-objects+in_ok-keep_places w ↦ rw w.src-is (w.in_ok-keep_places.ensures.reads ∙ c.in_ok-named.ensures.reads)
       | else-keys-objects w ↦ rw w.src-is c.in_ok-named.ensures.reads
     ] in
-    (rw same at c.check_named.ensures.exact) honest seen (c.in_ok-named.ensures.exact honest seen marks) stamps
+    (rw same at c.check_named.ensures.exact) honest seen (c.in_ok-named.ensures.exact honest seen given)
+    (λ apart. elim c.if-are_apart.branch [
+      | then-are_apart w ↦
+          let all = eqb-true c.args.seen.now.bound c.frame-objects.result.objects (sym w.apart-is ∙ apart) in
+          (omega (arith, all, objects), collected_apart m.octets F c.args.seen.now.heights.now c.args.seen.now.bound c.args.names (c.are_apart.ensures w.if-are_apart.true) given)
+      | else-are_apart w ↦ absurd (false≢true (sym w.if-are_apart.false ∙ sym w.apart-is ∙ apart))
+    ])

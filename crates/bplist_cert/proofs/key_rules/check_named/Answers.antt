@@ -6,13 +6,13 @@ use Rattle.bplist_objects.specs.Framed.{frame_in}
 use Rattle.bplist_keys.proofs.LookUps.{new_low, stamped_low}
 use Rattle.bplist_cert.specs.Valid.{IsVouchedBy}
 use Rattle.bplist_cert.specs.KeyRepeats.{HasGoodKeys, BreaksKeys}
-use Rattle.bplist_cert.proofs.KeyRepeats.{keys_classed, good_low, good_stamped}
+use Rattle.bplist_cert.proofs.KeyRepeats.{keys_classed, good_low, good_apart}
 use Rattle.bplist_cert.proofs.CheckSteps.{refused_weaker, vouched_inside}
 use Rattle.bplist_cert.proofs.key_rules.check_named.Goals as goal
 use Rattle.bplist_cert.proofs.key_rules.check_named.Goals.{then-entry_or-gt1+in_ok-check_dict_repeats, else-entry_or-gt1}
 
 pub returns-in_err-check_dict_repeats-clause-exact : goal.returns-in_err-check_dict_repeats-clause-exact
-returns-in_err-check_dict_repeats-clause-exact g c = λ honest seen named stamped.
+returns-in_err-check_dict_repeats-clause-exact g c = λ honest seen named apart.
     let f = (g.P.Source.means c.args.src.now).octets in
     let F : Frame = frame_in (g.P.Source.means c.args.src.now) in
     let v = c.loop-n.invariant in
@@ -73,14 +73,14 @@ loop-n-preserved g c =
     ]
 
 pub returns-clause-exact : goal.returns-clause-exact
-returns-clause-exact g c = λ honest seen named stamped.
+returns-clause-exact g c = λ honest seen named apart.
     λ n low vouched. (c.loop-n.invariant.exact honest seen named).1 n (omega (arith, low, c.loop-n-test.false)) vouched
 
 pub returns-then-branch-clause-exact : goal.returns-then-branch-clause-exact
-returns-then-branch-clause-exact g c = λ honest seen named stamped n low vouched.
+returns-then-branch-clause-exact g c = λ honest seen named apart n low vouched.
     let f = (g.P.Source.means c.args.src.now).octets in
     let F : Frame = frame_in (g.P.Source.means c.args.src.now) in
     let heights = c.args.seen.now.heights.now in
-    let told = rw c.in-Some.is at stamped in
-    good_stamped f F heights (c.frame-frame.ensures.framed.framed honest) (λ m under v. seen m (omega (arith, under, told.0)) v) _ c.in_ok-classes.classes.table.items c.in-Some.last.items
-    (c.in_ok-classes.ensures.exact honest) ((rw c.deref.ensures.value at c.in_ok-are_own.ensures) c.if-branch.true) n (vouched_inside heights F.objects n c.requires.all vouched) vouched (named.1 n low vouched) (told.1 n low vouched)
+    let told = apart c.if-apart.true in
+    good_apart f F heights (c.frame-frame.ensures.framed.framed honest) (λ m under v. seen m (omega (arith, under, told.0)) v) c.args.named.marks.items c.in_ok-classes.classes.table.items
+    named.0 c.in_ok-classes.ensures.all (c.in_ok-classes.ensures.exact honest) ((rw c.count-keys.ensures at c.in_ok-are_own.ensures) c.if-branch.true) n (vouched_inside heights F.objects n c.requires.all vouched) vouched (named.1 n low vouched) (told.1 n low vouched)

@@ -9,7 +9,7 @@ use Rattle.bplist_objects.proofs.HeadTies.{shape_announced}
 use Rattle.bplist_keys.specs.Classes.{HaveSeenKeys}
 use Rattle.bplist_cert.specs.KeyRepeats.{HasGoodKeys}
 use Rattle.bplist_cert.proofs.KeyRepeats.{keys_inside, good_at, classed_texts, apart_differ}
-use Rattle.bplist_lint.specs.ReferenceGraph.{key_count}
+use Rattle.bplist_objects.specs.KeyCounts.{key_count}
 use Rattle.bplist_lint.proofs.ContainerSteps.{keys_next, keys_few, measured_next, measured_all, of_checked}
 use Rattle.bplist_lint.proofs.containers.container_height.Goals as goal
 

@@ -7,7 +7,8 @@ use Rattle.bplist_objects.specs.declared.head.Kind.TheVariants.{Dict}
 use Rattle.bplist_keys.specs.Classes.{IsStamped, IsNew, HaveSeenKeys}
 use Rattle.bplist_lint.specs.declared.graph.View.TheVariants as views
 use Rattle.bplist_lint.specs.Graph.{greatest}
-use Rattle.bplist_lint.specs.ReferenceGraph.{key_count, refs_in}
+use Rattle.bplist_objects.specs.KeyCounts.{key_count}
+use Rattle.bplist_lint.specs.ReferenceGraph.{refs_in}
 use Rattle.bplist_lint.proofs.containers.container_height.Given as goal
 
 abbrev pub invariant-loop-done : goal.invariant-loop-done

@@ -1,15 +1,15 @@
 use Rattle.std.proofs.Common.{◌≡◌, ◌+◌, ◌∙◌, ap, suc, length, slice_index, refl, subst, arith}
 use Rattle.std.proofs.lemmas.Result.{err_from_is_err_and}
 use Rattle.bplist_objects.specs.Framed.{frame_in}
-use Rattle.bplist_cert.specs.declared.checker.Pass.TheVariants.{Quick}
+use Rattle.bplist_cert.specs.declared.walk.Pass.TheVariants.{Quick}
 use Rattle.bplist_cert.specs.Lists.{Lists}
 use Rattle.bplist_cert.specs.PairFault.{AreCheckedBelow}
-use Rattle.bplist_cert.specs.Walks.{AreNamed}
+use Rattle.bplist_cert.specs.Walks.{AreCollected}
 use Rattle.bplist_cert.proofs.CheckSteps.{passed, held_more, fault_met, given_weaker}
-use Rattle.bplist_cert.proofs.KeysLooks.{none_named}
+use Rattle.bplist_cert.proofs.KeysLooks.{none_collected}
 use Rattle.bplist_cert.specs.Valid.{IsVouchedBy}
-use Rattle.bplist_cert.proofs.checker.check_block.Goals.{then-heights-n-gt0+in_ok-check_object, else-heights-n-gt0}
-use Rattle.bplist_cert.proofs.checker.check_block.Goals as goal
+use Rattle.bplist_cert.proofs.walk.check_block.Goals.{then-heights-n-gt0+in_ok-check_object, else-heights-n-gt0}
+use Rattle.bplist_cert.proofs.walk.check_block.Goals as goal
 
 pub loop-i-preserved : goal.loop-i-preserved
 loop-i-preserved g c =
@@ -30,7 +30,7 @@ loop-i-preserved g c =
             let here = exact honest (places c.loop-i.i c.loop-i-test.true) v before.0.sums in (
               subst (λ k. AreCheckedBelow m.octets (frame_in m) c.args.walk.certificate.now Quick k w.check_object.new.walked.used.octets) e
                   (held_more m.octets (frame_in m) heights keys n Quick c.loop-i.walked.used.octets before.0 w.check_object.new.walked.used.octets here.0),
-              λ named. subst (λ k. AreNamed m.octets (frame_in m) heights k w.check_object.new.walked.named) e (here.1 (before.1 named)),
+              λ named. subst (λ k. AreCollected m.octets (frame_in m) heights k w.check_object.new.walked.named) e (here.1 (before.1 named)),
             );
       }
       | else-heights-n-gt0 w ↦ rw (w.src-is, w.walked-is) record {
@@ -40,8 +40,8 @@ loop-i-preserved g c =
             let before = c.loop-i.invariant.running honest places run in (
               subst (λ k. AreCheckedBelow m.octets (frame_in m) c.args.walk.certificate.now Quick k c.loop-i.walked.used.octets) e
                   (passed m.octets (frame_in m) heights keys n Quick none c.loop-i.walked.used.octets before.0),
-              λ named. subst (λ k. AreNamed m.octets (frame_in m) heights k c.loop-i.walked.named) e
-                  (none_named m.octets (frame_in m) heights n (λ v. absurd (omega (arith, v, none))) c.loop-i.walked.named (before.1 named)),
+              λ named. subst (λ k. AreCollected m.octets (frame_in m) heights k c.loop-i.walked.named) e
+                  (none_collected m.octets (frame_in m) heights n (λ v. absurd (omega (arith, v, none))) c.loop-i.walked.named (before.1 named)),
             );
       }
     ]
@@ -66,7 +66,7 @@ returns-clause-exact g c = λ honest places run.
     let e : c.args.from + c.loop-i.i ≡ c.args.from + length c.args.places.now = omega (arith, c.loop-i-test.false, c.loop-i.auto.i-end) in
     let so_far = c.loop-i.invariant.running honest places run in (
       subst (λ k. AreCheckedBelow m.octets (frame_in m) c.args.walk.certificate.now Quick k c.loop-i.walked.used.octets) e so_far.0,
-      λ named. subst (λ k. AreNamed m.octets (frame_in m) c.args.walk.certificate.now.heights k c.loop-i.walked.named) e (so_far.1 named),
+      λ named. subst (λ k. AreCollected m.octets (frame_in m) c.args.walk.certificate.now.heights k c.loop-i.walked.named) e (so_far.1 named),
     )
 
 pub loop-i-init : goal.loop-i-init
@@ -77,6 +77,6 @@ loop-i-init g c =
       same = refl;
       running = λ honest places run. (
         subst (λ k. AreCheckedBelow m.octets (frame_in m) c.args.walk.certificate.now Quick k c.args.walked.now.used.octets) e run,
-        subst (λ k. AreNamed m.octets (frame_in m) c.args.walk.certificate.now.heights k c.args.walked.now.named) e,
+        subst (λ k. AreCollected m.octets (frame_in m) c.args.walk.certificate.now.heights k c.args.walked.now.named) e,
       );
     }

@@ -4,7 +4,7 @@ use Rattle.bplist_objects.specs.declared.frame.Frame.{Frame}
 use Rattle.bplist_objects.specs.Framed.{frame_in}
 use Rattle.bplist_cert.specs.Lists.{Lists}
 use Rattle.bplist_cert.proofs.CheckSteps.{object_fault, overfull_fault, heights_fault, seen}
-use Rattle.bplist_cert.proofs.checker.check_exactly.Goals as goal
+use Rattle.bplist_cert.proofs.walk.check_exactly.Goals as goal
 
 pub returns-in_err-head-clause-exact : goal.returns-in_err-head-clause-exact
 returns-in_err-head-clause-exact g c = λ honest place vouched sums.

@@ -1,9 +1,9 @@
 use Rattle.std.proofs.Common.{◌≡◌, ◌≤◌, ◌-◌, None}
 use Rattle.bplist_objects.specs.Framed.{frame_in, HonestlyIn}
-use Rattle.bplist_cert.specs.declared.checker.Pass.TheVariants.{Quick}
+use Rattle.bplist_cert.specs.declared.walk.Pass.TheVariants.{Quick}
 use Rattle.bplist_cert.specs.PairFault.{AreCheckedBelow}
 use Rattle.bplist_cert.specs.KeysLooks.{AreSeen}
-use Rattle.bplist_cert.proofs.checker.check_all.Given as goal
+use Rattle.bplist_cert.proofs.walk.check_all.Given as goal
 
 -- the source is as it was; the vouched objects so far keep the rules, and so do their keys as far as names and lists say
 abbrev pub invariant-loop-done : goal.invariant-loop-done

@@ -1,10 +1,10 @@
 use Rattle.std.proofs.Common.{◌≡◌, ◌+◌}
 use Rattle.bplist_objects.specs.Framed.{HonestlyIn}
-use Rattle.bplist_cert.specs.declared.checker.Pass.TheVariants.{Quick}
+use Rattle.bplist_cert.specs.declared.walk.Pass.TheVariants.{Quick}
 use Rattle.bplist_cert.specs.Looks.{ArePlaces}
 use Rattle.bplist_cert.specs.PairFault.{AreCheckedBelow}
-use Rattle.bplist_cert.specs.Walks.{AreNamed}
-use Rattle.bplist_cert.proofs.checker.check_block.Given as goal
+use Rattle.bplist_cert.specs.Walks.{AreCollected}
+use Rattle.bplist_cert.proofs.walk.check_block.Given as goal
 
 -- the source is as it was, the vouched objects so far keep the rules, and the keys of their dictionaries are named
 abbrev pub invariant-loop-i : goal.invariant-loop-i
@@ -15,6 +15,6 @@ invariant-loop-i g l =
       running : HonestlyIn (means l.fn.src) (λ f F. ArePlaces f F l.from l.places
           → AreCheckedBelow f F l.walk.certificate.now Quick l.from l.fn.walked.used.octets
           → AreCheckedBelow f F l.walk.certificate.now Quick (l.from + l.i) l.walked.used.octets
-          × (AreNamed f F l.walk.certificate.now.heights l.from l.fn.walked.named
-          → AreNamed f F l.walk.certificate.now.heights (l.from + l.i) l.walked.named));
+          × (AreCollected f F l.walk.certificate.now.heights l.from l.fn.walked.named
+          → AreCollected f F l.walk.certificate.now.heights (l.from + l.i) l.walked.named));
     }

@@ -1,6 +1,6 @@
 use Rattle.std.proofs.lemmas.Result.{err_from_is_err_and}
 use Rattle.bplist_cert.proofs.CheckSteps.{any_shown}
-use Rattle.bplist_cert.proofs.checker.check_object.Goals as goal
+use Rattle.bplist_cert.proofs.walk.check_object.Goals as goal
 
 pub returns-in-Quick-clause-exact : goal.returns-in-Quick-clause-exact
 returns-in-Quick-clause-exact g c = λ honest place vouched sums.

@@ -5,12 +5,12 @@ use Rattle.bplist_objects.specs.Framed.{frame_in}
 use Rattle.bplist_objects.specs.Frame.{off}
 use Rattle.bplist_objects.specs.ObjectRules.{KeepsByObject, shape_rules, body_rules}
 use Rattle.bplist_objects.proofs.RuleLaws.{kept_all_after}
-use Rattle.bplist_cert.specs.declared.checker.Pass.TheVariants.{Quick}
+use Rattle.bplist_cert.specs.declared.walk.Pass.TheVariants.{Quick}
 use Rattle.bplist_cert.specs.Lists.{Lists}
 use Rattle.bplist_cert.specs.PairFault.{IsCheckedObject}
 use Rattle.bplist_cert.proofs.CheckSteps.{seen}
-use Rattle.bplist_cert.proofs.KeysLooks.{no_refs_keys, none_named}
-use Rattle.bplist_cert.proofs.checker.check_quickly.Goals as goal
+use Rattle.bplist_cert.proofs.KeysLooks.{no_refs_keys, none_collected}
+use Rattle.bplist_cert.proofs.walk.check_quickly.Goals as goal
 
 pub returns-in_ok-walked-in-Done-clause-exact : goal.returns-in_ok-walked-in-Done-clause-exact
 returns-in_ok-walked-in-Done-clause-exact g c = λ honest place vouched sums.
@@ -24,7 +24,7 @@ returns-in_ok-walked-in-Done-clause-exact g c = λ honest place vouched sums.
       subst (IsCheckedObject f F c.args.cert.now Quick n) now
           (seen f F c.args.cert.now.heights c.args.cert.now.keys n (c.frame-table.ensures.framed.framed honest) c.requires.within
           visited.0 visited.1 visited.4 vouched c.args.walked.now.used.octets sums room (λ k lt. absurd (omega (arith, lt, visited.3))) (λ k lt. absurd (omega (arith, lt, visited.3)))),
-      none_named f F c.args.cert.now.heights n (λ _. no_refs_keys f F n visited.0 visited.1 visited.3) c.args.walked.now.named,
+      none_collected f F c.args.cert.now.heights n (λ _. no_refs_keys f F n visited.0 visited.1 visited.3) c.args.walked.now.named,
     )
 
 pub returns-in_ok-walked-in-Body-clause-exact : goal.returns-in_ok-walked-in-Body-clause-exact

@@ -1,4 +1,4 @@
-use Rattle.bplist_cert.proofs.checker.check_in_passes.Goals as goal
+use Rattle.bplist_cert.proofs.walk.check_in_passes.Goals as goal
 
 pub returns-clause-exact : goal.returns-clause-exact
 returns-clause-exact g c = λ honest seen.

@@ -3,13 +3,13 @@ use Rattle.std.proofs.lemmas.List.{length-take-le}
 use Rattle.std.proofs.lemmas.Result.{err_from_is_err_and}
 use Rattle.bplist_objects.specs.declared.frame.Frame.{Frame}
 use Rattle.bplist_objects.specs.Framed.{frame_in}
-use Rattle.bplist_cert.specs.declared.checker.Pass.TheVariants.{Quick}
+use Rattle.bplist_cert.specs.declared.walk.Pass.TheVariants.{Quick}
 use Rattle.bplist_cert.specs.Lists.{Lists}
 use Rattle.bplist_cert.specs.PairFault.{AreCheckedBelow}
 use Rattle.bplist_cert.specs.KeysLooks.{AreSeen}
 use Rattle.bplist_cert.proofs.CheckSteps.{start, given_weaker}
 use Rattle.bplist_cert.proofs.KeysLooks.{none_seen, lists_seen, seen_on}
-use Rattle.bplist_cert.proofs.checker.check_all.Goals as goal
+use Rattle.bplist_cert.proofs.walk.check_all.Goals as goal
 
 pub loop-done-init : goal.loop-done-init
 loop-done-init g c =

@@ -1,0 +1,43 @@
+use Rattle.std.proofs.Common.{◌≡◌, ◌*◌, ap, slice_index, arith}
+use Rattle.std.proofs.lemmas.Result.{IfOk-weaker}
+use Rattle.bplist_objects.specs.declared.frame.Frame.{Frame}
+use Rattle.bplist_objects.specs.Framed.{frame_in}
+use Rattle.bplist_objects.specs.ObjectRules.{IsObjectFault, body_rules}
+use Rattle.bplist_objects.specs.Safe.{ref_count}
+use Rattle.bplist_objects.specs.Scan.{ref}
+use Rattle.bplist_objects.proofs.BodyLaws.{refs_fit}
+use Rattle.bplist_cert.specs.declared.heights.Wanted.TheVariants.{VouchedBelow}
+use Rattle.bplist_cert.specs.Heights.{IsUnmetFault}
+use Rattle.bplist_cert.proofs.CheckSteps.{vouched_inside}
+use Rattle.bplist_cert.proofs.QuickLooks.{rest_by_body, rest_by_heights}
+use Rattle.bplist_cert.proofs.KeysLooks.{no_refs_keys, none_collected, collected_next}
+use Rattle.bplist_cert.proofs.walk.check_rest.Goals as goal
+
+pub refs_of-requires : goal.refs_of-requires
+refs_of-requires g c =
+    let fit = refs_fit (frame_in (g.P.Source.means c.args.src.now)).ref_size c.args.head.now.count c.args.head.now.kind c.frame-frame.ensures.framed.safe.safe.ref_low in
+    omega (arith, fit.1, c.requires.head.body)
+
+pub returns-then-refs_of-eq0-clause-exact : goal.returns-then-refs_of-eq0-clause-exact
+returns-then-refs_of-eq0-clause-exact g c = λ honest place has.
+    let m = g.P.Source.means c.args.src.now in
+    let none : ref_count c.args.head.now.kind c.args.head.now.count ≡ 0 = omega (arith, c.refs_of.ensures, c.if-refs_of-eq0.true) in
+    let names = none_collected m.octets (frame_in m) c.args.heights.now c.args.«at».n.0 (λ _. no_refs_keys m.octets (frame_in m) c.args.«at».n.0 c.args.head.now has none) c.args.named.now in
+    IfOk-weaker c.check_body.result _ _ (λ _ kept. (kept, names))
+    (rest_by_body m.octets (frame_in m) c.args.heights.now c.args.«at».n.0 c.args.head.now (IsObjectFault m.octets (frame_in m) c.args.«at».n.0 body_rules) c.check_body.result
+    none ((rw c.frame-frame.ensures.frame at c.check_body.ensures.exact) honest place has))
+
+pub returns-clause-exact : goal.returns-clause-exact
+returns-clause-exact g c = λ honest place has.
+    let m = g.P.Source.means c.args.src.now in
+    let F : Frame = frame_in m in
+    let heights = c.args.heights.now in
+    let n = c.args.«at».n.0 in
+    let head = c.args.head.now in
+    let some : ref_count head.kind head.count ≡ 0 → ⊥ = λ none. omega (arith, none, c.refs_of.ensures, c.if-refs_of-eq0.false) in
+    rest_by_heights m.octets F heights n head (IsUnmetFault m.octets F heights n head (VouchedBelow (slice_index heights n))) c.check_refs.result has some c.requires.all
+    (λ met. collected_next m.octets F heights n head has
+    (λ dict k low. let two : ref_count head.kind head.count ≡ 2 * head.count = ap (λ kind. ref_count kind head.count) dict in
+    vouched_inside heights F.objects (ref m.octets F head k) c.requires.all (met k (omega (arith, low, two))).0)
+    c.args.named.now c.check_refs.new.names)
+    (c.check_refs.ensures.exact honest) (c.check_refs.ensures.names honest)
