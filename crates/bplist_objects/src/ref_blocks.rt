@@ -38,8 +38,13 @@ impl Model for RefBlocks {
 
     ghost Value = { RefReading };
 
-    ghost view = { λ r. record { head = r.head; bound = r.bound; first = r.next - r.held; next = r.next;
-        block = take r.held r.block } };
+    ghost view = { λ r. record {
+      head = r.head;
+      bound = r.bound;
+      first = r.next - r.held;
+      next = r.next;
+      block = take r.held r.block;
+    } };
 
     ghost invariant = { λ r. (r.held ≤ r.next) × (r.held ≤ 32) × (r.next ≤ r.bound)
         × (r.bound ≤ ref_count r.head.kind r.head.count) };
