@@ -7,7 +7,7 @@ pub use Rattle.bplist_objects.specs.Units.{IsTextKind, units_of}
 pub use Rattle.bplist_objects.specs.Value.{Value}
 pub use Rattle.bplist_objects.specs.declared.head.Kind.TheVariants.{Bytes}
 pub use Rattle.bplist_cert.specs.CheckedFile.{HonestlyChecked}
-pub use Rattle.bplist_cert.specs.Valid.{IsValid, IsVouchedBy}
+pub use Rattle.bplist_cert.specs.Valid.{IsValid}
 pub use Rattle.bplist_cursor.specs.Causes.{GivesRead, read_failed}
 pub use Rattle.bplist_cursor.specs.Formless.{IsFormless}
 pub use Rattle.bplist_cursor.specs.Found.{IsHeld}
@@ -15,6 +15,7 @@ pub use Rattle.bplist_cursor.specs.Kept.{OnlyReadsFile}
 pub use Rattle.bplist_cursor.specs.OldStyle.{value_text}
 pub use Rattle.bplist_cursor.specs.Sizes.{AreMeasures, form_in}
 pub use Rattle.bplist_cursor.specs.Texts.{quoted, text_of_bytes, text_of_units}
+pub use Rattle.bplist_cursor.specs.Vouched.{HonestlyAt, VouchesFor}
 pub use Rattle.bplist_cursor.specs.declared.faults.Unread.TheVariants.{Read}
 pub use Rattle.bplist_cursor.specs.declared.sizes.Form.TheVariants.{NoForm}
 pub use Rattle.bplist_ascii.specs.Asked.{print_bytes, search_bytes}

@@ -2,7 +2,7 @@
 
 ghost use Rattle.std.specs.Prelude.{◌≡◌, ◌↔◌, ◌<◌, ◌≤◌, ◌+◌, ◌*◌, ℕ, Some, None, slice_index, IfOk, IfSome, IsTrue, MatchOption};
 ghost use Rattle.bplist_ascii.specs.Prelude.{HonestlyChecked, Value, Content, Spells, content_at, Holds, IsSafeHead};
-ghost use Rattle.bplist_ascii.specs.Prelude.{IsVouchedBy, GivesRead, read_failed, OnlyReadsFile, AreMeasures, form_in};
+ghost use Rattle.bplist_ascii.specs.Prelude.{GivesRead, read_failed, OnlyReadsFile, AreMeasures, form_in};
 ghost use Rattle.bplist_objects.specs.Extents.{Takes as takes};
 ghost use Rattle.bplist_ascii.specs.Prelude.{IsValid, ref_count, search_bytes};
 ghost use Rattle.bplist_ascii.specs.Prelude.{NoForm, value_text, IsFormless, IsHeld, IsContainer, HasSameFormless};

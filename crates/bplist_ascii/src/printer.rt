@@ -6,7 +6,7 @@
 ghost use Rattle.std.specs.Prelude.{◌≡◌, ℕ, ◌+◌, ◌≤◌, List, Some, None, length, Err, OnOk, OnErr};
 ghost use Rattle.bplist_cursor.specs.declared.faults.Unread.TheVariants.{Changed as unread_changed};
 ghost use Rattle.bplist_ascii.specs.Prelude.{Read as unread_read, PrintFault as print_fault, HonestlyChecked, Value};
-ghost use Rattle.bplist_ascii.specs.Prelude.{Holds, IsVouchedBy, OnlyReadsFile, AreMeasures, AtMost, Takes, print_read};
+ghost use Rattle.bplist_ascii.specs.Prelude.{Holds, HonestlyAt, VouchesFor, OnlyReadsFile, AreMeasures, AtMost, Takes, print_read};
 ghost use Rattle.bplist_ascii.specs.Prelude.{IsPut, IsPrinted, print_bytes, search_bytes, value_text};
 ghost use Rattle.bplist_ascii.specs.declared.printer.PrintFault.TheVariants as print_faults;
 ghost use Rattle.bplist_ascii.specs.declared.printer.PrintFault.TheVariants.{Changed};
@@ -110,16 +110,14 @@ pub fn print_into<S: Source, W: Write>(
     requires measured { HonestlyChecked checked.old
         (λ f F. AreMeasures f F checked.old.certificate.heights measures.now) }
     ensures reads { OnlyReadsFile (print_read result) checked.old checked.new }
-    ensures asks { HonestlyChecked checked.old (λ f F. IsVouchedBy checked.old.certificate.heights node.object.0
-        → (v : Value) → Holds f F node.object.0 v → (text : List ℕ) → value_text v ≡ Some text
+    ensures asks { HonestlyAt checked.old node.object.0 (λ f F n. (v : Value) → Holds f F n v
+        → (text : List ℕ) → value_text v ≡ Some text
         → checked.new.asked ≤ checked.old.asked + print_bytes limit (length text)) }
-    ensures asks_search { HonestlyChecked checked.old (λ f F. IsVouchedBy checked.old.certificate.heights node.object.0
-        → (v : Value) → Holds f F node.object.0 v → value_text v ≡ None
+    ensures asks_search { HonestlyAt checked.old node.object.0 (λ f F n. (v : Value) → Holds f F n v → value_text v ≡ None
         → checked.new.asked ≤ checked.old.asked + search_bytes F) }
-    ensures exact { HonestlyChecked checked.old (λ f F. IsVouchedBy checked.old.certificate.heights node.object.0
-        → (v : Value) → Holds f F node.object.0 v
-        → IsPut (W.contents out.old) (W.contents out.new) sink.old sink.new f F node.object.0 v limit result) }
-    ensures unvouched { (IsVouchedBy checked.old.certificate.heights node.object.0 → ⊥) → result ≡ Err Changed }
+    ensures exact { HonestlyAt checked.old node.object.0 (λ f F n. (v : Value) → Holds f F n v
+        → IsPut (W.contents out.old) (W.contents out.new) sink.old sink.new f F n v limit result) }
+    ensures unvouched { (VouchesFor checked.old node.object.0 → ⊥) → result ≡ Err Changed }
     ensures bounded { OnErr result (AtMost (W.contents out.old) (W.contents out.new) (length sink.old.held + limit)) }
     ensures fits { OnOk result ((bytes : List ℕ) × Takes (W.contents out.old) (W.contents out.new) sink.old sink.new bytes
         × (length bytes ≤ limit)) }
@@ -169,16 +167,14 @@ pub fn print<S: Source, W: Write>(
     requires measured { HonestlyChecked checked.old
         (λ f F. AreMeasures f F checked.old.certificate.heights measures.now) }
     ensures reads { OnlyReadsFile (print_read result) checked.old checked.new }
-    ensures asks { HonestlyChecked checked.old (λ f F. IsVouchedBy checked.old.certificate.heights node.object.0
-        → (v : Value) → Holds f F node.object.0 v → (text : List ℕ) → value_text v ≡ Some text
+    ensures asks { HonestlyAt checked.old node.object.0 (λ f F n. (v : Value) → Holds f F n v
+        → (text : List ℕ) → value_text v ≡ Some text
         → checked.new.asked ≤ checked.old.asked + print_bytes limit (length text)) }
-    ensures asks_search { HonestlyChecked checked.old (λ f F. IsVouchedBy checked.old.certificate.heights node.object.0
-        → (v : Value) → Holds f F node.object.0 v → value_text v ≡ None
+    ensures asks_search { HonestlyAt checked.old node.object.0 (λ f F n. (v : Value) → Holds f F n v → value_text v ≡ None
         → checked.new.asked ≤ checked.old.asked + search_bytes F) }
-    ensures exact { HonestlyChecked checked.old (λ f F. IsVouchedBy checked.old.certificate.heights node.object.0
-        → (v : Value) → Holds f F node.object.0 v
-        → IsPrinted (W.contents out.old) (W.contents out.new) f F node.object.0 v limit result) }
-    ensures unvouched { (IsVouchedBy checked.old.certificate.heights node.object.0 → ⊥) → result ≡ Err Changed }
+    ensures exact { HonestlyAt checked.old node.object.0 (λ f F n. (v : Value) → Holds f F n v
+        → IsPrinted (W.contents out.old) (W.contents out.new) f F n v limit result) }
+    ensures unvouched { (VouchesFor checked.old node.object.0 → ⊥) → result ≡ Err Changed }
     ensures bounded { AtMost (W.contents out.old) (W.contents out.new) limit }
 {
     let mut sink = Sink::new();

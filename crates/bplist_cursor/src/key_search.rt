@@ -7,7 +7,7 @@ ghost use Rattle.std.specs.Prelude.{◌≡◌, ◌<◌, ℕ, List as list, ◌+�
 ghost use Rattle.std.specs.Prelude.{MatchResult, Option, Some, None, ◌*◌};
 ghost use Rattle.bplist_cursor.specs.Prelude.{HonestlyChecked, text, Spells, leaf, dict, content_at, IsSafeHead, Dict};
 ghost use Rattle.bplist_cursor.specs.Prelude.{SpellsText, GivesCursor, cursor_read, OnlyReadsFile, part, compare_units};
-ghost use Rattle.bplist_cursor.specs.Prelude.{Keyed, IsVouchedBy, GivesRead, read_failed, SpellTexts, HonestlyKeyed};
+ghost use Rattle.bplist_cursor.specs.Prelude.{Keyed, HonestlyAt, GivesRead, read_failed, SpellTexts, HonestlyKeyed};
 ghost use Rattle.bplist_cursor.specs.Prelude.{IsKeyIndex, IsCompared, IsKeyList, RisesAtMost, ListStarts, IsUnlisted};
 ghost use Rattle.bplist_cursor.specs.Prelude.{IsSafeBody, IsTextKind, texts_bytes, tries};
 ghost use Rattle.bplist_objects.specs.Units.{units_of};
@@ -234,8 +234,8 @@ pub(crate) fn key_index<S: Source>(
     requires is_dict { head.now.kind ≡ Dict }
     ensures reads { OnlyReadsFile (read_failed result) checked.old checked.new }
     ensures asks { checked.new.asked ≤ checked.old.asked + tries checked.old.certificate.keys head.now.count * (36 + 2 * length units.now) }
-    ensures exact { HonestlyChecked checked.old (λ f F. IsVouchedBy checked.old.certificate.heights n.0
-        → (ks ms : List ℕ) → Spells f F n.0 (dict ks ms) → dict ks ms ≡ content_at f F head.now → SpellTexts f F ks
+    ensures exact { HonestlyAt checked.old n.0 (λ f F m. (ks ms : List ℕ) → Spells f F m (dict ks ms)
+        → dict ks ms ≡ content_at f F head.now → SpellTexts f F ks
         → GivesRead (IsKeyIndex f F ks units.now) result) }
     ensures inside { IfOk result (λ o. IfSome o (λ i. i < head.now.count)) }
     ensures bound { RisesAtMost checked.old comparisons.old comparisons.new (length (digits_of 2 head.now.count)) }

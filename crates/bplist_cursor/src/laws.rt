@@ -1,12 +1,14 @@
 //! Laws about the definitions in specs/. Each law is the contract of a function that does nothing. The bodies of this
 //! crate rest on those that are private to it: about tables by object, and about the text of a value in two parts.
 
-ghost use Rattle.std.specs.Prelude.{◌≡◌, ◌≤◌, ◌↔◌, ◌+◌, ◌*◌, length, ℕ, ◌<◌, List, [], ◌∷◌, Ok, Err, Some, None, Contains, slice_index};
+ghost use Rattle.std.specs.Prelude.{◌≡◌, ◌≤◌, ◌↔◌, ◌+◌, ◌*◌, length, ℕ, ◌<◌, List, [], ◌∷◌, Ok, Err, Option, Some, None, Contains, slice_index};
 ghost use Rattle.bplist_cursor.specs.Prelude.{Frame as frame, IsFrame, Value, Content, Spells, refs, Holds, Refs};
 ghost use Rattle.bplist_cursor.specs.Prelude.{IsNoPath, IsPathOf, stepped, IsTaken, LeadTo, HasTextKeys, why_of, cap};
 ghost use Rattle.bplist_cursor.specs.Prelude.{nodes, Measured, value_text, IsFormed, plain, IsFormless, Formed};
 ghost use Rattle.bplist_cursor.specs.Prelude.{form_at, form_of, Form, array, set, dict, named, member_reference, node_of};
-ghost use Rattle.bplist_cursor.specs.Prelude.{Keyed, path_bytes};
+ghost use Rattle.bplist_cursor.specs.Prelude.{Keyed, path_bytes, OnlyReadsFile};
+ghost use Rattle.bplist_octets.specs.declared.source.ReadFault.{ReadFault as read_fault};
+ghost use Rattle.bplist_cert.specs.CheckedFile.{CheckedFile};
 ghost use Rattle.bplist_objects.specs.Value.{Pairs, keys, dict as dict_value};
 
 /// A path text spells exactly one list of steps.
@@ -42,6 +44,12 @@ pub fn members_by_number()
         → named (member_reference (dict ks ms) (2 * j + 1)) ≡ Some (node_of (slice_index ms j)) }
     ensures none { (f : List ℕ) (F : frame) (n i : ℕ) (content : Content) → Spells f F n content → length (refs content) ≤ i
         → named (member_reference content i) ≡ None }
+{}
+
+/// Where a source counts no failed read after a call, as over a slice, the call has not returned the fault of one.
+pub fn none_failed()
+    ensures { (fault : Option read_fault) (old new : CheckedFile) → OnlyReadsFile fault old new → new.source.failures ≡ 0
+        → fault ≡ None }
 {}
 
 /// With key lists, to look up a key of 4 units in a dictionary of 1,000 pairs asks for at most 476 bytes.

@@ -54,7 +54,7 @@ pub use bodies::{body_bytes, body_units, bytes_of, node_head};
 pub use certified_answers::{AnswerFault, answer_certified};
 pub use faults::{CursorFault, Unread};
 pub use laws::{
-    members_by_number, one_formless, one_key_of_a_thousand, one_path, one_place,
+    members_by_number, none_failed, one_formless, one_key_of_a_thousand, one_path, one_place,
     steps_follow_references,
 };
 pub use lookup::{locate, locate_counted, locate_in_slice};

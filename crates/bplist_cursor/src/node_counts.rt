@@ -6,7 +6,7 @@
 ghost use Rattle.std.specs.Prelude.{◌≡◌, ℕ, ◌+◌, ◌*◌, ◌<◌, ◌≤◌, List, length, slice_index, sum_by, Err, IfOk, IfErr};
 ghost use Rattle.std.specs.List.{AllByRecursion};
 ghost use Rattle.bplist_cursor.specs.Prelude.{HonestlyChecked, Value, Content, Spells, refs, content_at, Holds};
-ghost use Rattle.bplist_cursor.specs.Prelude.{IsSafeHead, IsValid, IsVouchedBy, GivesRead, read_failed, GivesCursor};
+ghost use Rattle.bplist_cursor.specs.Prelude.{IsSafeHead, IsValid, HonestlyAt, VouchesFor, GivesRead, read_failed, GivesCursor};
 ghost use Rattle.bplist_cursor.specs.Prelude.{cursor_read, OnlyReadsFile, cap, nodes, AreInside, IsOrder, IsCounted};
 ghost use Rattle.bplist_cursor.specs.Prelude.{AreCounted, AreHigher, AreOnce, Memory, TakeOctets, Takes, pass_bytes};
 ghost use Rattle.bplist_cursor.specs.Prelude.{ref_count};
@@ -133,7 +133,7 @@ fn count_all<S: Source>(alloc: Global, checked: &mut Checked<S>) -> Result<Vec<u
     ensures reads { OnlyReadsFile (cursor_read result) checked.old checked.new }
     ensures asks { HonestlyChecked checked.old (λ f F. checked.new.asked ≤ checked.old.asked + pass_bytes F) }
     ensures exact { HonestlyChecked checked.old (λ f F. GivesCursor (λ counts. (n : ℕ)
-        → IsVouchedBy checked.old.certificate.heights n → IsCounted f F counts.items n) result) }
+        → VouchesFor checked.old n → IsCounted f F counts.items n) result) }
 {
     let objects = checked.frame().objects;
     let order = in_order(alloc, checked, 1)?;
@@ -156,9 +156,9 @@ pub fn count_nodes<S: Source>(
 ) -> Result<u64, CursorFault>
     ensures reads { OnlyReadsFile (cursor_read result) checked.old checked.new }
     ensures asks { HonestlyChecked checked.old (λ f F. checked.new.asked ≤ checked.old.asked + pass_bytes F) }
-    ensures exact { HonestlyChecked checked.old (λ f F. IsVouchedBy checked.old.certificate.heights node.object.0
-        → (v : Value) → Holds f F node.object.0 v → GivesCursor (λ count. count ≡ cap (nodes v)) result) }
-    ensures unvouched { (IsVouchedBy checked.old.certificate.heights node.object.0 → ⊥) → result ≡ Err Changed }
+    ensures exact { HonestlyAt checked.old node.object.0 (λ f F n. (v : Value) → Holds f F n v
+        → GivesCursor (λ count. count ≡ cap (nodes v)) result) }
+    ensures unvouched { (VouchesFor checked.old node.object.0 → ⊥) → result ≡ Err Changed }
 {
     let _frame = checked.frame();
     if checked.height(node.object) == 0 {

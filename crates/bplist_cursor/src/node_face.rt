@@ -2,8 +2,11 @@
 //!
 //! A face owns what it shows, so the body of a leaf is read into a [`List`].
 
-ghost use Rattle.std.specs.Prelude.{◌≡◌, ◌≢◌, ◌+◌, ◌*◌, ◌≤◌, ℕ, IsTrue, IfOk, IfErr, length, Err};
-ghost use Rattle.bplist_cursor.specs.Prelude.{part, HonestlyChecked, Value, item_size, Content, Spells, content_at, Holds, IsLeafKind, IsTextKind, IsSafeHead, IsSafeBody, IsVouchedBy, GivesCursor, cursor_read, OnlyReadsFile, face as face_of, content_face, HasRoom, count_bytes, face_bytes};
+ghost use Rattle.std.specs.Prelude.{◌≡◌, ◌≢◌, ◌+◌, ◌*◌, ◌≤◌, ℕ, IfOk, IfErr, length, Err};
+ghost use Rattle.bplist_cursor.specs.Prelude.{part, HonestlyChecked, HonestlyAt, VouchesFor, Value, item_size, Content};
+ghost use Rattle.bplist_cursor.specs.Prelude.{Spells, content_at, Holds, IsLeafKind, IsTextKind, IsSafeHead, IsSafeBody};
+ghost use Rattle.bplist_cursor.specs.Prelude.{GivesCursor, cursor_read, OnlyReadsFile, face as face_of, content_face};
+ghost use Rattle.bplist_cursor.specs.Prelude.{HasRoom, count_bytes, face_bytes};
 ghost use Rattle.bplist_objects.specs.Units.{units_of};
 ghost use Rattle.bplist_cursor.specs.declared.faults.CursorFault.TheVariants.{Changed};
 
@@ -96,16 +99,14 @@ pub fn face<S: Source>(
     node: Node,
 ) -> Result<Face, CursorFault>
     ensures reads { OnlyReadsFile (cursor_read result) checked.old checked.new }
-    ensures asks { HonestlyChecked checked.old (λ f F. IsVouchedBy checked.old.certificate.heights node.object.0
-        → (v : Value) → Holds f F node.object.0 v → checked.new.asked ≤ checked.old.asked + face_bytes v) }
-    ensures value { HonestlyChecked checked.old (λ f F. IsVouchedBy checked.old.certificate.heights node.object.0
-        → (v : Value) → Holds f F node.object.0 v → GivesCursor (λ shown. shown ≡ face_of v) result) }
-    ensures content { HonestlyChecked checked.old (λ f F. IsVouchedBy checked.old.certificate.heights node.object.0
-        → (content : Content) → Spells f F node.object.0 content → GivesCursor
-        (λ shown. shown ≡ content_face content) result) }
-    ensures unchanged { IsTrue checked.old.source.honest → IsVouchedBy checked.old.certificate.heights node.object.0
-        → IfErr result (λ fault. fault ≢ Changed) }
-    ensures unvouched { (IsVouchedBy checked.old.certificate.heights node.object.0 → ⊥) → result ≡ Err Changed }
+    ensures asks { HonestlyAt checked.old node.object.0 (λ f F n. (v : Value) → Holds f F n v
+        → checked.new.asked ≤ checked.old.asked + face_bytes v) }
+    ensures value { HonestlyAt checked.old node.object.0 (λ f F n. (v : Value) → Holds f F n v
+        → GivesCursor (λ shown. shown ≡ face_of v) result) }
+    ensures content { HonestlyAt checked.old node.object.0 (λ f F n. (content : Content) → Spells f F n content
+        → GivesCursor (λ shown. shown ≡ content_face content) result) }
+    ensures unchanged { HonestlyAt checked.old node.object.0 (λ _ _ _. IfErr result (λ fault. fault ≢ Changed)) }
+    ensures unvouched { (VouchesFor checked.old node.object.0 → ⊥) → result ≡ Err Changed }
     ensures room { IfOk result (HasRoom (length checked.old.source.octets)) }
 {
     let _frame = checked.frame();
