@@ -24,14 +24,18 @@ module _ (old new : Option (List ℕ)) (f : List ℕ) (F : Frame) (n : ℕ) (v :
   IsPrinted (Err Changed) = ⊥
   IsPrinted (Err Memory) = HasText v limit (SendsSome old new)
 
-module _ (old new : Option (List ℕ)) (before after : Sending) (f : List ℕ) (F : Frame) (n : ℕ) (v : Value) (limit : ℕ) where
-  -- the text of the value v of object n was put into a sink, or why not
-  abbrev pub IsPut : Result (Unit {0}) PrintFault → Type 0
-  IsPut (Ok _) = HasText v limit (Takes old new before after)
-  IsPut (Err (NoAsciiForm m)) = (value_text v ≡ None) × IsFormless f F n v m.0 × Keeps old new × (after ≡ before)
-  IsPut (Err TooLong) = (value_text v ≢ None) × (¬ HasText v limit (λ _. ⊤)) × Keeps old new × (after ≡ before)
-  IsPut (Err (Write sent)) = HasText v limit (λ text. TakesPart old new before text sent)
-  IsPut (Err (Read _)) = ((value_text v ≡ None) × Keeps old new × (after ≡ before))
-      ⊎ HasText v limit (λ text. SendsSome old new (before.held ++ text))
-  IsPut (Err Changed) = ⊥
-  IsPut (Err Memory) = HasText v limit (λ text. SendsSome old new (before.held ++ text))
+module _ (old new : Option (List ℕ)) (before after : Sending) where
+  -- nothing was written, and nothing was put into the sink
+  abbrev pub PutsNothing : Type 0
+  PutsNothing = Keeps old new × (after ≡ before)
+
+  module _ (f : List ℕ) (F : Frame) (n : ℕ) (v : Value) (limit : ℕ) where
+    -- the text of the value v of object n was put into a sink, or why not
+    abbrev pub IsPut : Result (Unit {0}) PrintFault → Type 0
+    IsPut (Ok _) = HasText v limit (Takes old new before after)
+    IsPut (Err (NoAsciiForm m)) = (value_text v ≡ None) × IsFormless f F n v m.0 × PutsNothing
+    IsPut (Err TooLong) = (value_text v ≢ None) × (¬ HasText v limit (λ _. ⊤)) × PutsNothing
+    IsPut (Err (Write sent)) = HasText v limit (λ text. TakesPart old new before text sent)
+    IsPut (Err (Read _)) = ((value_text v ≡ None) × PutsNothing) ⊎ HasText v limit (λ text. SendsSome old new (before.held ++ text))
+    IsPut (Err Changed) = ⊥
+    IsPut (Err Memory) = HasText v limit (λ text. SendsSome old new (before.held ++ text))
