@@ -12,9 +12,7 @@ use crate::checked::Checked;
 use crate::key_lists::{KeyFindings, VouchedPrefix, key_findings};
 use crate::refusal::Refusal;
 use crate::walk::check_in_passes;
-use bplist_objects::{
-    Extents, Fault, Frame, ObjectFault, Objects, Offsets, Rule, frame_of,
-};
+use bplist_objects::{Extents, Fault, Frame, ObjectFault, Objects, Offsets, Rule, frame_of};
 use bplist_octets::Source;
 use std::alloc::Global;
 
