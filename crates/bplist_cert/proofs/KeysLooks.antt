@@ -1,5 +1,5 @@
 -- What a walk over the vouched objects finds out about the keys of dictionaries.
-use Rattle.std.proofs.Common.{◌≡◌, ℕ, suc, ◌+◌, ◌-◌, ◌*◌, ◌≤◌, ◌<◌, ◌∙◌, ap, sym, refl, subst, inl, inr, List, length, slice_index, IsTrue, Bool, Option, Some, None, MatchOption, ◌↔◌, arith}
+use Rattle.std.proofs.Common.{◌≡◌, ℕ, suc, ◌+◌, ◌-◌, ◌*◌, ◌≤◌, ◌<◌, ◌∙◌, ap, sym, subst, inl, inr, List, length, slice_index, IsTrue, Bool, Option, Some, None, MatchOption, ◌↔◌, arith}
 use Rattle.std.proofs.lemmas.Bool.{cases_eq}
 use Rattle.std.proofs.lemmas.List.{get_or_past}
 use Rattle.bplist_objects.specs.declared.frame.Frame.{Frame}
