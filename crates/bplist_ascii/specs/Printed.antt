@@ -14,7 +14,7 @@ abbrev pub HasText : Value → ℕ → (List ℕ → Type 0) → Type 0
 HasText v limit P = (t : List ℕ) × (value_text v ≡ Some t) × (length t ≤ limit) × (length t < 18446744073709551615) × P t
 
 module _ (old new : Option (List ℕ)) (f : List ℕ) (F : Frame) (n : ℕ) (v : Value) (limit : ℕ) where
-  -- the text of the value v of object n was written, or why not
+  -- the text of the value v of object n was written; otherwise why not
   abbrev pub IsPrinted : Result (Unit {0}) PrintFault → Type 0
   IsPrinted (Ok _) = HasText v limit (Appends old new)
   IsPrinted (Err (NoAsciiForm m)) = (value_text v ≡ None) × IsFormless f F n v m.0 × Keeps old new
@@ -30,7 +30,7 @@ module _ (old new : Option (List ℕ)) (before after : Sending) where
   PutsNothing = Keeps old new × (after ≡ before)
 
   module _ (f : List ℕ) (F : Frame) (n : ℕ) (v : Value) (limit : ℕ) where
-    -- the text of the value v of object n was put into a sink, or why not
+    -- the text of the value v of object n was put into a sink; otherwise why not
     abbrev pub IsPut : Result (Unit {0}) PrintFault → Type 0
     IsPut (Ok _) = HasText v limit (Takes old new before after)
     IsPut (Err (NoAsciiForm m)) = (value_text v ≡ None) × IsFormless f F n v m.0 × PutsNothing

@@ -30,7 +30,7 @@ pub record HaveGoodLists (f : List ℕ) (F : Frame) (heights : List ℕ) (keyed 
 abbrev pub AreListed : List ℕ → Frame → Lists → ℕ → KeyListFindings → Type 0
 AreListed f F certificate bound look = IfSome certificate.keys (λ keyed. HaveGoodLists f F certificate.heights keyed bound look)
 
--- version 1: the keys of the vouched dictionaries below a bound are collected, if they are to be; version 2: their key
+-- version 1: the keys of the vouched dictionaries below a bound are collected, unless none are; version 2: their key
 -- lists are good, if the walk found so
 abbrev pub AreSeen : List ℕ → Frame → Lists → ℕ → KeyFindings → Type 0
 AreSeen f F certificate bound look =

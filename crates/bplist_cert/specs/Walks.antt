@@ -15,7 +15,7 @@ AreStamped stamp numbers before after =
     × ((j k : ℕ) → j < k → k < length numbers → slice_index numbers j ≢ slice_index numbers k)
     × ((x : ℕ) → (slice_index after x ≡ slice_index before x) ⊎ (slice_index after x ≡ stamp))
 
--- these numbers have got a stamp; and if no dictionary has named an object twice so far, they are different objects
+-- the objects with these numbers have stamps; and if no dictionary has named one twice so far, they differ
 pub record HasStamped (stamp : ℕ) (numbers : List ℕ) (before after : KeyNames) : Type 0 where
   pub all : length after.last.items ≡ length before.last.items
   pub keeps : (x : ℕ) → 0 < slice_index before.last.items x → 0 < slice_index after.last.items x
@@ -26,8 +26,8 @@ pub record HasStamped (stamp : ℕ) (numbers : List ℕ) (before after : KeyName
 abbrev pub AreApart : List ℕ → Frame → Head → Type 0
 AreApart f F head = (j k : ℕ) → j < k → k < head.count → ref f F head j ≢ ref f F head k
 
--- if this is the head of a dictionary, its keys have got stamps; and they are different objects, if no dictionary has
--- named one twice so far
+-- if this is the head of a dictionary, its keys have stamps; and if no dictionary has named one twice so far, they are
+-- different objects
 pub record HasCollected (f : List ℕ) (F : Frame) (head : Head) (before after : KeyNames) : Type 0 where
   pub all : length after.last.items ≡ length before.last.items
   pub keeps : (x : ℕ) → 0 < slice_index before.last.items x → 0 < slice_index after.last.items x
@@ -38,7 +38,7 @@ pub record HasCollected (f : List ℕ) (F : Frame) (head : Head) (before after :
 abbrev pub IfCollected : Option KeyNames → Option KeyNames → (KeyNames → KeyNames → Type 0) → Type 0
 IfCollected before after Relation = IfSome after (λ now. MatchOption before ⊥ (λ was. Relation was now))
 
--- so many numbers are not 0, and they are different
+-- exactly `count` numbers are not 0, and these differ
 abbrev pub AreOwn : List ℕ → ℕ → Type 0
 AreOwn numbers count =
     (count_by (nat_lt 0) numbers ≡ count)
@@ -56,8 +56,8 @@ HasKeysApart f F n = (head : Head) → HasHead f F n head → head.kind ≡ Dict
 abbrev pub HaveKeysApart : List ℕ → Frame → List ℕ → ℕ → Type 0
 HaveKeysApart f F heights bound = (n : ℕ) → n < bound → IsVouchedBy heights n → HasKeysApart f F n
 
--- the keys of the vouched dictionaries below a bound have stamps, if they are to be collected; and those of each
--- dictionary are different objects, if no dictionary has named one twice
+-- unless none are collected, the keys of the vouched dictionaries below a bound have stamps; and if no dictionary has
+-- named one twice, those of each dictionary are different objects
 abbrev pub AreCollected : List ℕ → Frame → List ℕ → ℕ → Option KeyNames → Type 0
 AreCollected f F heights bound names = IfSome names (λ names. (length names.last.items ≡ F.objects)
     × ((n : ℕ) → n < bound → IsVouchedBy heights n → HasStampedKeys f F names.last.items n)

@@ -79,8 +79,8 @@ pub(crate) struct Container<'a> {
     pub head: &'a Head,
 }
 
-/// Stamps those of these references of a container that are to keys, if keys are to be collected. The first of the
-/// references is the one with number `first`.
+/// Stamps the keys among these references of a container, unless `names` is None. `first` is the number of the first
+/// reference.
 #[inline(always)]
 fn collect_keys(names: &mut Option<KeyNames>, container: Container, first: u64, refs: &[u64])
     requires { container.n.0 < 2 ^ 32 - 1 }
@@ -94,7 +94,7 @@ fn collect_keys(names: &mut Option<KeyNames>, container: Container, first: u64, 
 }
 
 /// Checks that all references of a container have heights as wanted. The fault is at the first that has not. Stamps the
-/// keys of a dictionary, if keys are to be collected; after a fault some of them may have no stamps.
+/// keys of a dictionary, unless `names` is None. After a fault some of them may have no stamps.
 pub(crate) fn check_refs<P: Framed>(
     src: &mut P,
     heights: &[u32],

@@ -76,7 +76,7 @@ impl<'a> KeyListFindings<'a> {
 /// What the walk over the vouched objects has found out about the keys of dictionaries so far.
 #[derive(Drop)]
 pub(crate) struct KeyFindings<'a> {
-    /// For version 1: the objects that are named as keys, if they are to be collected.
+    /// For version 1: the objects that are named as keys, or None if the walk collects none.
     pub named: Option<KeyNames>,
     /// For version 2: whether the key lists are good.
     pub lists: KeyListFindings<'a>,

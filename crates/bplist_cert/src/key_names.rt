@@ -79,7 +79,7 @@ impl KeyNames {
         })
     }
 
-    /// Names keys of dictionary `n`.
+    /// Stamps these keys of dictionary `n`. A number that is no object's is passed over.
     pub(crate) fn insert_all(&mut self, n: u32, keys: &[u64])
         requires { n < 2 ^ 32 - 1 }
         ensures { HasStamped (n + 1) keys.now self.old self.new }

@@ -151,7 +151,7 @@ fn check_dict_repeats<P: Offsets>(
     }
 }
 
-/// Checks the keys of the vouched dictionaries seen so far. Their keys are already named, and the places of keys given.
+/// Checks the keys of the vouched dictionaries seen so far. The keys are named.
 /// If all objects were seen, no dictionary names an object twice (`apart`), and each key has a class of its own, no
 /// dictionary need be read again.
 fn check_named<P: Offsets>(
@@ -190,7 +190,7 @@ fn check_named<P: Offsets>(
     Ok(())
 }
 
-/// Whether so many objects have a class, and no two of them the same.
+/// Returns whether exactly `keys` objects have a class, each its own.
 fn are_own(alloc: Global, classes: &KeyNumbers, keys: usize) -> Result<bool, AllocError>
     ensures { IfOk result (λ own. IsTrue own → AreOwn classes.now.table.items keys) }
 {

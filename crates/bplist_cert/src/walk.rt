@@ -48,7 +48,7 @@ struct Placed {
 struct Walked {
     /// How many bytes the objects take.
     used: Extents,
-    /// The objects that are named as keys, if they are to be collected. An exact walk collects none.
+    /// The objects that are named as keys, or None if the walk collects none. An exact walk collects none.
     named: Option<KeyNames>,
 }
 

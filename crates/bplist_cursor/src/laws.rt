@@ -46,7 +46,7 @@ pub fn members_by_number()
         → named (member_reference content i) ≡ None }
 {}
 
-/// Where a source counts no failed read after a call, as over a slice, the call has not returned the fault of one.
+/// If a source counts no failed read after a call, the call returned no read fault. A slice never counts one.
 pub fn none_failed()
     ensures { (fault : Option read_fault) (old new : CheckedFile) → OnlyReadsFile fault old new → new.source.failures ≡ 0
         → fault ≡ None }

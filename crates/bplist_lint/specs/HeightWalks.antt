@@ -35,12 +35,12 @@ pub record Standing (size : ℕ) (states : List State) (heights stack : List ℕ
   pub low : (n : ℕ) → state_at states n ≡ Founded → slice_index heights n ≤ count_by is_founded states
   pub known : (n : ℕ) → 0 < slice_index heights n → (state_at states n ≡ Founded) ⊎ (state_at states n ≡ Open)
 
--- no object is open: so it is between two searches
+-- no object is open: the walk is between two searches
 pub record Rests (size : ℕ) (walk : HeightWalk) : Type 0 where
   pub empty : vec_len walk.stack ≡ 0
   pub standing : Standing size walk.states.items walk.heights.items []
 
--- the walk knows more than before, and something about object n
+-- no object lost its state, and object n has one
 pub record Settles (n : ℕ) (before after : HeightWalk) : Type 0 where
   pub sees : state_at after.states.items n ≢ New
   pub keeps : (m : ℕ) → state_at before.states.items m ≢ New → state_at after.states.items m ≢ New

@@ -77,7 +77,7 @@ pub record Noted (references : List ℕ) (next i : ℕ) (marks : List Bool) (sta
   pub apart : ((m : ℕ) → Contains stack m → IsMarked marks m) → AreApart stack → AreApart stack'
   pub all : (k : ℕ) → k < i → IsMarked marks' (slice_index references k)
 
--- after a visit or a part of one, the walk is at the same object, and has no more work before it
+-- after a visit or a part of one, the walk is at the same object, and has no more work left than before
 pub record Worked (before after : Worklist) : Type 0 where
   pub current : after.current ≡ before.current
   pub work : count_by not after.marks.items + vec_len after.stack ≤ count_by not before.marks.items + vec_len before.stack
@@ -87,7 +87,7 @@ abbrev pub NotedIn : List ℕ → ℕ → Worklist → Worklist → Type 0
 NotedIn references i before after =
     Noted references (before.current + 1) i before.marks.items before.stack.items after.marks.items after.stack.items
 
--- each object has a mark still, and no key lost its mark
+-- there is one mark for each object, and no object lost its mark
 pub record KeepsNames (size : ℕ) (before after : NamedKeys) : Type 0 where
   pub all : length after.marks.items ≡ size
   pub keeps : (m : ℕ) → IsMarked before.marks.items m → IsMarked after.marks.items m

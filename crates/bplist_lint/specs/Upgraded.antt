@@ -48,11 +48,13 @@ module _ (f : List ℕ) (F : Frame) (heights : List ℕ) where
     pub keyed : Keyed
     pub is : certificate ≡ lists heights (Some keyed)
     pub all : length keyed.starts ≡ F.objects
-    -- how many positions come before the key list of object n
+    -- how many positions come before the key list of object n: none before the first
     pub before : ℕ → ℕ
     pub none : before 0 ≡ 0
+    -- the list of a vouched dictionary begins behind them, and has a position for each pair
     pub dict : (n count : ℕ) → n < F.objects → HasPairs n count
         → (slice_index keyed.starts n ≡ before n) × (before (suc n) ≡ before n + count)
+    -- any other object has no list
     pub other : (n : ℕ) → n < F.objects → ((count : ℕ) → HasPairs n count → ⊥)
         → (slice_index keyed.starts n ≡ 0) × (before (suc n) ≡ before n)
     pub total : length keyed.positions ≡ before F.objects

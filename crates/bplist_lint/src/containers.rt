@@ -6,8 +6,8 @@ ghost use Rattle.std.specs.Result.{result_err};
 ghost use Rattle.bplist_lint.specs.Prelude.{OnlyReads, frame_in, HonestlyIn, Dict, HasHead, Head as head_record};
 ghost use Rattle.bplist_lint.specs.Prelude.{KeepsAll, KeepsByObject, object_rules, AreClassed, KeysAreSound, IsStamped};
 ghost use Rattle.bplist_lint.specs.Prelude.{IsNew, HasGoodKeys, Reach, IsMarked, KeepReached, reach_rules, AreChildless};
-ghost use Rattle.bplist_lint.specs.Prelude.{AreNamed, AreClasses, Judges, refused_read, Never, key_rules, AreLeast};
-ghost use Rattle.bplist_lint.specs.Prelude.{refs_at, IsVouchedBy, from_bool, AreMeasured, HasHeight, AreFinished};
+ghost use Rattle.bplist_lint.specs.Prelude.{AreNamed, AreClasses, Judges, refused_read, Never, key_rules, AreFound};
+ghost use Rattle.bplist_lint.specs.Prelude.{from_bool, AreMeasured, HasHeight, AreFinished};
 
 use crate::graph::{BLOCK, shape_there};
 use bplist_cert::Refusal;
@@ -130,8 +130,8 @@ pub fn quick_heights<P: Offsets>(
     ensures exact { HonestlyIn (P.means src.old) (λ f F. (named : List Bool) → ((n : ℕ) → IsMarked marks.now n ↔ Reach f F n)
         → KeepReached f F reach_rules F.objects → AreChildless f F childless.now
         → AreNamed f F named → AreClasses f F named numbers.table.items
-        → Judges (λ found. IfSome found.0 (λ heights. KeepReached f F (key_rules None) F.objects
-        × AreLeast (refs_at f F) F.top.0 heights.items × IsVouchedBy heights.items F.top.0)) Never result) }
+        → Judges (λ found. IfSome found.0 (λ heights. KeepReached f F (key_rules None) F.objects × AreFound f F heights.items))
+        Never result) }
 {
     let _frame = src.frame();
     let mut heights = numbers_of(alloc, childless)?;

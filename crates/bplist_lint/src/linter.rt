@@ -162,8 +162,8 @@ pub fn check_keys<P: Offsets>(
     Ok((None, numbers))
 }
 
-/// Returns the linter's answer for a file whose reached objects keep rules 14 to 22 and 31, and of which these are the
-/// heights, if they are known.
+/// Returns the linter's answer for a file whose reached objects keep rules 14 to 22 and 31. `heights` are the least
+/// heights, if the quick pass found them. Otherwise finds them, or a circle.
 pub fn finish<P: Offsets>(
     alloc: Global,
     src: &mut P,
@@ -188,7 +188,7 @@ pub fn finish<P: Offsets>(
 /// Returns the linter's answer for a file that was opened. First checks each reached object by itself, then the keys and
 /// heights.
 ///
-/// Gives the places up early if more than half of the objects are keys. With the places these passes would take more than
+/// Gives the places up before it numbers the keys, if more than half of the objects are keys. With the places these passes would take more than
 /// 16 bytes an object.
 fn lint_opened<P: Offsets>(alloc: Global, src: &mut P) -> Result<Lint, LintRefusal>
     ensures reads { OnlyReads (lint_failed result) (P.means src.old) (P.means src.new) }
@@ -203,7 +203,7 @@ fn lint_opened<P: Offsets>(alloc: Global, src: &mut P) -> Result<Lint, LintRefus
     }
     let classes = known_classes(alloc, src, named)?;
     let (heights, classes) = check_keys(alloc, src, &reached, classes)?; // rules 21 and 22
-    drop(classes);
+    drop(classes); // the exact heights need the room
     finish(alloc, src, reached, heights) // rule 23
 }
 

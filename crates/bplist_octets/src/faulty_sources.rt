@@ -53,8 +53,8 @@ impl<'a> FaultySource<'a> {
         }
     }
 
-    /// Fills `into` with the bytes from place `at` on, all of which must be inside the source. `Device` if it is the turn
-    /// of the read that fails.
+    /// Fills `into` with the bytes from place `at` on, all of which must be inside the source. Returns
+    /// `Device` if this is the read that fails.
     pub fn read(&mut self, at: u64, into: &mut [u8]) -> Result<(), ReadFault>
         requires { at + length into.old ≤ length self.old.octets.now }
         ensures filled { OnOk result (into.new ≡ part self.old.octets.now at (length into.old)) }
@@ -121,7 +121,8 @@ impl<'a> ShiftingSource<'a> {
         }
     }
 
-    /// Fills `into` with the bytes from place `at` on, all of which must be inside the source.
+    /// Fills `into` with the bytes from place `at` on, all of which must be inside the source: those of the first slice
+    /// while reads from it are left, and then those of the second.
     pub fn read(&mut self, at: u64, into: &mut [u8])
         requires { at + length into.old ≤ length self.old.first.now }
         ensures turn { self.new.left ≡ self.old.left - 1 }

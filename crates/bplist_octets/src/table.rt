@@ -4,7 +4,7 @@ ghost use Rattle.std.specs.Prelude.{◌≡◌, slice_index_or};
 
 /// Returns entry `n` of the table, counted from 0, or `none` if the table has no such entry.
 ///
-/// An index needs a proof that it is inside, at each place where it is used. This call needs none.
+/// Each index needs a proof that it is in bounds. This call needs none.
 pub fn entry_or<T: Copy>(table: &[T], n: u64, none: T) -> T
     ensures { result ≡ slice_index_or table.now n none }
 {
