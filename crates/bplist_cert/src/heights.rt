@@ -95,6 +95,8 @@ fn collect_keys(names: &mut Option<KeyNames>, container: Container, first: u64, 
 
 /// Checks that all references of a container have heights as wanted. The fault is at the first that has not. Stamps the
 /// keys of a dictionary, unless `names` is None. After a fault some of them may have no stamps.
+// Inlined, because it is faster where `wanted` is known.
+#[inline(always)]
 pub(crate) fn check_refs<P: Framed>(
     src: &mut P,
     heights: &[u32],
