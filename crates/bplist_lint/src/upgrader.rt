@@ -29,10 +29,11 @@ fn list_object<P: Offsets>(src: &mut P, n: u32, lists: &mut KeySorting) -> Resul
 {
     let _frame = src.frame();
     // The marker alone says of most objects that they are no dictionary.
-    if let Some(kind) = object_kind(src, n)? {
-        if kind != Kind::Dict {
-            return Ok(0);
-        }
+    let Some(kind) = object_kind(src, n)? else {
+        return Ok(0);
+    };
+    if kind != Kind::Dict {
+        return Ok(0);
     }
     let Some(head) = shape_there(src, n)? else {
         return Err(UpgradeFault::Changed);

@@ -12,6 +12,11 @@ use Rattle.bplist_cert.proofs.AcceptedCertificates.{vouched_keys}
 use Rattle.bplist_lint.proofs.ListSteps.{listed_other, listed_dict, listed_room}
 use Rattle.bplist_lint.proofs.upgrader.list_object.Goals as goal
 
+pub returns-in_default-clause-exact : goal.returns-in_default-clause-exact
+returns-in_default-clause-exact g c = λ honest named heights starts ranked given valid v room l.
+    let s = (valid.vouched c.args.n v).spells in
+    absurd (cc (c.in_default.is, c.in_ok-kind.ensures.shape honest s.shape s.has))
+
 pub returns-then-ne-clause-exact : goal.returns-then-ne-clause-exact
 returns-then-ne-clause-exact g c = λ honest named heights starts ranked given valid v room l.
     let f = (g.P.Source.means c.args.src.now).octets in
