@@ -18,6 +18,6 @@ returns-clause-exact g c = λ honest named marks kept childless are_named classe
           let done = (rw (c.in_ok-table.ensures.classes, c.deref_mut.ensures.value) at c.in_ok-all.ensures.exact) honest named marks kept childless are_named classes c.in_ok-table.ensures.none c.in_ok-heights.ensures w.if-all.true in
           let long : length heights ≡ c.in_ok-heights.heights.len = grind (arith, common_steps) in
           let least = finished_least f F framed c.args.marks.now c.args.childless.now marks kept heights done in
-          rw (w.found-is, with_items_is c.in_ok-heights.heights heights long) (finished_keys f F framed c.args.marks.now c.args.childless.now marks heights done, least.0, omega (arith, least.1))
+          rw (w.found-is, with_items_is c.in_ok-heights.heights heights long) (finished_keys f F framed c.args.marks.now c.args.childless.now marks heights done, (least.0, omega (arith, least.1)))
       | else-all w ↦ rw w.found-is tt
     ]

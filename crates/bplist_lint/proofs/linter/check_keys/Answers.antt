@@ -10,7 +10,7 @@ returns-in-Some-clause-exact g c = λ honest.
     let known = c.requires.known honest in
     let w = known.walked in
     let quick = rw c.in-Some.is at ((rw (c.deref.ensures.value, c.deref-2.ensures.value) at c.in_ok-heights.ensures.exact) honest known.named w.marked w.tallied.kept w.childless known.all known.classes) in
-    (record { walked = w; keys = quick.0 }, (quick.1, quick.2))
+    (record { walked = w; keys = quick.0 }, quick.1)
 
 pub returns-in_err-numbers-clause-exact : goal.returns-in_err-numbers-clause-exact
 returns-in_err-numbers-clause-exact g c = λ honest.
