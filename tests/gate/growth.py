@@ -71,7 +71,7 @@ KNOWN = {
 
 # Many small dictionaries. If a quick way gave up, each would be read once more.
 USUAL = plistlib.dumps([{"key": k % 50} for k in range(15000)], fmt=plistlib.FMT_BINARY)
-USUAL_EACH = {"lint": 1.65, "check-1": 1.4, "upgrade": 1.3, "check-2": 1.75}
+USUAL_EACH = {"lint": 1.65, "check-1": 1.4, "upgrade": 1.4, "check-2": 1.75}
 
 
 def asked(program, file):
