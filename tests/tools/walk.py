@@ -26,7 +26,7 @@ from helpers.calls import Crates, cut  # noqa: E402
 ROOT = pathlib.Path(__file__).resolve().parents[2]
 # Where a way begins, what was made before, what else it leaves out, and what it lists but does not follow.
 WAYS = {
-    "lint": ("main", ["File", "SeekSource"], "run_certified:Verb::Get", ""),
+    "lint": ("main", ["File", "SeekSource"], "command_on:Verb::Check", ""),
     "get": ("run_certified", ["OutFile", "File", "SeekSource", "Window", "Panes"], "run_certified:Verb::Lint", "check"),
 }
 # What a run over that file does not call, by the reason: functions, and `FUNCTION:TEXT`, which is an arm or a block that
@@ -34,14 +34,13 @@ WAYS = {
 LEFT_OUT = {
     "the tables of the command line": "bplint",
     "other commands": "explain_of, run_of, textconv_of, start:Ok(Line::Explain, start:Ok(Line::Run, start:Ok(Line::Textconv, "
-    "do_task:Task::Show, do_task:Task::Raw, run_certified:Verb::Check, run_certified:Verb::Certify, run_certified:Verb::Print",
+    "do_task:Task::Show, do_task:Task::Raw, command_on:Verb::Certify, run_certified:Verb::Check, run_certified:Verb::Certify, run_certified:Verb::Print",
     "a folder, several FILEs, other options": "is_folder, lint_folder, lint_listed, look_at_found, look_at, print_counts, "
     "print_name, shown_name, add:Printed::Faults, labelled",
     "texts in UTF-8": "add_utf8_text",
     "lines of JSON": "finding_of, print_finding, list_rows_on",
-    "standard input, hexadecimal text": "read_whole, read_file, undo_hex, try_answer:Operand::Whole, decode:Operand::File",
+    "standard input, hexadecimal text": "read_whole, read_file, undo_hex, try_answer:Operand::Whole",
     "a fault": "mark_reached, check_reached, circle, first_high_ref, search_part, earlier, first_not_below",
-    "an empty CERT": "version_of, count_in, fits, read_words",
     "objects of other kinds": "wide_in, int_of, leaf_bytes, uid_of, long_count, index_of, add_integer, add_number, "
     "add_hexadecimal, add_text_of_bytes",
     "larger files, bodies and answers": "is_rest_low, first_high_by_parts, first_high_long, read_past, read_at:> LONGEST, "

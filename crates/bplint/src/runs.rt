@@ -13,7 +13,8 @@ use crate::output::{OutFault, OutFile};
 use crate::reasons::{Names, completed, keeps_line, path_lines, prefix_of, too_long_line};
 use crate::waiting::{Waiting, send_waiting};
 use bplint_engine::{
-    Branch, Verb, list_all_on, list_on, run_certified, show_on, show_raw_on, show_text_on,
+    Branch, Command, Verb, certify_on, lint_on, list_all_on, list_on, run_certified, show_on,
+    show_raw_on, show_text_on,
 };
 use bplint_json::{Finding, find_in, list_rows_on};
 use bplint_lines::{RawFault, RunFault, Said, explain};
@@ -258,8 +259,7 @@ fn do_task<S: Source + Drop, W: Write>(
 ) -> Result<(Result<Said, RawFault>, S), InputFault> {
     match task {
         Task::Command(job) => {
-            let decoded = cert.decode(alloc)?;
-            let (answer, src) = run_certified(alloc, &job.command, src, decoded, out);
+            let (answer, src) = command_on(alloc, &job.command, src, cert, out)?;
             Ok((answer.map_err(RawFault::Run), src))
         }
         Task::Show(shown) => {
@@ -270,6 +270,26 @@ fn do_task<S: Source + Drop, W: Write>(
         Task::Rows(listed) => {
             let (answer, src) = list_rows_on(alloc, src, listed, out);
             Ok((answer.map_err(RawFault::Run), src))
+        }
+    }
+}
+
+/// Runs a command over a source. Decodes the certificate if the command takes one. Returns the source too.
+fn command_on<S: Source + Drop, W: Write>(
+    alloc: Global,
+    command: &Command,
+    src: S,
+    cert: &mut Operand,
+    out: &mut W,
+) -> Result<(Result<Said, RunFault>, S), InputFault>
+    requires { PrintsOnePath command.now }
+{
+    match command.verb {
+        Verb::Lint => Ok(lint_on(alloc, src, out)),
+        Verb::Certify => Ok(certify_on(alloc, src, command.sorted, command.hex, out)),
+        Verb::Check | Verb::Get | Verb::Print => {
+            let decoded = cert.decode(alloc)?;
+            Ok(run_certified(alloc, command, src, decoded, out))
         }
     }
 }

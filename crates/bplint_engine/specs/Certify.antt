@@ -1,6 +1,8 @@
 -- What `certify` says. Source: profile.
-use Rattle.std.specs.Prelude.{◌≡◌, ◌++◌, ℕ, List, codes, Bool, MatchBool, if◌then◌else◌}
+use Rattle.std.specs.Prelude.{◌≡◌, ◌++◌, ℕ, List, codes, Bool, MatchBool, if◌then◌else◌, Option, Result, Ok, Err}
+use Rattle.std.specs.Io.KnownBytes.{Appends, Keeps}
 use Rattle.hex.specs.Hex.{encode_lower}
+use Rattle.bplist_octets.specs.Sending.{SendsPart}
 use Rattle.bplist_objects.specs.declared.frame.Frame.{Frame}
 use Rattle.bplist_objects.specs.Frame.{IsFrame}
 use Rattle.bplist_cert.specs.Encoding.{octets_of}
@@ -8,9 +10,13 @@ use Rattle.bplist_cert.specs.Lists.{Lists, IsCertificate}
 use Rattle.bplist_lint.specs.declared.answer.Lint.{Lint}
 use Rattle.bplist_lint.specs.Linted.{IsLintedBy}
 use Rattle.bplist_lint.specs.Upgraded.{IsUpgraded}
+use Rattle.bplint_lines.specs.declared.fault.RunFault.{RunFault}
+use Rattle.bplint_lines.specs.declared.fault.RunFault.TheVariants as faults
+use Rattle.bplint_lines.specs.declared.fault.Said.{Said}
 use Rattle.bplint_lines.specs.declared.fault.Said.TheVariants.{All}
 use Rattle.bplint_lines.specs.Answers.{Answer, gives, refuses}
 use Rattle.bplint_engine.specs.Lint.{LintSays}
+use Rattle.bplint_engine.specs.Output.{IsRefusal}
 
 -- a certificate's bytes, or their hexadecimal text and a line feed
 abbrev pub written : Bool → List ℕ → List ℕ
@@ -22,3 +28,15 @@ CertifySays sorted hex f (gives said bytes) = (F : Frame) × (lint : Lint) × (l
     × MatchBool sorted (IsCertificate lists × ∥ IsUpgraded f F lint.certificate.heights lists ∥₁) (lists ≡ lint.certificate)
     × (said ≡ All) × (bytes ≡ written hex (octets_of lists))
 CertifySays sorted hex f (refuses fault) = LintSays f (refuses fault)
+
+-- the certificate that `certify` writes, or why there is none
+abbrev pub Certifies : Bool → List ℕ → Result Lists RunFault → Type 0
+Certifies sorted f (Ok lists) = (hex : Bool) → IsCertificate lists → CertifySays sorted hex f (gives All (written hex (octets_of lists)))
+Certifies sorted f (Err fault) = (hex : Bool) → IsRefusal (CertifySays sorted hex f) fault
+
+-- the bytes of a certificate were sent, or a first part of them if a write failed; nothing if memory was refused
+abbrev pub SendsCertificate : Option (List ℕ) → Option (List ℕ) → Bool → Lists → Result Said RunFault → Type 0
+SendsCertificate old new hex lists (Ok said) = IsCertificate lists × (said ≡ All) × Appends old new (written hex (octets_of lists))
+SendsCertificate old new hex lists (Err (faults.Write sent)) = IsCertificate lists × SendsPart old new 0 (written hex (octets_of lists)) sent
+SendsCertificate old new hex lists (Err faults.Memory) = Keeps old new
+SendsCertificate old new hex lists (Err _) = ⊥

@@ -19,7 +19,7 @@ pub use Rattle.bplist_octets.specs.Sending.{SendsPart, Takes, TakesPart}
 pub use Rattle.bplint_lines.specs.Answers.{Answer, Leaves, LeavesBy, read_failed}
 pub use Rattle.bplint_lines.specs.Faults.{GivesOrIsExcused}
 pub use Rattle.bplint_lines.specs.OutputLines.{check_line, face_line, lint_line, missing_line}
-pub use Rattle.bplint_engine.specs.Certify.{CertifySays, written}
+pub use Rattle.bplint_engine.specs.Certify.{Certifies, CertifySays, SendsCertificate, written}
 pub use Rattle.bplint_engine.specs.Check.{CheckSays, IsDecoded}
 pub use Rattle.bplint_engine.specs.Commands.{Asked, PrintsOnePath}
 pub use Rattle.bplint_engine.specs.Get.{LinesSay, answer_fault, found_line, reply_line, said_of}

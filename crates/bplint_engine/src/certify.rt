@@ -3,75 +3,83 @@
 
 ghost use Rattle.std.specs.Prelude.{◌≡◌, IfOk, IsTrue, false, true, ℕ, List, MatchResult};
 ghost use Rattle.bplint_engine.specs.Prelude.{OnlyReads, octets_of, IsCertificate, read_failed};
-ghost use Rattle.bplint_engine.specs.Prelude.{Answers, CertifySays, written, IsRefusal, read_fault_of};
+ghost use Rattle.bplint_engine.specs.Prelude.{Certifies, Leaves, CertifySays, SendsCertificate, written, IsRefusal, read_fault_of};
 ghost use Rattle.bplint_engine.specs.Prelude.{CheckSays, IsDecoded, LintSays, IsVouchedFor, IsLeastFor};
 
-use crate::output::Output;
+use crate::output::send;
 use bplint_lines::{RunFault, Said};
 use bplist_cert::{CertRefusal, Certificate, Checked, check};
 use bplist_lint::{lint, lint_checked, lint_with_lists};
 use bplist_octets::Source;
 use std::alloc::{AllocError, Global};
+use std::io::Write;
 
-/// Returns the bytes of a certificate of the file, and the source.
-pub(crate) fn certify_output<S: Source>(
+/// Writes a certificate of the file: with `sorted` also its key lists, and with `hex` its hexadecimal text and a line
+/// feed. Returns the source too. It is [`crate::run_certified`] for `Certify`, and has the same errors.
+pub fn certify_on<S: Source, W: Write>(
     alloc: Global,
     src: S,
     sorted: bool,
     hex: bool,
-) -> (Result<Output, RunFault>, S)
+    out: &mut W,
+) -> (Result<Said, RunFault>, S)
     ensures source { OnlyReads (read_failed result.0) (S.means src) (S.means result.1) }
-    ensures exact { IsTrue (S.means src).honest → Answers (CertifySays sorted hex (S.means src).octets) result.0 }
+    ensures exact { IsTrue (S.means src).honest → Leaves (CertifySays sorted hex (S.means src).octets) 0
+        (W.contents out.old) (W.contents out.new) result.0 }
 {
     let mut src = src;
     let made = if sorted {
-        sorted_output(alloc, &mut src, hex)
+        sorted_certificate(alloc, &mut src)
     } else {
-        least_output(alloc, &mut src, hex)
+        least_certificate(alloc, &mut src)
     };
-    (made, src)
+    let answer = match made {
+        Ok(certificate) => send_certificate(alloc, &certificate, hex, out),
+        Err(fault) => Err(fault),
+    };
+    (answer, src)
 }
 
-/// Returns the bytes of the certificate of the least heights.
-fn least_output<S: Source>(alloc: Global, src: &mut S, hex: bool) -> Result<Output, RunFault>
+/// Returns the certificate of the least heights.
+fn least_certificate<S: Source>(alloc: Global, src: &mut S) -> Result<Certificate, RunFault>
     ensures reads { OnlyReads (read_failed result) (S.means src.old) (S.means src.new) }
-    ensures exact { IsTrue (S.means src.old).honest → Answers (CertifySays false hex (S.means src.old).octets) result }
+    ensures exact { IsTrue (S.means src.old).honest → Certifies false (S.means src.old).octets result }
 {
-    let found = lint(alloc, src)?;
-    Ok(output_of(alloc, &found.certificate, hex)?)
+    Ok(lint(alloc, src)?.certificate)
 }
 
-/// Returns the bytes of the certificate of the least heights with key lists. Lists are made from what the linter vouches
-/// for, so its certificate is not checked.
-fn sorted_output<S: Source>(alloc: Global, src: &mut S, hex: bool) -> Result<Output, RunFault>
+/// Returns the certificate of the least heights with key lists. Lists are made from what the linter vouches for, so its
+/// certificate is not checked.
+fn sorted_certificate<S: Source>(alloc: Global, src: &mut S) -> Result<Certificate, RunFault>
     ensures reads { OnlyReads (read_failed result) (S.means src.old) (S.means src.new) }
-    ensures exact { IsTrue (S.means src.old).honest → Answers (CertifySays true hex (S.means src.old).octets) result }
+    ensures exact { IsTrue (S.means src.old).honest → Certifies true (S.means src.old).octets result }
 {
-    let certificate = lint_with_lists(alloc, src)??;
-    Ok(output_of(alloc, &certificate, hex)?)
+    Ok(lint_with_lists(alloc, src)??)
 }
 
-/// Encodes a certificate as the output of `certify`.
-fn output_of(alloc: Global, certificate: &Certificate, hex: bool) -> Result<Output, AllocError>
-    ensures { IfOk result (λ output. IsCertificate certificate.now × (output.said ≡ Said.All)
-        × (output.bytes.items ≡ written hex (octets_of certificate.now))) }
+/// Writes the bytes of a certificate, or with `hex` their hexadecimal text and a line feed.
+fn send_certificate<W: Write>(
+    alloc: Global,
+    certificate: &Certificate,
+    hex: bool,
+    out: &mut W,
+) -> Result<Said, RunFault>
+    ensures { SendsCertificate (W.contents out.old) (W.contents out.new) hex certificate.now result }
 {
-    let bytes = bytes_of(alloc, certificate, hex)?;
-    Ok(Output {
-        said: Said::All,
-        bytes,
-    })
-}
-
-/// Returns the bytes of a certificate, or with `hex` their hexadecimal text and a line feed.
-fn bytes_of(alloc: Global, certificate: &Certificate, hex: bool) -> Result<Vec<u8>, AllocError>
-    ensures { IfOk result (λ bytes. IsCertificate certificate.now × (bytes.items ≡ written hex (octets_of certificate.now))) }
-{
-    let octets = certificate.to_octets(alloc)?;
-    if !hex {
-        return Ok(octets);
+    if hex {
+        let text = hex_text(alloc, certificate)?;
+        send(out, &text)?;
+    } else {
+        certificate.write_to(out)?;
     }
-    let mut text = hex::encode(alloc, &octets)?;
+    Ok(Said::All)
+}
+
+/// Returns the hexadecimal text of a certificate and a line feed.
+fn hex_text(alloc: Global, certificate: &Certificate) -> Result<Vec<u8>, AllocError>
+    ensures { IfOk result (λ text. IsCertificate certificate.now × (text.items ≡ written true (octets_of certificate.now))) }
+{
+    let mut text = hex::encode(alloc, &certificate.to_octets(alloc)?)?;
     text.push('\n')?;
     Ok(text.into_bytes())
 }

@@ -14,6 +14,7 @@
 //! |---|---|
 //! | lint, check, get, certify or print over a source | [`run_on`], with a [`Command`] and its [`Verb`] |
 //! | the same with a certificate that is already decoded | [`run_certified`] |
+//! | lint or certify, which take no certificate | [`lint_on`], [`certify_on`] |
 //! | the same over bytes or hexadecimal text | [`run_over`], [`undo_hex`] |
 //! | show values of a file that has no certificate | [`show_on`], [`show_text_on`], [`show_raw_on`] |
 //! | list them | [`list_on`], [`list_all_on`] with a [`Branch`] |
@@ -54,8 +55,9 @@ mod show;
 mod tree;
 mod tree_walk;
 
-pub use certify::checked_by_lint;
+pub use certify::{certify_on, checked_by_lint};
 pub use laws::{listings_tell_values, one_answer, one_answer_over, tree_of_ls};
+pub use lint::lint_on;
 pub use ls::list_on;
 pub use raw::show_raw_on;
 pub use run::{Command, Verb, run_certified, run_on, run_over, undo_hex};

@@ -1,23 +1,30 @@
 //! The command `lint`: says whether a file holds a value.
 
 ghost use Rattle.std.specs.Prelude.{◌≡◌, ◌++◌, IfOk, IsTrue, codes};
-ghost use Rattle.bplint_engine.specs.Prelude.{OnlyReads, read_failed, Answers, LintSays, lint_line};
+ghost use Rattle.bplint_engine.specs.Prelude.{OnlyReads, read_failed, Answers, Leaves, LintSays, lint_line};
 
-use crate::output::Output;
+use crate::output::{Output, send_made};
 use bplint_lines::{RunFault, Said, add_lint};
 use bplist_lint::lint_with_kind;
 use bplist_objects::Kind;
 use bplist_octets::Source;
 use std::alloc::{AllocError, Global};
+use std::io::Write;
 
-/// Returns the line of `lint`, and the source.
-pub(crate) fn lint_output<S: Source>(alloc: Global, src: S) -> (Result<Output, RunFault>, S)
+/// Writes the line of `lint`. Returns the source too. It is [`crate::run_certified`] for `Lint`, which takes no
+/// certificate, and has the same errors.
+pub fn lint_on<S: Source, W: Write>(
+    alloc: Global,
+    src: S,
+    out: &mut W,
+) -> (Result<Said, RunFault>, S)
     ensures source { OnlyReads (read_failed result.0) (S.means src) (S.means result.1) }
-    ensures exact { IsTrue (S.means src).honest → Answers (LintSays (S.means src).octets) result.0 }
+    ensures exact { IsTrue (S.means src).honest → Leaves (LintSays (S.means src).octets) 0
+        (W.contents out.old) (W.contents out.new) result.0 }
 {
     let mut src = src;
     let made = line_of(alloc, &mut src);
-    (made, src)
+    send_made((made, src), out)
 }
 
 /// Returns the line of `lint`.

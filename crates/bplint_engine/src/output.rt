@@ -44,7 +44,8 @@ pub(crate) fn send_output<W: Write>(
     Ok(output.said)
 }
 
-fn send<W: Write>(out: &mut W, bytes: &[u8]) -> Result<(), WriteFault>
+/// Writes bytes.
+pub(crate) fn send<W: Write>(out: &mut W, bytes: &[u8]) -> Result<(), WriteFault>
     ensures { MatchResult result
         (λ _. Appends (W.contents out.old) (W.contents out.new) bytes.now)
         (λ fault. SendsPart (W.contents out.old) (W.contents out.new) 0 bytes.now fault.sent) }

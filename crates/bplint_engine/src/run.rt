@@ -6,10 +6,10 @@ ghost use Rattle.std.specs.Prelude.{Ok, length, slice_index, take};
 ghost use Rattle.bplint_engine.specs.Prelude.{OnlyReads, IsDecoded, PrintsOnePath, Leaves, read_failed, Says, SaysOver};
 ghost use Rattle.bplint_engine.specs.Prelude.{most, takes_cert, spelled};
 
-use crate::certify::certify_output;
+use crate::certify::certify_on;
 use crate::check::check_output;
 use crate::get::get_output;
-use crate::lint::lint_output;
+use crate::lint::lint_on;
 use crate::output::send_made;
 use crate::print::print_answer;
 use bplint_lines::{RunFault, Said};
@@ -96,10 +96,10 @@ pub fn run_certified<S: Source, W: Write>(
         (W.contents out.old) (W.contents out.new) result.0 }
 {
     match command.verb {
-        Verb::Lint => send_made(lint_output(alloc, src), out),
+        Verb::Lint => lint_on(alloc, src, out),
         Verb::Check => send_made(check_output(alloc, src, decoded), out),
         Verb::Get => send_made(get_output(alloc, src, decoded, &command.paths), out),
-        Verb::Certify => send_made(certify_output(alloc, src, command.sorted, command.hex), out),
+        Verb::Certify => certify_on(alloc, src, command.sorted, command.hex, out),
         Verb::Print => print_answer(alloc, src, decoded, &command.paths, command.limit, out),
     }
 }

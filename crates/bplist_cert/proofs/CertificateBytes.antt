@@ -12,7 +12,7 @@ use Rattle.bplist_objects.specs.declared.fault.ObjectFault.{ObjectFault}
 use Rattle.bplist_objects.specs.declared.fault.ObjectFault.TheVariants as errors
 use Rattle.bplist_cert.specs.Refusals.{GivesRefusal, refusal_of}
 use Rattle.bplist_cert.specs.Lists.{Keyed, Lists, lists, AreWords, HasStarts, HasCount, IsCertificate}
-use Rattle.bplist_cert.specs.Encoding.{magic, words, octets_of, Fits, IsOctetsFault}
+use Rattle.bplist_cert.specs.Encoding.{magic, words, key_words, octets_of, Fits, IsOctetsFault}
 use Rattle.bplist_objects.specs.declared.fault.Fault.{Fault}
 use Rattle.bplist_objects.specs.declared.rule.Rule.TheVariants as rules
 use Rattle.bplist_cert.proofs.NumberBytes.{num-bytes, length-bytes, length-words}
@@ -34,10 +34,6 @@ words_once (x ∷ xs) (y ∷ ys) p q e =
     let first : x ≡ y = sym (num-bytes 4 x (p 0)) ∙ ap num s.0 ∙ num-bytes 4 y (q 0) in
     let rest = words_once xs ys (λ k. p (suc k)) (λ k. q (suc k)) s.1 in
     cc
-
--- the key lists, if there are some
-abbrev pub key_words : Option Keyed → List ℕ
-key_words keys = option_map_or (λ (keyed : Keyed). words keyed.starts ++ words keyed.positions) keys []
 
 -- the bytes after the magic
 abbrev behind : Lists → List ℕ

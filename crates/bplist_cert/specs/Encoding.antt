@@ -1,5 +1,5 @@
 -- The bytes of a certificate. Source: profile.
-use Rattle.std.specs.Prelude.{◌≡◌, ◌≢◌, ◌⊎◌, ℕ, ◌+◌, ◌*◌, ◌%◌, ◌≤◌, Bool, true, false, List, [], ◌++◌, length, take, codes, None, is_some, ⊤}
+use Rattle.std.specs.Prelude.{◌≡◌, ◌≢◌, ◌⊎◌, ℕ, ◌+◌, ◌*◌, ◌%◌, ◌≤◌, Bool, true, false, List, [], ◌++◌, length, take, codes, Option, None, is_some, ⊤}
 use Rattle.std.specs.List.{flat_map}
 use Rattle.std.specs.Int.{bytes_high_first}
 use Rattle.std.specs.Option.{option_map_or}
@@ -18,11 +18,14 @@ magic keyed = elim keyed [ false ↦ codes "bplcert1" | true ↦ codes "bplcert2
 abbrev pub words : List ℕ → List ℕ
 words xs = flat_map (bytes_high_first 4) xs
 
+-- the bytes of the key lists, if there are some: starts and positions
+abbrev pub key_words : Option Keyed → List ℕ
+key_words keys = option_map_or (λ (keyed : Keyed). words keyed.starts ++ words keyed.positions) keys []
+
 -- the bytes of a certificate: magic, number of heights, heights, and in version 2 starts and positions
 abbrev pub octets_of : Lists → List ℕ
 octets_of lists =
-    magic (is_some lists.keys) ++ (bytes_high_first 8 (length lists.heights) ++ (words lists.heights
-    ++ option_map_or (λ (keyed : Keyed). words keyed.starts ++ words keyed.positions) lists.keys []))
+    magic (is_some lists.keys) ++ (bytes_high_first 8 (length lists.heights) ++ (words lists.heights ++ key_words lists.keys))
 
 -- a certificate with `count` heights, with or without key lists, can take `len` bytes
 abbrev pub Fits : Bool → ℕ → ℕ → Type 0

@@ -3,6 +3,7 @@ pub use Rattle.std.specs.Int.{bytes_high_first}
 pub use Rattle.std.specs.List.{AllByRecursion}
 pub use Rattle.bplist_octets.specs.Meaning.{Honestly, OnlyReads}
 pub use Rattle.bplist_octets.specs.Octets.{part}
+pub use Rattle.bplist_octets.specs.Sending.{SendsPart, Takes, TakesPart}
 pub use Rattle.bplist_octets.specs.Slices.{StandsAt}
 pub use Rattle.bplist_objects.specs.Announced.{HasHead}
 pub use Rattle.bplist_objects.specs.Answers.{Gives, Never, read_failed}
@@ -33,7 +34,7 @@ pub use Rattle.bplist_keys.specs.Texts.{HasTextShape}
 pub use Rattle.bplist_cert.specs.CheckRules.{HasOrder, IsCheckFault, IsOrderFault}
 pub use Rattle.bplist_cert.specs.CheckedFile.{CheckedFile, IsChecked, meaning_of}
 pub use Rattle.bplist_cert.specs.DictKeys.{AreInOrder, IsKeylessFault, IsText, KeysAreTexts, KeysDiffer}
-pub use Rattle.bplist_cert.specs.Encoding.{Fits, IsCertRefusal, IsOctetsFault, magic, octets_of, words}
+pub use Rattle.bplist_cert.specs.Encoding.{Fits, IsCertRefusal, IsOctetsFault, key_words, magic, octets_of, words}
 pub use Rattle.bplist_cert.specs.Heights.{AreLower, AreMet, AreMetBy, IsFirstUnmetBy, IsHeightFault, IsUnmetFault, Meets, rule_of}
 pub use Rattle.bplist_cert.specs.KeyPairs.{AreFewKeys, AreKnown, Ascends, Follows, HaveTextShapes, IsReadKey, IsSafeKey, IsSafeText, IsTextKey}
 pub use Rattle.bplist_cert.specs.KeyRepeats.{BreaksKeys, HasGoodKeys, HaveGoodKeys, HaveNamedKeys, IsFirstKeysFault, IsKeyOf, IsVouchedKey}

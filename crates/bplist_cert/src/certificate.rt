@@ -3,11 +3,16 @@
 //! bytes; `decoding` reads them.
 
 ghost use Rattle.bplist_cert.specs.declared.certificate.CertRefusal.TheVariants.{Memory, Fault as is_fault};
-ghost use Rattle.std.specs.Prelude.{◌≡◌, ◌++◌, IfOk, OnOk, is_some};
-ghost use Rattle.bplist_cert.specs.Prelude.{IsCertificate, AreWords, octets_of, words, magic};
+ghost use Rattle.std.specs.Prelude.{◌≡◌, IfErr, IfOk, MatchResult, OnOk, is_some};
+ghost use Rattle.std.specs.Io.KnownBytes.{Appends};
+ghost use Rattle.bplist_cert.specs.Prelude.{IsCertificate, AreWords, octets_of, key_words, words, magic};
+ghost use Rattle.bplist_cert.specs.Prelude.{SendsPart, Takes, TakesPart};
 
 use bplist_objects::Fault;
+use bplist_octets::{Sink, WriteFault};
+use byteorder::{BigEndian, ByteOrder};
 use std::alloc::{AllocError, Global};
+use std::io::Write;
 use std::marker::Model;
 
 /// The first 8 bytes of a version 1 certificate.
@@ -15,6 +20,9 @@ pub(crate) const PLAIN_MAGIC: [u8; 8] = *b"bplcert1";
 
 /// The first 8 bytes of a version 2 certificate.
 pub(crate) const KEYED_MAGIC: [u8; 8] = *b"bplcert2";
+
+/// How many numbers are encoded before they are written.
+const BLOCK: usize = 4096;
 
 /// The sorted keys of dictionaries. The key list of a dictionary of `c` pairs is `positions[start .. start + c]`.
 #[derive(Drop)]
@@ -60,16 +68,38 @@ impl Certificate {
     pub fn to_octets(&self, alloc: Global) -> Result<Vec<u8>, AllocError>
         ensures { IfOk result (λ octets. IsCertificate self.now × (octets.items ≡ octets_of self.now)) }
     {
-        let count = self.heights.len() as u64;
         let mut octets = Vec::with_capacity(alloc, self.octet_count())?;
-        octets.extend_from_slice(&magic_of(&self.keys))?;
-        octets.extend_from_slice(&count.to_be_bytes())?;
-        push_words(&mut octets, &self.heights)?;
-        if let Some(keys) = &self.keys {
-            push_words(&mut octets, &keys.starts)?;
-            push_words(&mut octets, &keys.positions)?;
-        }
+        self.write_to(&mut octets).map_err(|_| AllocError)?;
         Ok(octets)
+    }
+
+    /// Writes the bytes of [`Certificate::to_octets`], a block at a time, so that they need no memory. The error says how
+    /// many of them were written.
+    pub fn write_to<W: Write>(&self, out: &mut W) -> Result<(), WriteFault>
+        ensures words { IsCertificate self.now }
+        ensures sent { MatchResult result
+            (λ _. Appends (W.contents out.old) (W.contents out.new) (octets_of self.now))
+            (λ fault. SendsPart (W.contents out.old) (W.contents out.new) 0 (octets_of self.now) fault.sent) }
+    {
+        self.has_words();
+        let count = self.heights.len() as u64;
+        let mut sink = Sink::new();
+        sink.put(out, &magic_of(&self.keys))?;
+        sink.put(out, &count.to_be_bytes())?;
+        put_words(&mut sink, out, &self.heights)?;
+        put_keys(&mut sink, out, &self.keys)?;
+        sink.flush(out)
+    }
+
+    /// Carries to the contract that the numbers of the certificate have 32 bits each.
+    fn has_words(&self)
+        ensures { IsCertificate self.now }
+    {
+        are_words(&self.heights);
+        if let Some(keys) = &self.keys {
+            are_words(&keys.starts);
+            are_words(&keys.positions);
+        }
     }
 
     /// Returns how many bytes the certificate takes.
@@ -119,13 +149,41 @@ fn magic_of(keys: &Option<KeyLists>) -> [u8; 8]
     }
 }
 
-/// Appends numbers of 4 bytes each.
-fn push_words(octets: &mut Vec<u8>, numbers: &[u32]) -> Result<(), AllocError>
-    ensures octets { OnOk result (octets.new.items ≡ octets.old.items ++ words numbers.now) }
-    ensures words { AreWords numbers.now }
+/// Carries to the contract that these numbers have 32 bits each.
+pub(crate) fn are_words(numbers: &[u32])
+    ensures { AreWords numbers.now }
 {
-    for number in numbers {
-        octets.extend_from_slice(&number.to_be_bytes())?;
+    let _count = numbers.len();
+}
+
+/// Puts the key lists into a sink, if there are some: the starts, and then the positions.
+fn put_keys<W: Write>(
+    sink: &mut Sink,
+    out: &mut W,
+    keys: &Option<KeyLists>,
+) -> Result<(), WriteFault>
+    ensures taken { OnOk result (Takes (W.contents out.old) (W.contents out.new) sink.old sink.new (key_words keys.now)) }
+    ensures part { IfErr result (λ fault.
+        TakesPart (W.contents out.old) (W.contents out.new) sink.old (key_words keys.now) fault.sent) }
+{
+    if let Some(keys) = keys {
+        put_words(sink, out, &keys.starts)?;
+        put_words(sink, out, &keys.positions)?;
+    }
+    Ok(())
+}
+
+/// Puts numbers of 4 bytes each into a sink.
+fn put_words<W: Write>(sink: &mut Sink, out: &mut W, numbers: &[u32]) -> Result<(), WriteFault>
+    ensures taken { OnOk result (Takes (W.contents out.old) (W.contents out.new) sink.old sink.new (words numbers.now)) }
+    ensures part { IfErr result (λ fault.
+        TakesPart (W.contents out.old) (W.contents out.new) sink.old (words numbers.now) fault.sent) }
+{
+    let mut octets = [0; 4 * BLOCK];
+    for block in numbers.chunks(BLOCK) {
+        let spelled = &mut octets[..4 * block.len()];
+        BigEndian::write_u32_into(block, spelled);
+        sink.put(out, spelled)?;
     }
     Ok(())
 }

@@ -7,7 +7,7 @@ ghost use Rattle.bplist_cert.specs.Prelude.{Lists, IsCertificate, AreWords, octe
 ghost use Rattle.bplist_cert.specs.Prelude.{Fits, IsOctetsFault, IsCertRefusal, CertMemory as Memory, Judges};
 ghost use Rattle.bplist_cert.specs.Prelude.{refused_read, is_keyed, header_octets};
 
-use crate::certificate::{CertRefusal, Certificate, KEYED_MAGIC, KeyLists, PLAIN_MAGIC};
+use crate::certificate::{CertRefusal, Certificate, KEYED_MAGIC, KeyLists, PLAIN_MAGIC, are_words};
 use crate::refusal::Refusal;
 use bplist_objects::{Failure, Fault, ObjectFault, Rule};
 use bplist_octets::{SliceSource, Source, sized};
@@ -211,13 +211,6 @@ fn fill_words<S: Source>(
         numbers.extend_from_slice(spelled)?;
     }
     Ok(())
-}
-
-/// Carries to the contract that these numbers have 32 bits each.
-fn are_words(numbers: &[u32])
-    ensures { AreWords numbers.now }
-{
-    let _count = numbers.len();
 }
 
 /// Decodes numbers of 4 bytes each into `into`. The loop does nothing else, so that the compiler can vectorize it.

@@ -2,7 +2,6 @@ use Rattle.std.proofs.Common.{arith, subst}
 use Rattle.std.proofs.Math.Logic.{∥∥₁_map}
 use Rattle.std.proofs.lemmas.Grind.{common_steps, merely}
 use Rattle.bplint_lines.specs.Answers.{Leaves}
-use Rattle.bplint_engine.specs.Certify.{CertifySays}
 use Rattle.bplint_engine.specs.Commands.{Asked}
 use Rattle.bplint_engine.specs.Check.{CheckSays}
 use Rattle.bplint_engine.specs.Get.{LinesSay, found_line}
@@ -30,10 +29,7 @@ returns-in-Print-clause-exact g c =
 
 pub returns-in-Certify-clause-exact : goal.returns-in-Certify-clause-exact
 returns-in-Certify-clause-exact g c =
-    λ honest cert decoded. let is = c.in-Certify.is in
-    let view = c.command.view_is in
-    let made = c.certify_output.ensures.exact honest in
-    rw (← view) (rw is (merely (sent (CertifySays _ _ (g.S.Source.means c.args.src).octets) 0 _ _ _ _ made c.send_made-in-Certify.ensures.sent)))
+    λ honest cert decoded. rw (← c.command.view_is) (rw c.in-Certify.is (c.certify_on.ensures.exact honest))
 
 pub print_answer-requires : goal.print_answer-requires
 print_answer-requires g c = grind (arith, common_steps)
