@@ -2,8 +2,8 @@
 pub use Rattle.bplist_octets.specs.Octets.{part}
 pub use Rattle.bplist_objects.specs.Heads.{Content, Spells, content_at}
 pub use Rattle.bplist_objects.specs.Holds.{Holds}
-pub use Rattle.bplist_objects.specs.Safe.{IsSafeBody, IsSafeHead, ref_count}
-pub use Rattle.bplist_objects.specs.Units.{IsTextKind, units_of}
+pub use Rattle.bplist_objects.specs.Safe.{IsSafeBody, IsSafeHead, IsSafeText, ref_count}
+pub use Rattle.bplist_objects.specs.Units.{units_of}
 pub use Rattle.bplist_objects.specs.Value.{Value}
 pub use Rattle.bplist_objects.specs.declared.head.Kind.TheVariants.{Bytes}
 pub use Rattle.bplist_cert.specs.CheckedFile.{HonestlyChecked}

@@ -2,7 +2,7 @@
 
 ghost use Rattle.std.specs.Prelude.{◌≡◌, ◌+◌, ◌*◌, ◌<◌, ◌≤◌, true, length, flat_map, IfOk, OnOk, IfErr, OnErr, IsTrue};
 ghost use Rattle.std.specs.List.{list_all};
-ghost use Rattle.bplist_ascii.specs.Prelude.{part, HonestlyChecked, IsSafeBody, IsTextKind, units_of, Bytes, GivesRead};
+ghost use Rattle.bplist_ascii.specs.Prelude.{part, HonestlyChecked, IsSafeBody, IsSafeText, units_of, Bytes, GivesRead};
 ghost use Rattle.bplist_ascii.specs.Prelude.{read_failed, OnlyReadsFile, hex_digits, text_of_units, text_of_bytes};
 ghost use Rattle.bplist_ascii.specs.Prelude.{quoted, print_read, AddsText, AddFails, FailsWithin, StaysWithin, styled};
 ghost use Rattle.bplist_ascii.specs.Prelude.{fits, is_unquoted_text, Unquoted};
@@ -20,8 +20,7 @@ const PART: usize = 128;
 
 /// Returns true if a text is not empty and consists of ASCII letters and digits.
 fn is_unquoted<S: Source>(checked: &mut Checked<S>, head: &Head) -> Result<bool, Unread>
-    requires kind { IsTextKind head.now.kind }
-    requires head { IsSafeBody (length checked.old.source.octets) head.now }
+    requires text { IsSafeText (length checked.old.source.octets) head.now }
     ensures reads { OnlyReadsFile (read_failed result) checked.old checked.new }
     ensures asks { checked.new.asked ≤ checked.old.asked + 2 * head.now.count }
     ensures exact { GivesRead (λ unquoted. HonestlyChecked checked.old
@@ -48,8 +47,7 @@ fn write_text_body<S: Source, W: Write>(
     out: &mut W,
     room: &mut u64,
 ) -> Result<(), PrintFault>
-    requires kind { IsTextKind text.now.head.kind }
-    requires head { IsSafeBody (length checked.old.source.octets) text.now.head }
+    requires text { IsSafeText (length checked.old.source.octets) text.now.head }
     ensures reads { OnlyReadsFile (print_read result) checked.old checked.new }
     ensures asks { checked.new.asked ≤ checked.old.asked + 2 * text.now.head.count }
     ensures adds { OnOk result (AddsText (W.contents out.old) (W.contents out.new) sink.old sink.new room.old room.new
@@ -134,8 +132,7 @@ fn write_quoted<S: Source, W: Write>(
     out: &mut W,
     room: &mut u64,
 ) -> Result<(), PrintFault>
-    requires kind { IsTextKind head.now.kind }
-    requires head { IsSafeBody (length checked.old.source.octets) head.now }
+    requires text { IsSafeText (length checked.old.source.octets) head.now }
     ensures reads { OnlyReadsFile (print_read result) checked.old checked.new }
     ensures asks { checked.new.asked ≤ checked.old.asked + 2 * head.now.count }
     ensures adds { OnOk result (AddsText (W.contents out.old) (W.contents out.new) sink.old sink.new room.old room.new
@@ -162,8 +159,7 @@ pub(crate) fn write_text<S: Source, W: Write>(
     out: &mut W,
     room: &mut u64,
 ) -> Result<(), PrintFault>
-    requires kind { IsTextKind head.now.kind }
-    requires head { IsSafeBody (length checked.old.source.octets) head.now }
+    requires text { IsSafeText (length checked.old.source.octets) head.now }
     ensures reads { OnlyReadsFile (print_read result) checked.old checked.new }
     ensures asks { checked.new.asked ≤ checked.old.asked + 4 * head.now.count }
     ensures adds { OnOk result (AddsText (W.contents out.old) (W.contents out.new) sink.old sink.new room.old room.new

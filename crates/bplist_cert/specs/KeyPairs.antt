@@ -13,12 +13,8 @@ use Rattle.bplist_cert.specs.declared.key_order.TextKey.{TextKey}
 use Rattle.bplist_cert.specs.declared.caches.OrderedPairsCache.{OrderedPairsCache}
 use Rattle.bplist_keys.specs.Texts.{HasTextShape, text_units}
 use Rattle.bplist_keys.specs.LongRanks.{AreRanked}
-use Rattle.bplist_objects.specs.Safe.{IsSafeBody}
+use Rattle.bplist_objects.specs.Safe.{IsSafeText}
 use Rattle.bplist_objects.specs.Scan.{ref}
-
--- the head is that of a text, and its body is inside a file of this many bytes
-abbrev pub IsSafeText : ℕ → Head → Type 0
-IsSafeText len head = IsTextKind head.kind × IsSafeBody len head
 
 -- the key is an object of the file; its head, if it was read, is that of a text inside the file
 abbrev pub IsSafeKey : Meaning → ReadKey → Type 0

@@ -17,7 +17,7 @@ pub use Rattle.bplist_objects.specs.KeyCounts.{key_count}
 pub use Rattle.bplist_objects.specs.ObjectRules.{KeepsByObject, body_rules, object_rules}
 pub use Rattle.bplist_objects.specs.Reach.{Chain, Reach, Refs}
 pub use Rattle.bplist_objects.specs.Rules.{KeepsAll}
-pub use Rattle.bplist_objects.specs.Safe.{IsSafeFrame, IsSafeHead, ref_count}
+pub use Rattle.bplist_objects.specs.Safe.{IsSafeFrame, IsSafeHead, IsSafeText, ref_count}
 pub use Rattle.bplist_objects.specs.Scan.{ref}
 pub use Rattle.bplist_objects.specs.Units.{IsTextKind}
 pub use Rattle.bplist_objects.specs.Value.{Value}
@@ -36,7 +36,7 @@ pub use Rattle.bplist_cert.specs.CheckedFile.{CheckedFile, IsChecked, meaning_of
 pub use Rattle.bplist_cert.specs.DictKeys.{AreInOrder, IsKeylessFault, IsText, KeysAreTexts, KeysDiffer}
 pub use Rattle.bplist_cert.specs.Encoding.{Fits, IsCertRefusal, IsOctetsFault, key_words, magic, octets_of, words}
 pub use Rattle.bplist_cert.specs.Heights.{AreLower, AreMet, AreMetBy, IsFirstUnmetBy, IsHeightFault, IsUnmetFault, Meets, rule_of}
-pub use Rattle.bplist_cert.specs.KeyPairs.{AreFewKeys, AreKnown, Ascends, Follows, HaveTextShapes, IsReadKey, IsSafeKey, IsSafeText, IsTextKey}
+pub use Rattle.bplist_cert.specs.KeyPairs.{AreFewKeys, AreKnown, Ascends, Follows, HaveTextShapes, IsReadKey, IsSafeKey, IsTextKey}
 pub use Rattle.bplist_cert.specs.KeyRepeats.{BreaksKeys, HasGoodKeys, HaveGoodKeys, HaveNamedKeys, IsFirstKeysFault, IsKeyOf, IsVouchedKey}
 pub use Rattle.bplist_cert.specs.KeysLooks.{AreLearnt, AreListed, AreSeen, HaveGoodLists, IsListed}
 pub use Rattle.bplist_cert.specs.Lists.{AreWords, HasStarts, IsCertificate, IsCompleteList, Lists, list_of, lists}

@@ -9,7 +9,7 @@ ghost use Rattle.bplist_cursor.specs.Prelude.{HonestlyChecked, text, Spells, lea
 ghost use Rattle.bplist_cursor.specs.Prelude.{SpellsText, GivesCursor, cursor_read, OnlyReadsFile, part, compare_units};
 ghost use Rattle.bplist_cursor.specs.Prelude.{Keyed, HonestlyAt, GivesRead, read_failed, SpellTexts, HonestlyKeyed};
 ghost use Rattle.bplist_cursor.specs.Prelude.{IsKeyIndex, IsCompared, IsKeyList, RisesAtMost, ListStarts, IsUnlisted};
-ghost use Rattle.bplist_cursor.specs.Prelude.{IsSafeBody, IsTextKind, texts_bytes, tries};
+ghost use Rattle.bplist_cursor.specs.Prelude.{IsSafeText, texts_bytes, tries};
 ghost use Rattle.bplist_objects.specs.Units.{units_of};
 ghost use Rattle.std.specs.List.{AllZip};
 ghost use Rattle.std.specs.Int.Digits.{digits_of};
@@ -31,8 +31,7 @@ fn key_head<S: Source>(checked: &mut Checked<S>, k: ObjectNo) -> Result<Head, Un
     ensures asks { checked.new.asked ≤ checked.old.asked + 28 }
     ensures exact { HonestlyChecked checked.old (λ f F. (us : list ℕ) → Spells f F k.0 (leaf (text us))
         → GivesRead (λ head. us ≡ units_of f head) result) }
-    ensures kind { IfOk result (λ head. IsTextKind head.kind) }
-    ensures body { IfOk result (IsSafeBody (length checked.old.source.octets)) }
+    ensures safe { IfOk result (IsSafeText (length checked.old.source.octets)) }
 {
     let head = checked_head(checked, k)?;
     match head.kind {

@@ -4,7 +4,7 @@
 
 ghost use Rattle.std.specs.Prelude.{◌≡◌, ◌≢◌, ◌+◌, ◌*◌, ◌≤◌, ℕ, IfOk, IfErr, length, Err};
 ghost use Rattle.bplist_cursor.specs.Prelude.{part, HonestlyChecked, HonestlyAt, VouchesFor, Value, item_size, Content};
-ghost use Rattle.bplist_cursor.specs.Prelude.{Spells, content_at, Holds, IsLeafKind, IsTextKind, IsSafeHead, IsSafeBody};
+ghost use Rattle.bplist_cursor.specs.Prelude.{Spells, content_at, Holds, IsLeafKind, IsSafeHead, IsSafeBody, IsSafeText};
 ghost use Rattle.bplist_cursor.specs.Prelude.{GivesCursor, cursor_read, OnlyReadsFile, face as face_of, content_face};
 ghost use Rattle.bplist_cursor.specs.Prelude.{HasRoom, count_bytes, face_bytes};
 ghost use Rattle.bplist_objects.specs.Units.{units_of};
@@ -44,8 +44,7 @@ pub(crate) fn text_units<S: Source>(
     checked: &mut Checked<S>,
     head: &Head,
 ) -> Result<List<u16>, CursorFault>
-    requires kind { IsTextKind head.now.kind }
-    requires head { IsSafeBody (length checked.old.source.octets) head.now }
+    requires text { IsSafeText (length checked.old.source.octets) head.now }
     ensures reads { OnlyReadsFile (cursor_read result) checked.old checked.new }
     ensures asks { checked.new.asked ≤ checked.old.asked + 2 * head.now.count }
     ensures value { GivesCursor (λ units. HonestlyChecked checked.old (λ f _. units ≡ units_of f head.now)) result }

@@ -4,7 +4,7 @@
 //! refers, so a value in many places is measured once. Texts are read in blocks, and never into memory as a whole.
 
 ghost use Rattle.std.specs.Prelude.{◌≡◌, ◌≤◌, ◌+◌, ◌*◌, length, flat_map, ◌<◌, ℕ, Option, Some, List};
-ghost use Rattle.bplist_cursor.specs.Prelude.{joined, HonestlyChecked, IsSafeBody, IsTextKind, GivesRead, read_failed};
+ghost use Rattle.bplist_cursor.specs.Prelude.{joined, HonestlyChecked, IsSafeBody, IsSafeText, GivesRead, read_failed};
 ghost use Rattle.bplist_cursor.specs.Prelude.{OnlyReadsFile, cap, Value, Leaf, Content, Spells, leaf, refs, content_at};
 ghost use Rattle.bplist_cursor.specs.Prelude.{Holds, IsSafeHead, IsValid, GivesCursor, cursor_read, leaf_text};
 ghost use Rattle.bplist_cursor.specs.Prelude.{form_of_text, size_of, added, IsSized, AreMeasures};
@@ -154,8 +154,7 @@ fn quoted_length(units: &[u16]) -> u64
 
 /// Returns the length in bytes of a text as old-style text, or 18446744073709551615 if it is greater.
 pub(crate) fn text_length<S: Source>(checked: &mut Checked<S>, head: &Head) -> Result<u64, Unread>
-    requires kind { IsTextKind head.now.kind }
-    requires head { IsSafeBody (length checked.old.source.octets) head.now }
+    requires text { IsSafeText (length checked.old.source.octets) head.now }
     ensures reads { OnlyReadsFile (read_failed result) checked.old checked.new }
     ensures asks { checked.new.asked ≤ checked.old.asked + head.now.count * item_size 1 head.now.kind }
     ensures exact { GivesRead (λ n. HonestlyChecked checked.old

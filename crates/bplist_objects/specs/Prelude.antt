@@ -21,7 +21,7 @@ pub use Rattle.bplist_objects.specs.Numbers.{integer, num_at}
 pub use Rattle.bplist_objects.specs.ObjectRules.{BreaksByObject, IsObjectFault, KeepsByObject, body_rules, object_rules, shape_rules}
 pub use Rattle.bplist_objects.specs.Reach.{Chain, Founded}
 pub use Rattle.bplist_objects.specs.Rules.{IsFirstFault, KeepsAll}
-pub use Rattle.bplist_objects.specs.Safe.{IsSafe, IsSafeBody, IsSafeFrame, IsSafeHead, ref_count}
+pub use Rattle.bplist_objects.specs.Safe.{IsSafe, IsSafeBody, IsSafeFrame, IsSafeHead, IsSafeText, ref_count}
 pub use Rattle.bplist_objects.specs.Scan.{AreBelow, AreNumbers, IsFirstNotBelow, MeanNumbers, nth_number}
 pub use Rattle.bplist_objects.specs.SmallFiles.{small_file}
 pub use Rattle.bplist_objects.specs.Trailer.{frame_of_trailer}

@@ -5,6 +5,7 @@ use Rattle.bplist_objects.specs.declared.head.Head.{Head}
 use Rattle.bplist_objects.specs.declared.head.Kind.{Kind}
 use Rattle.bplist_objects.specs.declared.head.Kind.TheVariants as kinds
 use Rattle.bplist_objects.specs.Announced.{MayCount, item_size}
+use Rattle.bplist_objects.specs.Units.{IsTextKind}
 
 -- a source of this length can be read with the frame: its sizes are 1 to 8, and its table is inside
 pub record IsSafe (len : ℕ) (frame : Frame) : Type 0 where
@@ -37,3 +38,8 @@ pub record IsSafeBody (len : ℕ) (head : Head) : Type 0 where
   pub may : MayCount head.kind head.count
   pub body : head.body + head.count * item_size 1 head.kind ≤ head.«end»
   pub within : head.«end» ≤ len
+
+-- a text whose body is inside a source of this length
+pub record IsSafeText (len : ℕ) (head : Head) : Type 0 where
+  pub kind : IsTextKind head.kind
+  pub body : IsSafeBody len head

@@ -5,8 +5,8 @@ ghost use Rattle.std.specs.Result.{result_err};
 ghost use Rattle.bplist_octets.specs.Meaning.{OnlyReads, Honestly};
 ghost use Rattle.bplist_octets.specs.Octets.{part};
 ghost use Rattle.bplist_objects.specs.Announced.{item_size};
-ghost use Rattle.bplist_objects.specs.Safe.{IsSafeBody};
-ghost use Rattle.bplist_objects.specs.Units.{IsTextKind, units_of};
+ghost use Rattle.bplist_objects.specs.Safe.{IsSafeText};
+ghost use Rattle.bplist_objects.specs.Units.{units_of};
 
 use crate::head::Head;
 use crate::leaf::read_units;
@@ -47,8 +47,7 @@ fn read_front<S: Source>(
     into: &mut [u16],
     count: usize,
 ) -> Result<(), ReadFault>
-    requires kind { IsTextKind head.now.kind }
-    requires head { IsSafeBody (length (S.means src.old).octets) head.now }
+    requires text { IsSafeText (length (S.means src.old).octets) head.now }
     requires within { from + count ≤ head.now.count }
     requires room { count ≤ length into.old }
     ensures reads { OnlyReads (result_err result) (S.means src.old) (S.means src.new) }
@@ -80,8 +79,7 @@ impl UnitBlocks {
     /// `block` may lend anything.
     #[inline(always)]
     pub fn read<S: Source>(&mut self, src: &mut S) -> Result<bool, ReadFault>
-        requires kind { IsTextKind self.old.head.kind }
-        requires head { IsSafeBody (length (S.means src.old).octets) self.old.head }
+        requires text { IsSafeText (length (S.means src.old).octets) self.old.head }
         ensures reads { OnlyReads (result_err result) (S.means src.old) (S.means src.new) }
         ensures asks { S.asked src.new + self.old.next * item_size 1 self.old.head.kind
             ≤ S.asked src.old + self.old.head.count * item_size 1 self.old.head.kind }

@@ -36,7 +36,7 @@ loop-units-preserved g c =
 pub returns-clause-exact : goal.returns-clause-exact
 returns-clause-exact g c = λ honest.
     let us = units_of c.args.checked.now.source.octets c.args.head.now in
-    let long = length-units_at c.args.checked.now.source.octets c.args.head.now.kind c.args.head.now.count c.args.head.now.body c.requires.kind (omega arith) in
+    let long = length-units_at c.args.checked.now.source.octets c.args.head.now.kind c.args.head.now.count c.args.head.now.body c.requires.text.kind (omega arith) in
     let i = c.loop-units.invariant in
     let end = c.in_ok-read.ensures.end c.if-branch.false in
     let all : length us ≤ c.loop-units.units.next = omega (arith, long, end.1, ap (λ h. h.count) i.of) in
@@ -45,14 +45,14 @@ returns-clause-exact g c = λ honest.
 pub returns-in_err-read-clause-asks : goal.returns-in_err-read-clause-asks
 returns-in_err-read-clause-asks g c =
     let i = c.loop-units.invariant in
-    all_units c.args.head.now.kind _ _ _ c.loop-units.units.next _ c.args.head.now.count c.requires.kind refl i.asked (rw i.of at c.in_err-read.ensures.asks)
+    all_units c.args.head.now.kind _ _ _ c.loop-units.units.next _ c.args.head.now.count c.requires.text.kind refl i.asked (rw i.of at c.in_err-read.ensures.asks)
 
 pub returns-then-not-are_plain-clause-asks : goal.returns-then-not-are_plain-clause-asks
 returns-then-not-are_plain-clause-asks g c =
     let i = c.loop-units.invariant in
-    all_units c.args.head.now.kind _ _ _ c.loop-units.units.next _ c.args.head.now.count c.requires.kind refl i.asked (rw i.of at c.in_ok-read.ensures.asks)
+    all_units c.args.head.now.kind _ _ _ c.loop-units.units.next _ c.args.head.now.count c.requires.text.kind refl i.asked (rw i.of at c.in_ok-read.ensures.asks)
 
 pub returns-clause-asks : goal.returns-clause-asks
 returns-clause-asks g c =
     let i = c.loop-units.invariant in
-    all_units c.args.head.now.kind _ _ _ c.loop-units.units.next _ c.args.head.now.count c.requires.kind refl i.asked (rw i.of at c.in_ok-read.ensures.asks)
+    all_units c.args.head.now.kind _ _ _ c.loop-units.units.next _ c.args.head.now.count c.requires.text.kind refl i.asked (rw i.of at c.in_ok-read.ensures.asks)

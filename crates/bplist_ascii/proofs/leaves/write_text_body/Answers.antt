@@ -83,7 +83,7 @@ pub returns-clause-adds : goal.returns-clause-adds
 returns-clause-adds g c =
     let head = c.args.text.now.head in
     let us = units_of c.args.checked.now.source.octets head in
-    let long = length-units_at c.args.checked.now.source.octets head.kind head.count head.body c.requires.kind (omega arith) in
+    let long = length-units_at c.args.checked.now.source.octets head.kind head.count head.body c.requires.text.kind (omega arith) in
     let i = c.loop-sink.invariant in
     let end = c.in_ok-read.ensures.end c.if-branch.false in
     let all : length us ≤ c.loop-sink.units.next = omega (arith, long, end.1, ap (λ h. h.count) i.of) in
@@ -93,16 +93,16 @@ pub returns-in_err-read-clause-asks : goal.returns-in_err-read-clause-asks
 returns-in_err-read-clause-asks g c =
     let i = c.loop-sink.invariant in
     let head = c.args.text.now.head in
-    all_units head.kind _ _ _ c.loop-sink.units.next _ head.count c.requires.kind refl i.asked (rw i.of at c.in_err-read.ensures.asks)
+    all_units head.kind _ _ _ c.loop-sink.units.next _ head.count c.requires.text.kind refl i.asked (rw i.of at c.in_err-read.ensures.asks)
 
 pub returns-in_err-write_units-clause-asks : goal.returns-in_err-write_units-clause-asks
 returns-in_err-write_units-clause-asks g c =
     let i = c.loop-sink.invariant in
     let head = c.args.text.now.head in
-    all_units head.kind _ _ _ c.loop-sink.units.next _ head.count c.requires.kind refl i.asked (rw i.of at c.in_ok-read.ensures.asks)
+    all_units head.kind _ _ _ c.loop-sink.units.next _ head.count c.requires.text.kind refl i.asked (rw i.of at c.in_ok-read.ensures.asks)
 
 pub returns-clause-asks : goal.returns-clause-asks
 returns-clause-asks g c =
     let i = c.loop-sink.invariant in
     let head = c.args.text.now.head in
-    all_units head.kind _ _ _ c.loop-sink.units.next _ head.count c.requires.kind refl i.asked (rw i.of at c.in_ok-read.ensures.asks)
+    all_units head.kind _ _ _ c.loop-sink.units.next _ head.count c.requires.text.kind refl i.asked (rw i.of at c.in_ok-read.ensures.asks)

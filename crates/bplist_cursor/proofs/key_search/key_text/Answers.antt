@@ -18,8 +18,8 @@ pub returns-clause-asks : goal.returns-clause-asks
 returns-clause-asks g c = λ honest us s.
     let f = c.args.checked.now.source.octets in
     let head = c.in_ok-head.head in
-    let body = c.in_ok-head.ensures.body in
-    let inside = body.body in
-    let within = body.within in
-    let len = ap length (c.in_ok-head.ensures.exact honest us s) ∙ length-units_at f head.kind head.count head.body c.in_ok-head.ensures.kind (omega (arith, inside, within)) in
+    let text = c.in_ok-head.ensures.safe in
+    let inside = text.body.body in
+    let within = text.body.within in
+    let len = ap length (c.in_ok-head.ensures.exact honest us s) ∙ length-units_at f head.kind head.count head.body text.kind (omega (arith, inside, within)) in
     omega (arith, len, c.text_units.ensures.asks, c.in_ok-head.ensures.asks)

@@ -9,4 +9,4 @@ returns-clause-value g c = λ honest.
     let front = take_front c.in_ok-units.units.len c.body_units.new.into (drop (length c.body_units.new.into) c.in_ok-units.units.items) same in
     let is : c.new.result ≡ c.body_units.new.into = c.new.ensures ∙ front in
     is ∙ c.in_ok-body_units.ensures.units honest
-    ∙ all_units c.args.checked.now.source.octets c.args.head.now (length c.deref_mut.result.now) c.requires.kind (omega arith) len
+    ∙ all_units c.args.checked.now.source.octets c.args.head.now (length c.deref_mut.result.now) c.requires.text.kind (omega arith) len

@@ -15,5 +15,5 @@ returns-clause-units g c =
     let within : head.body + head.count * item_size 1 head.kind ≤ length f = omega arith in
     let here = rw c.item_size-bytes.ensures at c.read_many.ensures.numbers in
     on_ok c.read_many.result
-    (λ numbers honest. units_part f head.kind head.count head.body c.args.from (length c.args.into.now) c.read_many.new.into c.requires.kind within c.requires.within c.read_many.auto.into (λ k l. numbers honest k 0 l))
+    (λ numbers honest. units_part f head.kind head.count head.body c.args.from (length c.args.into.now) c.read_many.new.into c.requires.text.kind within c.requires.within c.read_many.auto.into (λ k l. numbers honest k 0 l))
     here
