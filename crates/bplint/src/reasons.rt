@@ -98,7 +98,7 @@ pub fn keeps_line(alloc: Global, out: &str) -> Result<String, AllocError> {
     )
 }
 
-/// Returns the line that says that no command takes a certificate.
+/// Returns the warning that the certificate in OUT is too long for every command that reads one.
 pub fn too_long_line(alloc: Global, out: &str) -> Result<String, AllocError> {
     let shown = shown_name(alloc, out)?;
     format!(in alloc;

@@ -57,6 +57,7 @@ fn check_found<P: Offsets>(
                 keys: &cert.keys,
                 bound: object_of(&fault).min(objects),
             };
+            // The walk has named keys beyond the fault, too, so the keys before it are looked at anew.
             found.forget();
             found.check(alloc, src, &seen)?;
             Err(Refusal::Fault(fault))

@@ -159,6 +159,7 @@ fn check_object<P: Framed>(
     match walk.look {
         Pass::Quick => check_quickly(src, walk.certificate, n, place, walked),
         Pass::Exact => {
+            // This pass names no keys: they are named after it.
             walked.named = None;
             walked.used = check_exactly(src, walk.certificate, n, place, walked.used)?;
             Ok(())

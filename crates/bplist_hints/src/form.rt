@@ -80,7 +80,8 @@ fn form_of_text(text: &[u8]) -> Option<Form> {
     }
 }
 
-/// The word `plist` tells a property list from other XML, but an HTML page may have it too.
+/// Returns the form of a text that begins with `<`, if it is one that has a hint. The word `plist` tells a property list
+/// from other XML, but an HTML page may have it too.
 fn form_of_markup(text: &[u8]) -> Option<Form> {
     if begins_with(text, b"<!doctype html") || begins_with(text, b"<html") {
         return Some(Form::Html);

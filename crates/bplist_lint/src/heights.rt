@@ -51,7 +51,7 @@ struct HeightWalk {
 }
 
 /// Returns how many marks are not set.
-pub fn unmarked(marks: &[bool]) -> usize
+fn unmarked(marks: &[bool]) -> usize
     ensures { result ≡ count_by not marks.now }
 {
     marks.len() - count_marked(marks)
