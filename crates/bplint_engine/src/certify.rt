@@ -28,33 +28,39 @@ pub fn certify_on<S: Source, W: Write>(
         (W.contents out.old) (W.contents out.new) result.0 }
 {
     let mut src = src;
-    let made = if sorted {
-        sorted_certificate(alloc, &mut src)
-    } else {
-        least_certificate(alloc, &mut src)
-    };
-    let answer = match made {
-        Ok(certificate) => send_certificate(alloc, &certificate, hex, out),
-        Err(fault) => Err(fault),
-    };
+    let answer = certify(alloc, &mut src, sorted, hex, out);
     (answer, src)
 }
 
-/// Returns the certificate of the least heights.
-fn least_certificate<S: Source>(alloc: Global, src: &mut S) -> Result<Certificate, RunFault>
+fn certify<S: Source, W: Write>(
+    alloc: Global,
+    src: &mut S,
+    sorted: bool,
+    hex: bool,
+    out: &mut W,
+) -> Result<Said, RunFault>
     ensures reads { OnlyReads (read_failed result) (S.means src.old) (S.means src.new) }
-    ensures exact { IsTrue (S.means src.old).honest → Certifies false (S.means src.old).octets result }
+    ensures exact { IsTrue (S.means src.old).honest → Leaves (CertifySays sorted hex (S.means src.old).octets) 0
+        (W.contents out.old) (W.contents out.new) result }
 {
-    Ok(lint(alloc, src)?.certificate)
+    let certificate = certificate_of(alloc, src, sorted)?;
+    send_certificate(alloc, &certificate, hex, out)
 }
 
-/// Returns the certificate of the least heights with key lists. Lists are made from what the linter vouches for, so its
-/// certificate is not checked.
-fn sorted_certificate<S: Source>(alloc: Global, src: &mut S) -> Result<Certificate, RunFault>
+/// Returns the certificate of the least heights, with `sorted` with key lists. These are made from what the linter
+/// vouches for, so its certificate is not checked.
+fn certificate_of<S: Source>(
+    alloc: Global,
+    src: &mut S,
+    sorted: bool,
+) -> Result<Certificate, RunFault>
     ensures reads { OnlyReads (read_failed result) (S.means src.old) (S.means src.new) }
-    ensures exact { IsTrue (S.means src.old).honest → Certifies true (S.means src.old).octets result }
+    ensures exact { IsTrue (S.means src.old).honest → Certifies sorted (S.means src.old).octets result }
 {
-    Ok(lint_with_lists(alloc, src)??)
+    if sorted {
+        return Ok(lint_with_lists(alloc, src)??);
+    }
+    Ok(lint(alloc, src)?.certificate)
 }
 
 /// Writes the bytes of a certificate, or with `hex` their hexadecimal text and a line feed.

@@ -9,7 +9,7 @@ use Rattle.bplint_lines.specs.declared.fault.Said.TheVariants.{All}
 use Rattle.bplint_lines.specs.Answers.{LeavesBy}
 use Rattle.bplint_engine.specs.Certify.{Certifies, CertifySays, SendsCertificate, written}
 use Rattle.bplint_engine.proofs.LeftBytes.{begins_nothing, kept_self, refused}
-use Rattle.bplint_engine.proofs.certify.certify_on.Goals as goal
+use Rattle.bplint_engine.proofs.certify.certify.Goals as goal
 
 -- the bytes of the certificate were sent
 sent_certificate : (sorted hex : Bool) (f : List ℕ) (old new : Option (List ℕ)) (lists : Lists) (result : Result Said RunFault) → Certifies sorted f (Ok lists)
