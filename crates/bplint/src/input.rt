@@ -239,7 +239,8 @@ fn open_file<R: Files<File = File>>(
     }
 }
 
-/// Returns true if a file has a reliable length. Pipes, devices and folders have none, and files of /proc claim 0.
+/// Returns true if a file has a reliable length, so that it can be read by place. Pipes, devices and folders have none,
+/// and files of /proc claim 0. It is false too if the system does not answer: to open the file then says why.
 fn has_length<R: Files<File = File>>(rt: &R, name: &str) -> bool {
     match fs::metadata(rt, name) {
         Ok(metadata) => metadata.is_file() && metadata.len() > 0,

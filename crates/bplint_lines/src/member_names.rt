@@ -106,7 +106,7 @@ fn add_token(token: &[u8], lines: &mut Vec<u8>) -> Result<(), AllocError>
     Ok(())
 }
 
-/// Adds a path text, `/` and the escaped token of these units, which are ASCII.
+/// Adds a path text, `/` and the escaped token of these units. They are ASCII, so no `String` is made of them.
 fn add_ascii_path(path: &str, units: &[u16], lines: &mut Vec<u8>) -> Result<(), AllocError>
     requires { list_all spec.is_ascii units.now ≡ true }
     ensures { OnOk result (lines.new.items ≡ lines.old.items ++ (path.now ++ 0x2F ∷ flat_map escaped units.now)) }

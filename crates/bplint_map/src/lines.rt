@@ -12,7 +12,8 @@ use bplint_lines::kind_name;
 use bplist_objects::{Head, rule_name};
 use std::alloc::AllocError;
 
-/// Adds the line of a gap or an overlap, unless it is empty.
+/// Adds the line of a region that is no object, unless it is empty: the header, a gap, an overlap, the table or the
+/// trailer.
 pub(crate) fn add_region(
     line: &mut String,
     from: u64,

@@ -142,7 +142,7 @@ impl<'a, W: Write> PathLines<'a, W> {
         self.put("-")
     }
 
-    /// Puts these lines into the sink.
+    /// Puts these lines into the sink, each with `-` as its path. No line is being made.
     fn put_all(&mut self, lines: &str) -> Result<(), RunFault>
         ensures { read_failed result ≡ None }
     {

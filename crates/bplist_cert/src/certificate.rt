@@ -21,16 +21,18 @@ pub(crate) const PLAIN_MAGIC: [u8; 8] = *b"bplcert1";
 /// The first 8 bytes of a version 2 certificate.
 pub(crate) const KEYED_MAGIC: [u8; 8] = *b"bplcert2";
 
-/// How many numbers are encoded before they are written.
+/// The most numbers that are encoded at once.
 const BLOCK: usize = 4096;
 
-/// The sorted keys of dictionaries. The key list of a dictionary of `c` pairs is `positions[start .. start + c]`.
+/// The sorted keys of dictionaries. The key list of dictionary `n`, with `c` pairs, is
+/// `positions[starts[n] .. starts[n] + c]`.
 #[derive(Drop)]
 pub struct KeyLists {
     /// For each object, the index in `positions` at which its key list starts. Ignored for an object that is not
     /// vouched for or is not a dictionary.
     pub starts: Vec<u32>,
-    /// Key numbers of a dictionary, counted from 0 in written order, sorted by the units of the keys.
+    /// The key lists. A position is the number of a key in its dictionary, counted from 0 in written order. A list names
+    /// the keys in the order of their units.
     pub positions: Vec<u32>,
 }
 
@@ -47,7 +49,7 @@ impl Model for KeyLists {
 pub struct Certificate {
     /// The height of each object, or 0 for an object that is not vouched for.
     pub heights: Vec<u32>,
-    /// The key lists: `Some` in version 2, None in version 1.
+    /// The key lists: `Some` in version 2, `None` in version 1.
     pub keys: Option<KeyLists>,
 }
 
@@ -73,7 +75,7 @@ impl Certificate {
         Ok(octets)
     }
 
-    /// Writes the bytes of [`Certificate::to_octets`], a block at a time, so that they need no memory. The error says how
+    /// Writes the bytes of [`Certificate::to_octets`], a block at a time, so that nothing is allocated. The error says how
     /// many of them were written.
     pub fn write_to<W: Write>(&self, out: &mut W) -> Result<(), WriteFault>
         ensures words { IsCertificate self.now }
@@ -102,7 +104,7 @@ impl Certificate {
         }
     }
 
-    /// Returns how many bytes the certificate takes.
+    /// Returns how many bytes to reserve for the certificate. Nothing depends on it.
     fn octet_count(&self) -> usize {
         let words = match &self.keys {
             None => self.heights.len(),

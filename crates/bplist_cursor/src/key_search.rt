@@ -123,6 +123,7 @@ fn walk_keys<S: Source>(
     Ok(None)
 }
 
+/// Returns number `at` of the certificate's positions, or None if there is none.
 fn position_of<S: Source>(checked: &Checked<S>, at: u64) -> Option<u32>
     ensures { (keyed : Keyed) → checked.now.certificate.keys ≡ Some keyed → at < length keyed.positions
         → result ≡ Some (slice_index keyed.positions at) }

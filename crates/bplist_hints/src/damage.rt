@@ -66,7 +66,8 @@ fn behind_trailer(sample: &Sample, trailer: u64) -> Option<Damage>
     })
 }
 
-/// True if each line feed stands behind a carriage return, and the trailer without these gives a shorter file.
+/// True if in front and tail each line feed stands behind a carriage return, and the trailer without these carriage
+/// returns is that of a shorter file, which has at least half the length.
 fn has_new_line_ends(sample: &Sample) -> bool {
     let (front, tail) = (sample.front, sample.tail);
     if has_bare_feed(front) || has_bare_feed(tail) || !(has_pair(front) || has_pair(tail)) {

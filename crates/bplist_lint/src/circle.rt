@@ -78,6 +78,7 @@ fn named(alloc: Global, numbers: &[u32]) -> Result<Vec<ObjectNo>, AllocError>
     numbers.iter().map(|n| ObjectNo(*n)).collect(alloc)
 }
 
+/// Returns the trail from this index on. Its contract says what the prover does not see of a slice.
 fn tail(trail: &[u32], index: usize) -> &[u32]
     requires { index ≤ length trail.now }
     ensures { result.now ≡ drop index trail.now }

@@ -261,7 +261,7 @@ fn search_text<S: Source>(src: &mut S, place: u64, count: u64) -> Result<Option<
 }
 
 /// Returns the index of the first of the `count` bytes from `place` on that is 128 or more, or None if there is none.
-/// The bytes must be inside the source. An error is a failed read.
+/// Rule 18 asks this of a text. The bytes must be inside the source. An error is a failed read.
 #[inline(always)]
 pub fn first_high_in<S: Source>(
     src: &mut S,
