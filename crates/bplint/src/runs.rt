@@ -24,10 +24,11 @@ use std::alloc::{AllocError, Global};
 use std::fs::{File, Files};
 use std::io::Write;
 
-/// The number of windows on a file: the offset table, an object, the objects it refers to, and its keys are apart.
+/// The number of panes over a file. With as many, the offset table, an object, the objects it refers to, and its keys have
+/// panes of their own.
 pub const PANES: usize = 8;
 
-/// Opens the inputs of a line, and does what the line asks for. Returns the exit status.
+/// Opens the inputs of a command line, and does what it asks for. Returns the exit status.
 pub fn run<R: Files<File = File> + Input + Print + Eprint>(
     rt: &R,
     alloc: Global,
@@ -40,7 +41,7 @@ pub fn run<R: Files<File = File> + Input + Print + Eprint>(
         return end(rt, alloc, "", Ending::with(alloc, RunFault::Memory));
     };
     match open_all(rt, alloc, line) {
-        Ok((line, inputs)) => run_on(rt, alloc, &line, inputs, &prefix),
+        Ok((line, inputs)) => run_opened(rt, alloc, &line, inputs, &prefix),
         Err(ListFault::Unread(unread)) => {
             let ending = unread.ending(rt, alloc, explain);
             end(rt, alloc, &prefix, ending)
@@ -52,7 +53,7 @@ pub fn run<R: Files<File = File> + Input + Print + Eprint>(
     }
 }
 
-/// Opens the inputs of a line, and then reads its path texts, if a list has them.
+/// Opens the inputs of a command line, and then reads its path texts, if a list has them.
 fn open_all<'a, R: Files<File = File> + Input>(
     rt: &R,
     alloc: Global,
@@ -68,8 +69,8 @@ fn open_all<'a, R: Files<File = File> + Input>(
     }
 }
 
-/// Does what a line asks for. Returns the exit status.
-fn run_on<R: Files<File = File> + Print + Eprint>(
+/// Does what a command line asks for. Returns the exit status.
+fn run_opened<R: Files<File = File> + Print + Eprint>(
     rt: &R,
     alloc: Global,
     line: &Run<'_>,
@@ -111,7 +112,7 @@ fn names_of<'a>(line: &Run<'a>) -> Names<'a> {
     }
 }
 
-/// Adds a line to the end of a run that wrote a certificate which no other command takes.
+/// Adds a warning to the end of a run if `certify` wrote more bytes than any other command reads.
 fn with_warning(
     alloc: Global,
     line: &Run<'_>,
@@ -129,7 +130,7 @@ fn with_warning(
     }
 }
 
-/// Writes the answer of a line, with a label before each of its lines unless it is bytes.
+/// Writes the answer to a command line, with a label before each of its lines unless it is bytes.
 fn write_answer<W: Write>(
     alloc: Global,
     line: &Run<'_>,
@@ -159,7 +160,7 @@ fn write_answer<W: Write>(
     ending
 }
 
-/// Answers a request whose answer is no line: what is written for a path that leads nowhere goes to standard error.
+/// Answers `show --raw` or `show --text`. The line for a path that leads nowhere is no value, so it goes to standard error.
 fn answer_later<W: Write>(
     alloc: Global,
     request: &Request<'_>,
@@ -294,7 +295,7 @@ fn command_on<S: Source + Drop, W: Write>(
     }
 }
 
-/// Returns the explanation of a fault. This is the only place that holds all bytes of CERT. If a read fails or memory
+/// Returns the explanation of a fault. CERT is read as a whole here, unless it is held already. If a read fails or memory
 /// is refused, there is no explanation.
 fn under_fault<S: Source>(
     alloc: Global,

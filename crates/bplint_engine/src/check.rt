@@ -3,7 +3,7 @@
 ghost use Rattle.std.specs.Prelude.{◌≡◌, ◌++◌, ℕ, List, IfErr, IfOk, IsTrue, codes, slice_index};
 ghost use Rattle.bplint_engine.specs.Prelude.{OnlyReads, read_failed, Answers, CheckSays, IsDecoded, check_line};
 
-use crate::certify::check_decoded;
+use crate::accepted::check_decoded;
 use crate::output::Output;
 use bplint_lines::{RunFault, Said, add_check};
 use bplist_cert::{CertRefusal, Certificate, Checked};

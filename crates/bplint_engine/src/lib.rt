@@ -14,8 +14,8 @@
 //! |---|---|
 //! | lint, check, get, certify or print over a source | [`run_on`], with a [`Command`] and its [`Verb`] |
 //! | the same with a certificate that is already decoded | [`run_certified`] |
+//! | any of the five over bytes or hexadecimal text | [`run_over`], [`undo_hex`] |
 //! | lint or certify, which take no certificate | [`lint_on`], [`certify_on`] |
-//! | the same over bytes or hexadecimal text | [`run_over`], [`undo_hex`] |
 //! | show values of a file that has no certificate | [`show_on`], [`show_text_on`], [`show_raw_on`] |
 //! | list them | [`list_on`], [`list_all_on`] with a [`Branch`] |
 //!
@@ -27,8 +27,8 @@
 //! The modules, in reading order:
 //!
 //! - `run`: what a caller asks for, and the calls that run it, also over hexadecimal text.
-//! - `lint`, `check`, `print`: one command each.
-//! - `certify`: the command, and a file together with a checked certificate, or with the linter's own.
+//! - `lint`, `check`, `certify`, `print`: one command each.
+//! - `accepted`: a file together with a checked certificate, or with the linter's own.
 //! - `get`: the command, and the paths and queries that path texts mean.
 //! - `show`, `ls`, `tree`, `raw`: the calls that need no certificate.
 //! - `members`: the members of a container.
@@ -38,6 +38,7 @@
 //! - `laws`: facts about the definitions.
 #![tactic(auto)]
 
+mod accepted;
 mod certify;
 mod check;
 mod get;
@@ -55,7 +56,8 @@ mod show;
 mod tree;
 mod tree_walk;
 
-pub use certify::{certify_on, checked_by_lint};
+pub use accepted::checked_by_lint;
+pub use certify::certify_on;
 pub use laws::{listings_tell_values, one_answer, one_answer_over, tree_of_ls};
 pub use lint::lint_on;
 pub use ls::list_on;

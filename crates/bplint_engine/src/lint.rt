@@ -11,8 +11,8 @@ use bplist_octets::Source;
 use std::alloc::{AllocError, Global};
 use std::io::Write;
 
-/// Writes the line of `lint`. Returns the source too. It is [`crate::run_certified`] for `Lint`, which takes no
-/// certificate, and has the same errors.
+/// Writes the line of `lint`. Returns the source too. Does what [`crate::run_certified`] does for `Lint`, with the same
+/// errors.
 pub fn lint_on<S: Source, W: Write>(
     alloc: Global,
     src: S,
@@ -23,12 +23,12 @@ pub fn lint_on<S: Source, W: Write>(
         (W.contents out.old) (W.contents out.new) result.0 }
 {
     let mut src = src;
-    let made = line_of(alloc, &mut src);
+    let made = lint_output(alloc, &mut src);
     send_made((made, src), out)
 }
 
 /// Returns the line of `lint`.
-fn line_of<S: Source>(alloc: Global, src: &mut S) -> Result<Output, RunFault>
+fn lint_output<S: Source>(alloc: Global, src: &mut S) -> Result<Output, RunFault>
     ensures reads { OnlyReads (read_failed result) (S.means src.old) (S.means src.new) }
     ensures exact { IsTrue (S.means src.old).honest → Answers (LintSays (S.means src.old).octets) result }
 {
@@ -40,6 +40,7 @@ fn line_of<S: Source>(alloc: Global, src: &mut S) -> Result<Output, RunFault>
     })
 }
 
+/// Returns the line of a sound file, with its line feed.
 fn yes_of(alloc: Global, reached: u64, height: u32, top: Kind) -> Result<Vec<u8>, AllocError>
     ensures { IfOk result (λ line. line.items ≡ lint_line reached height top ++ codes "\n") }
 {

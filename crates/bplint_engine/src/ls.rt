@@ -8,7 +8,7 @@ ghost use Rattle.bplint_engine.specs.Prelude.{Leaves, read_failed, Answers, Give
 ghost use Rattle.bplint_engine.specs.Prelude.{HasMembers, LinesSay, LintSays, listed};
 ghost use Rattle.bplint_engine.specs.Prelude.{IsHeadFor, first_lines, item_name, member_line, face_line};
 
-use crate::certify::checked_by_lint;
+use crate::accepted::checked_by_lint;
 use crate::get::path_in;
 use crate::members::{Members, member_face, member_text, members_of};
 use crate::output::{Output, send_made};

@@ -12,7 +12,7 @@ use std::io::Write;
 /// The bytes of an answer, and whether each path led to a value.
 #[derive(Drop)]
 pub(crate) struct Output {
-    /// Whether each path led to a value.
+    /// `SomeMissing` if a path led to no value.
     pub said: Said,
     /// All bytes of the answer, with line feeds.
     pub bytes: Vec<u8>,
@@ -44,7 +44,7 @@ pub(crate) fn send_output<W: Write>(
     Ok(output.said)
 }
 
-/// Writes bytes.
+/// Writes all of these bytes. The fault says how many were written.
 pub(crate) fn send<W: Write>(out: &mut W, bytes: &[u8]) -> Result<(), WriteFault>
     ensures { MatchResult result
         (λ _. Appends (W.contents out.old) (W.contents out.new) bytes.now)

@@ -6,7 +6,7 @@ ghost use Rattle.bplint_engine.specs.Prelude.{OnlyReads, Holds, Value, IsVouched
 ghost use Rattle.bplint_engine.specs.Prelude.{Leaves, LeavesBy, read_failed, missing_line, CheckSays, IsDecoded};
 ghost use Rattle.bplint_engine.specs.Prelude.{NodeSays, PathSays, PrintSays};
 
-use crate::certify::check_decoded;
+use crate::accepted::check_decoded;
 use crate::get::path_in;
 use crate::output::{Output, send_output};
 use bplint_lines::{RunFault, Said, add_missing};

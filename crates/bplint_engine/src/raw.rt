@@ -6,7 +6,7 @@ ghost use Rattle.bplint_engine.specs.Prelude.{read_failed};
 ghost use Rattle.bplint_engine.specs.Raw.{LeadsToRawless, LeavesRawBy, IsRawless, NodeShowsRaw, PathShowsRaw, ShowsRaw};
 ghost use Rattle.bplint_engine.specs.Raw.{raw_bytes, raw_read_failed};
 
-use crate::certify::checked_by_lint;
+use crate::accepted::checked_by_lint;
 use crate::get::path_in;
 use crate::output::send_output;
 use crate::print::missing_output;

@@ -44,7 +44,8 @@ pub struct Command {
     pub paths: Vec<String>,
     /// The largest text that `Print` may write, in bytes, not counting the final line feed.
     pub limit: u64,
-    /// If true, the file and the certificate are given as hexadecimal text, and `Certify` writes hexadecimal text.
+    /// If true, `Certify` writes hexadecimal text, and [`crate::run_over`] takes the file and the certificate as
+    /// hexadecimal text. [`crate::run_on`] and [`crate::run_certified`] take bytes all the same.
     pub hex: bool,
     /// If true, `Certify` also writes key lists.
     pub sorted: bool,
@@ -118,7 +119,7 @@ pub fn run_on<S: Source, W: Write>(
     ensures exact { IsTrue (S.means src).honest → Leaves (Says command.now (S.means src).octets cert.now) (most command.now)
         (W.contents out.old) (W.contents out.new) result.0 }
 {
-    let decoded = Certificate::from_octets(alloc, looked_at(command.verb, cert));
+    let decoded = Certificate::from_octets(alloc, cert_for(command.verb, cert));
     run_certified(alloc, command, src, decoded, out)
 }
 
@@ -143,12 +144,12 @@ pub fn run_over<W: Write>(
         return run_over_bytes(alloc, command, file, cert, out);
     }
     let file = undo_hex(alloc, file)?;
-    let cert = undo_hex(alloc, looked_at(command.verb, cert))?;
+    let cert = undo_hex(alloc, cert_for(command.verb, cert))?;
     run_over_bytes(alloc, command, &file, &cert, out)
 }
 
 /// Returns the bytes of the certificate if the verb uses one, or else no bytes.
-fn looked_at(verb: Verb, cert: &[u8]) -> &[u8]
+fn cert_for(verb: Verb, cert: &[u8]) -> &[u8]
     ensures { result.now ≡ (if takes_cert verb then cert.now else []) }
 {
     match verb {

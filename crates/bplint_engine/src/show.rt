@@ -5,7 +5,7 @@ ghost use Rattle.bplint_engine.specs.Prelude.{OnlyReads, Leaves, read_failed, An
 ghost use Rattle.bplint_engine.specs.Prelude.{found_line, IsLeastFor, IsRefusal, Lists, read_fault_of};
 ghost use Rattle.bplint_lines.specs.Faults.{IsExcused};
 
-use crate::certify::checked_by_lint;
+use crate::accepted::checked_by_lint;
 use crate::get::{lines_for, path_in, queries_of};
 use crate::output::{Output, send_made};
 use crate::print::print_checked;

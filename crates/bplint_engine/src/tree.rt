@@ -10,7 +10,7 @@ ghost use Rattle.bplint_engine.specs.Prelude.{read_failed};
 ghost use Rattle.bplint_lines.specs.Answers.{LeavesSomeBy};
 ghost use Rattle.bplint_engine.specs.Tree.{HasNodes, ListsAll, NodeLists, PathLists};
 
-use crate::certify::checked_by_lint;
+use crate::accepted::checked_by_lint;
 use crate::get::path_in;
 use crate::output::send_output;
 use crate::print::missing_output;

@@ -27,6 +27,9 @@ returns-in-Print-clause-exact g c =
     subst (λ (x : Asked). Leaves (Says x (g.S.Source.means c.args.src).octets cert) (most x)
     (g.W.Write.contents c.args.out.now) (g.W.Write.contents c.print_answer.new.out) c.print_answer.result.0) c.command.view_is (rw is left)
 
+pub returns-in-Lint-clause-exact : goal.returns-in-Lint-clause-exact
+returns-in-Lint-clause-exact g c = λ honest cert decoded. rw (← c.command.view_is) (rw c.in-Lint.is (c.lint_on.ensures.exact honest))
+
 pub returns-in-Certify-clause-exact : goal.returns-in-Certify-clause-exact
 returns-in-Certify-clause-exact g c =
     λ honest cert decoded. rw (← c.command.view_is) (rw c.in-Certify.is (c.certify_on.ensures.exact honest))

@@ -15,7 +15,7 @@ pub returns-in_err-cert-clause-exact : goal.returns-in_err-cert-clause-exact
 returns-in_err-cert-clause-exact g c =
     let cert = c.args.cert.now in
     let hex = sym (ap (λ (x : Asked). x.hex) c.command.view_is) ∙ c.if-not-command.false in
-    let shown = c.looked_at.ensures ∙ ap (λ (x : Asked). if takes_cert x.verb then cert else []) c.command.view_is in
+    let shown = c.cert_for.ensures ∙ ap (λ (x : Asked). if takes_cert x.verb then cert else []) c.command.view_is in
     let p = err_from_is_err_and c.from_residual-in_err-cert.result c.from_residual-in_err-cert.ensures.1 in
     rw (p.1, p.2) (text_refused c.args.command.now c.args.file.now cert _ _ (g.W.Write.contents c.args.out.now) _ hex c.in_ok-file.ensures.bytes shown c.in_err-cert.ensures.refused)
 
@@ -23,6 +23,6 @@ pub returns-clause-exact : goal.returns-clause-exact
 returns-clause-exact g c =
     let cert = c.args.cert.now in
     let hex = sym (ap (λ (x : Asked). x.hex) c.command.view_is) ∙ c.if-not-command.false in
-    let shown = c.looked_at.ensures ∙ ap (λ (x : Asked). if takes_cert x.verb then cert else []) c.command.view_is in
+    let shown = c.cert_for.ensures ∙ ap (λ (x : Asked). if takes_cert x.verb then cert else []) c.command.view_is in
     let left = rw (c.deref.ensures.value, c.deref-2.ensures.value) at c.run_over_bytes-2.ensures.exact in
     as_texts c.args.command.now c.args.file.now cert _ _ _ _ _ _ hex c.in_ok-file.ensures.bytes shown c.in_ok-cert.ensures.bytes left

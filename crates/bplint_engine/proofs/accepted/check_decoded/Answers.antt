@@ -1,5 +1,5 @@
 use Rattle.bplint_engine.proofs.RefusedCertificates.{octets_refused, check_refused}
-use Rattle.bplint_engine.proofs.certify.check_decoded.Goals as goal
+use Rattle.bplint_engine.proofs.accepted.check_decoded.Goals as goal
 
 pub returns-in-Err-clause-exact : goal.returns-in-Err-clause-exact
 returns-in-Err-clause-exact g c =
