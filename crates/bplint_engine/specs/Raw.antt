@@ -10,8 +10,8 @@ use Rattle.bplist_objects.specs.declared.frame.Frame.{Frame}
 use Rattle.bplist_objects.specs.declared.head.Kind.TheVariants.{Bytes as data_kind}
 use Rattle.bplist_objects.specs.File.{FileHolds}
 use Rattle.bplist_objects.specs.Frame.{IsFrame}
-use Rattle.bplist_objects.specs.Safe.{IsSafeBody}
-use Rattle.bplist_objects.specs.Units.{IsTextKind, units_of}
+use Rattle.bplist_objects.specs.Safe.{IsSafeBody, IsSafeText}
+use Rattle.bplist_objects.specs.Units.{units_of}
 use Rattle.bplist_objects.specs.Value.{Value, leaf, bytes, text, int, uid, boolean}
 use Rattle.bplist_cursor.specs.declared.replies.Face.{Face}
 use Rattle.bplist_cursor.specs.declared.replies.Face.TheVariants as faces
@@ -93,7 +93,7 @@ IsWholeRaw (Word word) octets = octets ≡ word.items
 -- the body that is sent lies in a file of `len` bytes
 abbrev pub IsSafeRaw : ℕ → Raw → Type 0
 IsSafeRaw len (Data head) = (head.kind ≡ data_kind) × IsSafeBody len head
-IsSafeRaw len (Text head) = IsTextKind head.kind × IsSafeBody len head
+IsSafeRaw len (Text head) = IsSafeText len head
 IsSafeRaw len (Word word) = ⊤
 
 -- each surrogate of the text that is sent has its partner

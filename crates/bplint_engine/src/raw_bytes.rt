@@ -4,8 +4,8 @@
 ghost use Rattle.std.specs.Prelude.{◌≡◌, IfOk, IfSome, IsTrue, length, not, option_map, ◌+◌, ◌<◌, ◌≤◌, ℕ, List, OnOk, take, false};
 ghost use Rattle.std.specs.Prelude.{encode_utf8_all};
 ghost use Rattle.std.specs.Char.Utf16.{has_unpaired_surrogate, is_high_surrogate, utf16_lossy_chars};
-ghost use Rattle.bplist_objects.specs.Safe.{IsSafeBody};
-ghost use Rattle.bplist_objects.specs.Units.{IsTextKind, units_of};
+ghost use Rattle.bplist_objects.specs.Safe.{IsSafeBody, IsSafeText};
+ghost use Rattle.bplist_objects.specs.Units.{units_of};
 ghost use Rattle.bplint_engine.specs.Prelude.{Holds, Value, IsVouchedBy, OnlyReadsFile, read_failed};
 ghost use Rattle.bplint_engine.specs.Raw.{IsRawOf, IsSafeRaw, IsWholeRaw, raw_word, IsPairedRaw, raw_in};
 ghost use Rattle.bplist_octets.specs.Octets.{part};
@@ -90,8 +90,7 @@ fn is_paired<S: Source>(
     checked: &mut Checked<S>,
     head: &Head,
 ) -> Result<bool, CursorFault>
-    requires kind { IsTextKind head.now.kind }
-    requires head { IsSafeBody (length checked.old.source.octets) head.now }
+    requires text { IsSafeText (length checked.old.source.octets) head.now }
     ensures reads { OnlyReadsFile (cursor_read result) checked.old checked.new }
     ensures exact { IsTrue checked.old.source.honest
         → GivesCursor (λ paired. paired ≡ not (has_unpaired_surrogate (units_of checked.old.source.octets head.now))) result }
@@ -117,8 +116,7 @@ pub(crate) fn read_characters<S: Source>(
     from: u64,
     buffer: &mut [u16],
 ) -> Result<usize, Unread>
-    requires kind { IsTextKind head.now.kind }
-    requires head { IsSafeBody (length checked.old.source.octets) head.now }
+    requires text { IsSafeText (length checked.old.source.octets) head.now }
     requires within { from < head.now.count }
     requires room { 2 ≤ length buffer.old }
     ensures reads { OnlyReadsFile (part_unread result) checked.old checked.new }
@@ -219,8 +217,7 @@ fn put_text<S: Source, W: Write>(
     sink: &mut Sink,
     out: &mut W,
 ) -> Result<(), RunFault>
-    requires kind { IsTextKind head.now.kind }
-    requires head { IsSafeBody (length checked.old.source.octets) head.now }
+    requires text { IsSafeText (length checked.old.source.octets) head.now }
     ensures reads { OnlyReadsFile (read_failed result) checked.old checked.new }
     ensures exact { IsTrue checked.old.source.honest
         → has_unpaired_surrogate (units_of checked.old.source.octets head.now) ≡ false

@@ -4,9 +4,9 @@ pub use Rattle.bplist_octets.specs.Slices.{source_over}
 pub use Rattle.bplist_objects.specs.Frame.{IsFrame, off}
 pub use Rattle.bplist_objects.specs.Heads.{IsHeadOf, Spells, leaf}
 pub use Rattle.bplist_objects.specs.Holds.{Holds}
-pub use Rattle.bplist_objects.specs.Safe.{IsSafe, IsSafeBody, IsSafeHead, ref_count}
+pub use Rattle.bplist_objects.specs.Safe.{IsSafe, IsSafeBody, IsSafeHead, IsSafeText, ref_count}
 pub use Rattle.bplist_objects.specs.Scan.{nth_number}
-pub use Rattle.bplist_objects.specs.Units.{IsTextKind, units_of}
+pub use Rattle.bplist_objects.specs.Units.{units_of}
 pub use Rattle.bplist_objects.specs.Value.{Value, int}
 pub use Rattle.bplist_objects.specs.declared.frame.Frame.{Frame}
 pub use Rattle.bplist_objects.specs.declared.head.Head.{Head}

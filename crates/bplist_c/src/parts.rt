@@ -1,7 +1,7 @@
 //! Reads parts of bodies: bytes, and units of texts.
 
 ghost use Rattle.std.specs.Prelude.{◌≡◌, ◌+◌, ◌≤◌, ℕ, List, Ok, Result, length};
-ghost use Rattle.bplist_c.specs.Prelude.{part, IsTextKind, units_of, IsHeadOf, Spells, IsSafeBody, Status as status};
+ghost use Rattle.bplist_c.specs.Prelude.{part, units_of, IsHeadOf, Spells, IsSafeText, Status as status};
 ghost use Rattle.bplist_c.specs.Prelude.{OnObject, bytes_of_body, units_answer, IsFileOf, IsSame, OnHandle, PutsItems};
 
 use crate::handle::BplistHandle;
@@ -41,8 +41,7 @@ fn put_bytes(
 
 /// Fills `into` with the units of a text from unit `from` on.
 fn read_part(file: &[u8], head: &Head, from: u64, into: &mut [u16])
-    requires kind { IsTextKind head.now.kind }
-    requires body { IsSafeBody (length file.now) head.now }
+    requires text { IsSafeText (length file.now) head.now }
     requires within { from + length into.old ≤ head.now.count }
     ensures { into.new ≡ part (units_of file.now head.now) from (length into.old) }
 {
