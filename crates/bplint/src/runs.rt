@@ -2,6 +2,7 @@
 
 ghost use Rattle.std.specs.Prelude.{◌≤◌, IsTrue};
 ghost use Rattle.bplint.specs.ExitStatuses.{LeavesShown};
+ghost use Rattle.bplint_engine.specs.Commands.{PrintsOnePath};
 
 use crate::args::{Request, Run, Shown, Task};
 use crate::ending::{Ending, WRONG_LINE, end, refuse_line};
