@@ -1,7 +1,8 @@
 ## bplint: `rt` of the kit proves and builds; python3 runs the tests on what is built.
 ##
 ##   make build          proves and builds the program, crates/bplint/out/bplint; up to an hour the first time
-##   make look FILE=F    lints F with the proved program if it is built, and otherwise with an unproved one, which it keeps
+##   make look FILE=F    lints F with the proved program if it is built, and otherwise with an unproved one, which it keeps and
+##                       which is up to a thousand times slower
 ##   make lib            proves and builds the C library, into crates/bplist_c/out
 ##   make wheel          the Python package for pip, with the library in it, into dist/
 ##   make test-wheel     the tests of the Python package, over the library as it is built
@@ -29,9 +30,10 @@ LIBRARY = crates/bplist_c/out
 SONAME = libbplist.so.0
 HEAP = $(dir $(shell rt doc))c/liblibc_c.a
 
-# What is built is at least as new as these files and folders. The crates of tests and examples are not among them.
-PARTS = $(foreach part,src specs proofs,$(filter-out $(addprefix crates/,bplist_calls/% bplist_samples/% bplint_tests/% \
-  examples/%),$(wildcard crates/*/$(part))))
+# What is built is at least as new as these files and folders. The crates of tests and examples are not among
+# them, nor is bplist, on which examples alone stand.
+PARTS = $(foreach part,src specs proofs,$(filter-out $(addprefix crates/,bplist/% bplist_calls/% bplist_samples/% bplint_tests/% \
+  example_%),$(wildcard crates/*/$(part))))
 SOURCES := crates.txt HANDLES $(if $(PARTS),$(shell find $(PARTS)))
 PROGRAM_SOURCES = $(filter-out crates/bplist_c/%,$(SOURCES))
 LIBRARY_SOURCES = $(filter-out crates/bplint%,$(SOURCES)) bplist.map

@@ -6,7 +6,7 @@ _bplint_operands() {
   local word previous=''
   operands=()
   for word in "${COMP_WORDS[@]:2:COMP_CWORD-2}"; do
-    if [[ $word == - || $word != [-=]* ]] && [[ $previous != @(--limit|--paths-from|--files-from|=) ]]; then
+    if [[ $word == - || $word != [-=]* ]] && [[ $previous != @(--limit|--limit-bytes|--paths-from|--files-from|=) ]]; then
       word=${word//\\/}
       word=${word#[\"\']}
       operands+=("${word%[\"\']}")
@@ -53,7 +53,7 @@ _bplint() {
     case $verb in
       lint) flags="--hex --quiet --recursive --all --skip-other --list --null --files-from --json --summary --with-filename --explain --help -x -H -h -q -r -l -0" ;;
       show) flags="--hex --text --limit --raw --utf8 --paths-from --with-filename --explain --help -x -H -h" ;;
-      ls) flags="--hex --recursive --limit --json --objects --utf8 --with-filename --explain --help -x -H -h -R" ;;
+      ls) flags="--hex --recursive --limit --limit-bytes --json --objects --utf8 --with-filename --explain --help -x -H -h -R" ;;
       certify) flags="--hex --sorted --force --with-filename --explain --help -x -H -h" ;;
       get) flags="--hex --paths-from --with-filename --explain --help -x -H -h" ;;
       map) flags="--hex --paths --with-filename --explain --help -x -H -h" ;;

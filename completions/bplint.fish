@@ -4,7 +4,7 @@
 function __bplint_operands
     set -l previous
     for word in (commandline -opc)[3..-1]
-        if not string match -q -- '-?*' $word; and not contains -- "$previous" --limit --paths-from --files-from
+        if not string match -q -- '-?*' $word; and not contains -- "$previous" --limit --limit-bytes --paths-from --files-from
             echo -- $word
         end
         set previous $word
@@ -30,7 +30,7 @@ end
 complete -c bplint -n __fish_use_subcommand -f
 complete -c bplint -n __fish_use_subcommand -s h -l help -d 'Print help'
 complete -c bplint -n __fish_use_subcommand -s V -l version -d 'Print the version'
-complete -c bplint -n __fish_use_subcommand -a lint -d 'Says whether each FILE holds a value'
+complete -c bplint -n __fish_use_subcommand -a lint -d 'Says whether each FILE is a sound property list'
 complete -c bplint -n __fish_use_subcommand -a show -d 'Prints what lies under each PATH, or the whole'
 complete -c bplint -n __fish_use_subcommand -a ls -d 'Lists the members of the value under PATH, or of the whole'
 complete -c bplint -n __fish_use_subcommand -a map -d 'Lists objects, gaps and overlaps of FILE in byte order'
@@ -46,7 +46,7 @@ complete -c bplint -n '__fish_seen_subcommand_from lint' -s q -l quiet -d 'Print
 complete -c bplint -n '__fish_seen_subcommand_from lint' -s r -l recursive -d 'Lint what is below a folder'
 complete -c bplint -n '__fish_seen_subcommand_from lint' -l summary -d 'Count the files at the end'
 complete -c bplint -n '__fish_seen_subcommand_from lint' -l all -d 'Below a folder, look at all files'
-complete -c bplint -n '__fish_seen_subcommand_from lint' -l skip-other -d 'Pass over XML and old-style text'
+complete -c bplint -n '__fish_seen_subcommand_from lint' -l skip-other -d 'Pass over other forms'
 complete -c bplint -n '__fish_seen_subcommand_from lint' -s l -l list -d 'Print only the names of files that are not sound'
 complete -c bplint -n '__fish_seen_subcommand_from lint' -s 0 -l null -d 'End names with a zero byte'
 complete -c bplint -n '__fish_seen_subcommand_from lint' -l files-from -r -d 'Lint the files of a list'
@@ -62,6 +62,7 @@ complete -c bplint -n '__fish_seen_subcommand_from show' -l raw -d 'Write the by
 complete -c bplint -n '__fish_seen_subcommand_from map' -l paths -d 'Add the path to each object'
 complete -c bplint -n '__fish_seen_subcommand_from ls' -s R -l recursive -d 'List what is in the members too'
 complete -c bplint -n '__fish_seen_subcommand_from ls' -l limit -x -d 'Nodes at most'
+complete -c bplint -n '__fish_seen_subcommand_from ls' -l limit-bytes -x -d 'Bytes of lines at most'
 complete -c bplint -n '__fish_seen_subcommand_from ls' -l objects -d 'Add the number and place of each object'
 complete -c bplint -n '__fish_seen_subcommand_from certify' -l sorted -d 'Write sorted keys'
 complete -c bplint -n '__fish_seen_subcommand_from lint show ls map textconv explain certify check get print' -s h -l help -d 'Print help'

@@ -64,64 +64,42 @@ static void print_hex(const uint8_t *bytes, uint64_t length)
         printf("%02x", bytes[i]);
 }
 
-/* Decodes the big-endian number of a real or a date. */
-static double number_of(const uint8_t *bytes, uint64_t length)
+/* Gives the number of a real or a date. */
+static bool get_number(bplist_handle *handle, const struct file *file, uint32_t object, double *value)
 {
-    uint64_t bits = 0;
-    uint32_t half;
-    double wide;
-    float narrow;
+    bplist_bits number;
+    uint32_t few;
+    float single;
 
-    for (uint64_t i = 0; i < length; i++)
-        bits = bits << 8 | bytes[i];
-    if (length == 8) {
-        memcpy(&wide, &bits, sizeof wide);
-        return wide;
+    if (bplist_number(handle, file->bytes, file->length, object, &number) != BPLIST_OK)
+        return false;
+    if (number.length == 4) {
+        few = (uint32_t)number.bits;
+        memcpy(&single, &few, sizeof single);
+        *value = single;
+    } else {
+        memcpy(value, &number.bits, sizeof *value);
     }
-    half = (uint32_t)bits;
-    memcpy(&narrow, &half, sizeof narrow);
-    return narrow;
+    return true;
 }
 
-/* Prints a wide text as UTF-8, with U+FFFD in place of each unpaired surrogate. */
-static bool print_units(bplist_handle *handle, const struct file *file, uint32_t object)
+/* Prints a text as UTF-8. */
+static bool print_text(bplist_handle *handle, const struct file *file, uint32_t object, uint64_t units)
 {
-    uint16_t units[256];
-    uint64_t from = 0;
+    /* A unit has at most three bytes of UTF-8. */
+    size_t room = 3 * (size_t)units;
     uint64_t count;
-    uint32_t high = 0;
+    char *text = malloc(room + 1);
+    bplist_status status = BPLIST_MEMORY;
 
-    do {
-        if (bplist_units(handle, file->bytes, file->length, object, from, units, 256, &count) != BPLIST_OK)
-            return false;
-        for (uint64_t i = 0; i < count; i++) {
-            uint32_t unit = units[i];
-            bool pairs = high != 0 && (unit & 0xfc00) == 0xdc00;
-
-            if (high != 0 && !pairs)
-                fputs("\xef\xbf\xbd", stdout);
-            if (pairs)
-                unit = 0x10000 + ((high & 0x3ff) << 10 | (unit & 0x3ff));
-            high = 0;
-            if ((unit & 0xfffffc00) == 0xd800)
-                high = unit;
-            else if ((unit & 0xfffffc00) == 0xdc00)
-                fputs("\xef\xbf\xbd", stdout);
-            else if (unit < 0x80)
-                printf("%c", (int)unit);
-            else if (unit < 0x800)
-                printf("%c%c", (int)(0xc0 | unit >> 6), (int)(0x80 | (unit & 0x3f)));
-            else if (unit < 0x10000)
-                printf("%c%c%c", (int)(0xe0 | unit >> 12), (int)(0x80 | (unit >> 6 & 0x3f)), (int)(0x80 | (unit & 0x3f)));
-            else
-                printf("%c%c%c%c", (int)(0xf0 | unit >> 18), (int)(0x80 | (unit >> 12 & 0x3f)),
-                       (int)(0x80 | (unit >> 6 & 0x3f)), (int)(0x80 | (unit & 0x3f)));
-        }
-        from += count;
-    } while (count == 256);
-    if (high != 0)
-        fputs("\xef\xbf\xbd", stdout);
-    return true;
+    if (text != NULL)
+        status = bplist_utf8(handle, file->bytes, file->length, object, text, room, &count);
+    if (status == BPLIST_OK)
+        fwrite(text, 1, (size_t)count, stdout);
+    else if (status == BPLIST_UNPAIRED)
+        fputs("a text with a half of a surrogate pair", stdout);
+    free(text);
+    return status == BPLIST_OK || status == BPLIST_UNPAIRED;
 }
 
 static bool print_value(bplist_handle *handle, const struct file *file, uint32_t object)
@@ -129,6 +107,7 @@ static bool print_value(bplist_handle *handle, const struct file *file, uint32_t
     bplist_body body;
     bplist_integer number;
     uint32_t uid;
+    double value;
 
     if (bplist_face(handle, file->bytes, file->length, object, &body) != BPLIST_OK)
         return false;
@@ -153,19 +132,17 @@ static bool print_value(bplist_handle *handle, const struct file *file, uint32_t
             printf("0x%016" PRIx64 "%016" PRIx64, number.high, number.low);
         break;
     case BPLIST_REAL:
-        printf("%.17g", number_of(file->bytes + body.place, body.length));
-        break;
     case BPLIST_DATE:
-        printf("%.17g seconds after 2001-01-01 00:00:00 UTC", number_of(file->bytes + body.place, body.length));
+        if (!get_number(handle, file, object, &value))
+            return false;
+        printf("%.17g%s", value, body.kind == BPLIST_DATE ? " seconds after 2001-01-01 00:00:00 UTC" : "");
         break;
     case BPLIST_DATA:
         print_hex(file->bytes + body.place, body.length);
         break;
     case BPLIST_ASCII:
-        fwrite(file->bytes + body.place, 1, (size_t)body.length, stdout);
-        break;
     case BPLIST_WIDE:
-        if (!print_units(handle, file, object))
+        if (!print_text(handle, file, object, body.count))
             return false;
         break;
     case BPLIST_UID:

@@ -27,7 +27,7 @@
  *   dictionary.
  *
  *   Where a description says how many bytes of the file a call reads at most, this is
- *   proved of the code that reads them, over a source that counts what it is asked for.
+ *   proved of the code that looks them up, and tested of bplist_text.
  *
  * RETURN VALUES
  *   Each call except bplist_version returns a status. BPLIST_OK means that the answer
@@ -86,13 +86,13 @@
 extern "C" {
 #endif
 
-/* The version of this header: 0.4.0. */
+/* The version of this header: 0.5.0. */
 #define BPLIST_VERSION_MAJOR 0
-#define BPLIST_VERSION_MINOR 4
+#define BPLIST_VERSION_MINOR 5
 #define BPLIST_VERSION_PATCH 0
-#define BPLIST_VERSION "0.4.0"
+#define BPLIST_VERSION "0.5.0"
 
-/* The version as one number, for comparing versions: 0x000400. */
+/* The version as one number, for comparing versions: 0x000500. */
 #define BPLIST_VERSION_NUM (BPLIST_VERSION_MAJOR << 16 | BPLIST_VERSION_MINOR << 8 | BPLIST_VERSION_PATCH)
 
 /* The status that a call returns. Compilers that can, warn if a program ignores it; not for
@@ -145,7 +145,9 @@ enum {
     /* There is no rule with that number. */
     BPLIST_NO_RULE = 16,
     /* There is no status with that number. */
-    BPLIST_NO_STATUS = 17
+    BPLIST_NO_STATUS = 17,
+    /* The text has no UTF-8, because a half of a surrogate pair stands alone in it. */
+    BPLIST_UNPAIRED = 18
 };
 
 /* The kinds of objects. */
@@ -236,6 +238,14 @@ typedef struct bplist_integer {
     uint64_t high;
 } bplist_integer;
 
+/* The number of a real or a date: the bits of an IEEE 754 number, in the byte order of this
+   machine. They are those of a float if `length` is 4, and of a double if it is 8. */
+typedef struct bplist_bits {
+    uint64_t bits;
+    /* The number of bytes, 4 or 8. */
+    uint32_t length;
+} bplist_bits;
+
 /* The size of a value. */
 typedef struct bplist_sizes {
     /* The number of nodes of its tree, including the keys of dictionaries; 2^64 - 1 if it
@@ -315,7 +325,7 @@ bplist_status bplist_rule_text(uint32_t rule, char *text, size_t room, uint64_t 
 /*
  * Writes what a status means, for example "The handle is closed.": one sentence of at
  * most 200 bytes of ASCII, written like a name by bplist_rule_name. BPLIST_SHORT.
- * BPLIST_NO_STATUS: `status` is not one of BPLIST_OK to BPLIST_NO_STATUS.
+ * BPLIST_NO_STATUS: `status` is not one of BPLIST_OK to BPLIST_UNPAIRED.
  */
 bplist_status bplist_status_text(bplist_status status, char *text, size_t room, uint64_t *count)
     BPLIST_LOOK_AT;
@@ -407,6 +417,16 @@ bplist_status bplist_find_key(bplist_handle *handle, const uint8_t *file, size_t
     BPLIST_LOOK_AT;
 
 /*
+ * Takes one step from an object, by a key of `key_length` bytes of UTF-8. Otherwise this
+ * call works like bplist_find_key. Takes memory in proportion to the length of the key.
+ *
+ * BPLIST_NOT_UTF8. BPLIST_MEMORY. BPLIST_NO_KEY, BPLIST_NO_INDEX, BPLIST_NOT_STEPPABLE, BPLIST_NO_OBJECT.
+ */
+bplist_status bplist_find_utf8(bplist_handle *handle, const uint8_t *file, size_t length,
+                               uint32_t object, const char *key, size_t key_length, uint32_t *out)
+    BPLIST_LOOK_AT;
+
+/*
  * Gives the kind of an object, and the count, place and length of its body. The bytes of
  * a real, a date, data or a text are in the file from `place` on. BPLIST_NO_OBJECT.
  */
@@ -429,6 +449,23 @@ bplist_status bplist_faces(bplist_handle *handle, const uint8_t *file, size_t le
 /* Gives the value of a BPLIST_INT. BPLIST_OTHER_KIND, BPLIST_NO_OBJECT. */
 bplist_status bplist_int(bplist_handle *handle, const uint8_t *file, size_t length,
                          uint32_t object, bplist_integer *out)
+    BPLIST_LOOK_AT;
+
+/*
+ * Gives the number of a BPLIST_REAL or a BPLIST_DATE. BPLIST_OTHER_KIND, BPLIST_NO_OBJECT.
+ * These lines make a double of it:
+ *
+ *     if (number.length == 4) {
+ *         uint32_t few = (uint32_t)number.bits;
+ *         float single;
+ *         memcpy(&single, &few, sizeof single);
+ *         value = single;
+ *     } else {
+ *         memcpy(&value, &number.bits, sizeof value);
+ *     }
+ */
+bplist_status bplist_number(bplist_handle *handle, const uint8_t *file, size_t length,
+                            uint32_t object, bplist_bits *out)
     BPLIST_LOOK_AT;
 
 /* Gives the value of a BPLIST_UID. BPLIST_OTHER_KIND, BPLIST_NO_OBJECT. */
@@ -481,9 +518,22 @@ bplist_status bplist_units(bplist_handle *handle, const uint8_t *file, size_t le
     BPLIST_LOOK_AT;
 
 /*
+ * Writes a text, a BPLIST_ASCII or a BPLIST_WIDE, as UTF-8 to the first `*count` of the
+ * `room` bytes at `buffer`. No 0 byte follows it. Takes memory in proportion to the length
+ * of the text.
+ *
+ * BPLIST_SHORT: the UTF-8 has `*count` bytes, more than `room`, and none was written.
+ * BPLIST_UNPAIRED: a half of a surrogate pair stands alone in the text; bplist_units reads
+ * it. BPLIST_MEMORY. BPLIST_OTHER_KIND, BPLIST_NO_OBJECT.
+ */
+bplist_status bplist_utf8(bplist_handle *handle, const uint8_t *file, size_t length,
+                          uint32_t object, char *buffer, size_t room, uint64_t *count)
+    BPLIST_LOOK_AT;
+
+/*
  * Measures the value of an object. Looks at every object of the file once, and takes
- * memory in proportion to their number. Reads at most 28 bytes for each object, and no
- * byte before the offset table a second time. BPLIST_NO_OBJECT. BPLIST_MEMORY.
+ * memory in proportion to their number. Reads at most 28 bytes for each object, and as
+ * many bytes as lie before the offset table. BPLIST_NO_OBJECT. BPLIST_MEMORY.
  */
 bplist_status bplist_size(bplist_handle *handle, const uint8_t *file, size_t length,
                           uint32_t object, bplist_sizes *out)

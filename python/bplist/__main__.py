@@ -3,6 +3,7 @@ from __future__ import annotations
 
 import argparse
 import collections.abc
+import contextlib
 import os
 import re
 import sys
@@ -45,19 +46,22 @@ def complain(line: str) -> None:
     print(line, file=sys.stderr)
 
 
-def bytes_of(name: str) -> bytes:
-    """The bytes of a file, or of standard input for `-`."""
+def bytes_of(name: str, paths: collections.abc.Iterable[str] = ()) -> bytes | bplist._bplist.MappedFile:
+    """The bytes of a file, or of standard input for `-`. The paths are checked when it is open and not yet read: a wrong path
+    is said before a fault of the bytes, but not of a file that cannot be opened. Standard input is open from the start."""
     try:
-        file = open(0, "rb", closefd=False) if name == "-" else open(name, "rb")
+        file = None if name == "-" else open(name, "rb", buffering=0)
     except IsADirectoryError:
         raise Ended("read Device", 3) from None
     except (OSError, ValueError):
-        raise Ended("read Device" if name == "-" else "read Open", 3) from None
-    try:
-        with file:
-            return file.read()
-    except OSError:
-        raise Ended("read Device", 3) from None
+        raise Ended("read Open", 3) from None
+    with file or contextlib.nullcontext():
+        for path in paths:
+            check_path(path)
+        try:
+            return bplist.plist._bytes_of(file or open(0, "rb", buffering=0, closefd=False))
+        except OSError:
+            raise Ended("read Device", 3) from None
 
 
 def shown_name(name: str) -> str:
@@ -75,14 +79,17 @@ def quoted(text: str) -> str:
 
 
 class File:
-    """An open file, whose lines are printed."""
+    """An open file, whose lines are printed. The paths are those that will be asked for."""
 
-    def __init__(self, name: str):
-        self.octets = bytes_of(name)
+    def __init__(self, name: str, paths: collections.abc.Sequence[str]):
+        octets = bytes_of(name, paths)
         try:
-            self.plist = bplist.loads(self.octets)
+            self.plist = bplist.plist._opened(octets, None, False)
         except bplist.Refused as fault:
             raise Ended(fault._line(), 1) from None
+        # Only a file that is refused is mapped.
+        assert isinstance(octets, bytes)
+        self.octets = octets
 
     def line_of(self, number: int) -> str:
         """The line of an object."""
@@ -131,8 +138,17 @@ def key_name(path: str, key: str, i: int) -> str:
     return f"{path}/{key.replace('~', '~0').replace('/', '~1')}"
 
 
+def path_word(word: str) -> str:
+    """A path, as a word of the command line."""
+    try:
+        word.encode()
+    except UnicodeEncodeError:
+        raise argparse.ArgumentTypeError("a path is UTF-8") from None
+    return word
+
+
 def check_path(path: str) -> None:
-    """Ends the run if the text of a path is wrong, before a file is opened. `/` begins a step, 0 or 1 follows `~`."""
+    """Ends the run if the text of a path is wrong. `/` begins a step, 0 or 1 follows `~`."""
     octets = path.encode()
     wrong = re.search(rb"^[^/]|~(?![01])", octets)
     if wrong:
@@ -141,7 +157,7 @@ def check_path(path: str) -> None:
 
 def verdict_line(name: str) -> str:
     """The line of a sound file."""
-    verdict = bplist.lint_bytes(bytes_of(name))
+    verdict = bplist.plist._verdict(bytes_of(name))
     if verdict.fault:
         raise Ended(verdict.fault._line(), 1)
     assert verdict.kind
@@ -167,7 +183,7 @@ def lint(line: argparse.Namespace) -> int:
 
 def ls(line: argparse.Namespace) -> int:
     """Writes a line for each member of the value at a path."""
-    file = File(line.file)
+    file = File(line.file, [line.path])
     status, number = file.plist._found(line.path)
     if status != FOUND:
         put(f"{file.line_at(line.path)[0]}\n".encode())
@@ -178,7 +194,7 @@ def ls(line: argparse.Namespace) -> int:
 
 def show(line: argparse.Namespace) -> int:
     """Writes a line for the value at each path."""
-    file = File(line.file)
+    file = File(line.file, line.paths)
     said = [file.line_at(path) for path in line.paths or [""]]
     put("".join(f"{words}\n" for words, _ in said).encode())
     return 0 if all(is_found for _, is_found in said) else 1
@@ -215,11 +231,15 @@ def reader() -> argparse.ArgumentParser:
     verb.set_defaults(run=lint)
     verb = verbs.add_parser("ls", help=ls.__doc__, allow_abbrev=False)
     verb.add_argument("file", metavar="FILE")
-    verb.add_argument("path", metavar="PATH", nargs="?", default="", help="a JSON Pointer, for example /items/0")
+    verb.add_argument(
+        "path", metavar="PATH", nargs="?", default="", type=path_word, help="a JSON Pointer, for example /items/0"
+    )
     verb.set_defaults(run=ls)
     verb = verbs.add_parser("show", help=show.__doc__, allow_abbrev=False)
     verb.add_argument("file", metavar="FILE")
-    verb.add_argument("paths", metavar="PATH", nargs="*", help="JSON Pointers; without any, the whole value")
+    verb.add_argument(
+        "paths", metavar="PATH", nargs="*", type=path_word, help="JSON Pointers; without any, the whole value"
+    )
     verb.set_defaults(run=show)
     return parser
 
@@ -233,12 +253,8 @@ def main(words: collections.abc.Sequence[str] | None = None) -> int:
     parser = reader()
     try:
         line = parser.parse_args(words)
-        for path in [getattr(line, "path", ""), *getattr(line, "paths", [])]:
-            check_path(path)
         status: int = line.run(line)
         return status
-    except UnicodeEncodeError:
-        parser.error("a path is UTF-8")
     except Ended as ended:
         if ended.line:
             complain(ended.line)

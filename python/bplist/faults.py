@@ -1,6 +1,8 @@
 """The exceptions of the package."""
 from __future__ import annotations
 
+import sys
+
 from ._bplist import rule_name, rule_text
 
 # The largest number of objects of a circle that the text of an exception has.
@@ -12,7 +14,7 @@ class Error(Exception):
 
 
 class Refused(Error, ValueError):
-    """The file holds no value, or the certificate is not valid for it.
+    """The file holds no value, or the certificate is not valid for it. `except plistlib.InvalidFileException` catches it.
 
     rule: the name of the first broken rule, for example `Marker`.
     number: its number, 1 to 32.
@@ -32,7 +34,8 @@ class Refused(Error, ValueError):
         circle: tuple[int, ...] = (),
         looks_like: str | None = None,
     ):
-        super().__init__(number, broken_by, place, circle, looks_like)
+        ValueError.__init__(self, number, broken_by, place, circle, looks_like)
+        _be_caught()
         self.number = number
         self.rule = rule_name(number)
         self.sentence = rule_text(number)
@@ -54,6 +57,13 @@ class Refused(Error, ValueError):
         return f"{self._line(SHOWN)}: {self.sentence}{looks}"
 
 
+def _be_caught() -> None:
+    """Makes `Refused` one of plistlib's exceptions, if somebody has loaded plistlib: `except` looks at the bases of a class."""
+    theirs = getattr(sys.modules.get("plistlib"), "InvalidFileException", None)
+    if theirs is not None and theirs not in Refused.__bases__:
+        Refused.__bases__ = (Error, theirs)
+
+
 class PathError(Error, ValueError):
     """A path text is wrong. place: the number of the wrong byte, counted from 0."""
 
@@ -62,7 +72,8 @@ class PathError(Error, ValueError):
         self.place = place
 
     def __str__(self) -> str:
-        return f"the path text is wrong at its byte {self.place}"
+        wants = "after ~ comes 0, for ~, or 1, for /" if self.place else "a path begins with /"
+        return f"the path text is wrong at its byte {self.place}: {wants}"
 
 
 class TooLarge(Error, ValueError):

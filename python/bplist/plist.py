@@ -3,19 +3,31 @@ from __future__ import annotations
 
 import builtins
 import collections
+import errno
+import io
 import os
 import stat
 
 from . import _bplist
 from .faults import Refused, TooLarge
-from .values import MOST_NODES, NODES, Kind
+from .values import NODES, Kind, plain_tree
 
 #: The default limit of `text`, in bytes.
 TEXT = 1_048_576
 
+# What a file begins with (rule 3), and its greatest length (rule 1).
+HEADER = b"bplist00"
+LONGEST = 2**32 - 1
+# A file of at most so many bytes is read at once.
+FEW = 1 << 13
+# So much is read of a file that its first bytes refuse, to say what it looks like.
+PREFIX = 1 << 20
+
 # For type checkers alone: `typing` takes as much memory as the rest of the package.
 TYPE_CHECKING = False
 if TYPE_CHECKING:
+    import collections.abc
+    import plistlib
     import typing
 
 Octets = bytes | bytearray | memoryview
@@ -82,29 +94,73 @@ def _octets(data: Octets) -> bytes:
     return data if type(data) is bytes else bytes(memoryview(data))
 
 
-def _read(path: Path) -> bytes:
+def _is_refused(first: bytes) -> bool:
+    """Whether a file that begins with these bytes is refused by them."""
+    return not HEADER.startswith(first[: len(HEADER)])
+
+
+def _bytes_of(file: io.FileIO) -> bytes | _bplist.MappedFile:
+    """The bytes of an open file. It is read no further than is needed to refuse it by its first bytes or its length."""
+    begun = file.read(FEW) or b""
+    if begun.startswith(HEADER):
+        more = file.read(1)
+        if not more:
+            return begun
+        begun += more
+    is_refused = _is_refused(begun)
+    info = os.fstat(file.fileno())
+    if not stat.S_ISREG(info.st_mode):
+        return _drained(file, begun, PREFIX if is_refused else LONGEST + 1)
+    if info.st_size > LONGEST:
+        # The library looks at its length alone.
+        return _bplist.map_file(file.fileno(), info.st_size)
+    file.seek(-len(begun), os.SEEK_CUR)
+    return file.read(PREFIX) if is_refused else file.read()
+
+
+def _drained(file: io.FileIO, begun: bytes, most: int) -> bytes:
+    """What was read of a pipe, or of another file without a length, and what follows, up to so many bytes."""
+    taken = io.BytesIO()
+    part: bytes | None = begun
+    while part:
+        taken.write(part)
+        part = file.read(min(PREFIX, most - taken.tell())) if taken.tell() < most else None
+    return taken.getvalue()
+
+
+def _read(path: Path) -> bytes | _bplist.MappedFile:
     with builtins.open(path, "rb", buffering=0) as file:
-        return file.read()
+        return _bytes_of(file)
 
 
 def _mapped(path: Path) -> bytes | _bplist.MappedFile:
-    """The bytes of a file. A regular file that is not empty is mapped, any other file is read."""
+    """The bytes of a file. A regular file that is not empty is mapped if that is possible. Any other file is read."""
     with builtins.open(path, "rb", buffering=0) as file:
         info = os.fstat(file.fileno())
         if not stat.S_ISREG(info.st_mode) or info.st_size == 0:
-            return file.read()
-        return _bplist.map_file(file.fileno(), info.st_size)
+            return _bytes_of(file)
+        try:
+            return _bplist.map_file(file.fileno(), info.st_size)
+        except OSError as error:
+            # A file of /sys has a length, but cannot be mapped.
+            if error.errno != errno.ENODEV:
+                raise
+            return _bytes_of(file)
 
 
 def lint(path: Path) -> Verdict:
     """Lints a file. Returns the verdict. Raises OSError if the file cannot be read."""
-    return lint_bytes(_read(path))
+    return _verdict(_read(path))
 
 
 def lint_bytes(data: Octets) -> Verdict:
     """Lints bytes in memory."""
+    return _verdict(_octets(data))
+
+
+def _verdict(source: bytes | _bplist.MappedFile) -> Verdict:
     try:
-        objects, reached, references, height, top, kind = _bplist.lint(_octets(data))
+        objects, reached, references, height, top, kind = _bplist.lint(source)
     except Refused as fault:
         return Verdict(fault.with_traceback(None), 0, 0, 0, 0, 0, None)
     return Verdict(None, objects, reached, references, height, top, Kind(kind))
@@ -133,20 +189,66 @@ def open(path: Path, *, map: bool = False, certificate: Octets | None = None, so
     return _opened(_mapped(path) if map else _read(path), certificate, sorted_keys)
 
 
-def load(fp: typing.BinaryIO, *, certificate: Octets | None = None, sorted_keys: bool = False) -> Plist:
-    """Like `open`, for a file object, which is read to its end."""
-    return loads(fp.read(), certificate=certificate, sorted_keys=sorted_keys)
-
-
-def loads(data: Octets, *, certificate: Octets | None = None, sorted_keys: bool = False) -> Plist:
+def view(data: Octets, *, certificate: Octets | None = None, sorted_keys: bool = False) -> Plist:
     """Like `open`, for bytes in memory. An object that is not `bytes` is copied, because it may change."""
     return _opened(_octets(data), certificate, sorted_keys)
 
 
-def to_python(source: Path | Octets, *, limit: int = NODES) -> typing.Any:
-    """Returns the whole tree of a file, given by its path, or of bytes, as plistlib would load it (`Plist.plain`)."""
-    with open(source) if isinstance(source, (str, os.PathLike)) else loads(source) as plist:
-        return plist.plain(limit)
+def load(
+    fp: typing.BinaryIO,
+    *,
+    fmt: plistlib.PlistFormat | None = None,
+    dict_type: type[collections.abc.MutableMapping[str, typing.Any]] = dict,
+    aware_datetime: bool = False,
+    limit: int = NODES,
+) -> typing.Any:
+    """Returns the whole tree of a file object, as plistlib.load does. It is read from where it stands to its end. If it
+    has `peek`, as what `open(path, "rb")` returns, and its first bytes refuse it, it is not read further than a megabyte.
+
+    fmt: None or plistlib.FMT_BINARY. This package loads binary property lists alone.
+    dict_type: what makes the dictionaries.
+    aware_datetime: give dates the time zone UTC.
+    limit: the largest number of nodes that the tree may have (`Plist.plain`).
+    """
+    if fmt is not None:
+        _check_format(fmt)
+    peek = getattr(fp, "peek", None)
+    data = fp.read(PREFIX) if peek and _is_refused(peek(len(HEADER))) else fp.read()
+    return loads(data, dict_type=dict_type, aware_datetime=aware_datetime, limit=limit)
+
+
+def loads(
+    data: Octets,
+    *,
+    fmt: plistlib.PlistFormat | None = None,
+    dict_type: type[collections.abc.MutableMapping[str, typing.Any]] = dict,
+    aware_datetime: bool = False,
+    limit: int = NODES,
+) -> typing.Any:
+    """Like `load`, for bytes in memory."""
+    if fmt is not None:
+        _check_format(fmt)
+    with _opened(_octets(data), None, False) as plist:
+        return plain_tree(plist, plist._top, limit, dict_type, aware_datetime)
+
+
+def to_python(
+    path: Path,
+    *,
+    dict_type: type[collections.abc.MutableMapping[str, typing.Any]] = dict,
+    aware_datetime: bool = False,
+    limit: int = NODES,
+) -> typing.Any:
+    """Like `load`, for the file at a path."""
+    with open(path) as plist:
+        return plist.plain(limit, dict_type=dict_type, aware_datetime=aware_datetime)
+
+
+def _check_format(fmt: plistlib.PlistFormat) -> None:
+    import plistlib
+
+    if fmt != plistlib.FMT_BINARY:
+        raise ValueError(f"bplist loads binary property lists alone: fmt is None or plistlib.FMT_BINARY, not {fmt!r}")
 
 
 def _opened(source: bytes | _bplist.MappedFile, certificate: Octets | None, sorted_keys: bool) -> Plist:
@@ -154,7 +256,7 @@ def _opened(source: bytes | _bplist.MappedFile, certificate: Octets | None, sort
 
 
 class Plist(_bplist.Handle):
-    """An open property list, made by `open`, `load` or `loads`.
+    """An open property list, made by `open` or `view`.
 
     Several threads may use it; calls on one property list wait for one another. Its containers keep it open, and raise
     `Closed` after `close`. It is closed at the end of a `with` block, or when nothing refers to it.
@@ -193,10 +295,17 @@ class Plist(_bplist.Handle):
             raise TooLarge(length, limit)
         return self._text(self._top, length)
 
-    def plain(self, limit: int = NODES) -> typing.Any:
+    def plain(
+        self,
+        limit: int = NODES,
+        *,
+        dict_type: type[collections.abc.MutableMapping[str, typing.Any]] = dict,
+        aware_datetime: bool = False,
+    ) -> typing.Any:
         """Returns the whole tree as plistlib would load it: dict, list and leaves. A set becomes a list. An object that
         is a member of several containers becomes one Python object.
 
-        Raises `TooLarge` if the tree has more nodes than the limit, and does not build more than that.
+        Raises `TooLarge` if the tree has more nodes than the limit, and does not build more than that. `load` describes
+        the other arguments.
         """
-        return self._tree(self._top, max(0, min(limit, MOST_NODES)))
+        return plain_tree(self, self._top, limit, dict_type, aware_datetime)

@@ -13,13 +13,13 @@ import collections.abc
 import datetime
 import enum
 import operator
-import plistlib
 
 from . import _bplist
 
 # For type checkers alone: `typing` takes as much memory as the rest of the package.
 TYPE_CHECKING = False
 if TYPE_CHECKING:
+    import plistlib
     import typing
 
     SequenceBase = collections.abc.Sequence[typing.Any]
@@ -59,6 +59,67 @@ class Kind(enum.IntEnum):
 
 class Date(float):
     """A date that datetime.datetime cannot hold, in seconds since 2001-01-01 00:00:00 UTC."""
+
+
+def plain_tree(
+    plist: _bplist.Handle,
+    number: int,
+    limit: int,
+    dict_type: type[collections.abc.MutableMapping[str, typing.Any]],
+    aware_datetime: bool,
+) -> typing.Any:
+    """Returns the tree of an object (`Plist.plain`)."""
+    tree = plist._tree(number, max(0, min(limit, MOST_NODES)))
+    if dict_type is dict and not aware_datetime:
+        return tree
+    return _Rebuilt(dict_type, aware_datetime).of(tree)
+
+
+class _Rebuilt:
+    """Makes trees again, with other dictionaries, or with dates that have a time zone. Makes each container once, after
+    its members, and keeps the way to it in a list instead of recursing.
+
+    No function in it uses the variables of another: CPython 3.11 loses the arguments of one whose variables are used so, if
+    it is refused memory for them."""
+
+    def __init__(self, dict_type: type[collections.abc.MutableMapping[str, typing.Any]], aware_datetime: bool):
+        self.dict_type = dict_type
+        self.aware_datetime = aware_datetime
+        # What was made, by the number of what it was made of.
+        self.made: dict[int, typing.Any] = {}
+
+    def of(self, tree: typing.Any) -> typing.Any:
+        way = [tree]
+        while way:
+            value = way[-1]
+            members = value.values() if isinstance(value, dict) else value if isinstance(value, list) else ()
+            left = list(filter(self.is_left, members))
+            if left:
+                way.extend(left)
+            else:
+                self.made.setdefault(id(value), self.again(value))
+                way.pop()
+        return self.made[id(tree)]
+
+    def is_left(self, value: typing.Any) -> bool:
+        """Whether a value is a container that was not made."""
+        return isinstance(value, (dict, list)) and id(value) not in self.made
+
+    def again(self, value: typing.Any) -> typing.Any:
+        """The value, whose members were made."""
+        if isinstance(value, dict):
+            made = self.dict_type()
+            for key, member in value.items():
+                made[key] = self.member(member)
+            return made
+        return list(map(self.member, value)) if isinstance(value, list) else self.member(value)
+
+    def member(self, value: typing.Any) -> typing.Any:
+        if isinstance(value, (dict, list)):
+            return self.made[id(value)]
+        if self.aware_datetime and isinstance(value, datetime.datetime):
+            return value.replace(tzinfo=datetime.timezone.utc)
+        return value
 
 
 class _Comparison:
@@ -111,6 +172,8 @@ class Container(_bplist.Container):
     Two containers of the same kind are equal if their members are equal: members of arrays and sets are compared in the
     order of the file, values of dictionaries by their keys. The same object of the same property list is equal without
     reading it. A dictionary can also be compared with any mapping, and an array with a list. Containers have no hash.
+
+    json does not take a container: give it `plain()`. A container that is copied or pickled becomes its `plain()`.
     """
 
     __slots__ = ()
@@ -135,9 +198,20 @@ class Container(_bplist.Container):
         """The number of nodes in the tree of this value, including the keys of dictionaries; at most 2^64 - 1."""
         return self._plist._sizes(self.object)[0]
 
-    def plain(self, limit: int = NODES) -> typing.Any:
+    def plain(
+        self,
+        limit: int = NODES,
+        *,
+        dict_type: type[collections.abc.MutableMapping[str, typing.Any]] = dict,
+        aware_datetime: bool = False,
+    ) -> typing.Any:
         """Returns the tree of this value as plistlib would load it (`Plist.plain`)."""
-        return self._plist._tree(self.object, max(0, min(limit, MOST_NODES)))
+        return plain_tree(self._plist, self.object, limit, dict_type, aware_datetime)
+
+    def __reduce__(self) -> tuple[typing.Any, ...]:
+        """To copy or to pickle a container is to copy or to pickle its `plain()`: a copy needs no file."""
+        tree = self.plain()
+        return type(tree), (tree,)
 
     def __repr__(self) -> str:
         return f"<{type(self).__name__} of {len(self)}, object {self.object}>"
@@ -237,6 +311,14 @@ class Dict(Container, MappingBase):
         return isinstance(other, collections.abc.Mapping)
 
 
+def uid_class() -> tuple[type[plistlib.UID], str | None]:
+    """The class of UIDs, and the name of its only attribute, or None if it has others. It is asked for at the first UID: to
+    load plistlib takes several times as long as to load this package."""
+    import plistlib
+
+    return plistlib.UID, "data" if vars(plistlib.UID(7)) == {"data": 7} else None
+
+
 CLASSES = {Array, Set, Dict}
 collections.abc.Sequence.register(Array)
 collections.abc.Mapping.register(Dict)
@@ -245,7 +327,6 @@ _bplist.bind(
     Set,
     Dict,
     Date,
-    plistlib.UID,
+    uid_class,
     datetime.datetime,
-    "data" if vars(plistlib.UID(7)) == {"data": 7} else None,
 )

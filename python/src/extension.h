@@ -30,14 +30,18 @@ enum {
     ARRAY,
     SET,
     DICT,
-    /* The class of dates that datetime cannot hold, and the class of UIDs. */
+    /* The class of dates that datetime cannot hold. */
     FAR_DATE,
-    UID,
+    /* What is called for the class of UIDs and the name of their attribute. */
+    UID_CLASS,
     /* datetime.datetime. */
     DATETIME,
     /* Arguments for datetime.datetime, which are used again and again. */
     DATE_ARGUMENTS,
-    /* The name of the only attribute of a UID, or None if a UID has other attributes. */
+    /* The number of what `bind` sets, and of the module's own types. */
+    BOUND,
+    /* The class of UIDs, and the name of their only attribute, or None if they have others. NULL before the first UID. */
+    UID = BOUND,
     UID_DATA,
     HELD
 };
@@ -64,6 +68,8 @@ typedef struct Handle {
     uint32_t top;
     /* Whether the handle has sorted keys, or is not to get them. */
     int is_sorted;
+    /* Memory for the next tree of a container, or NULL. */
+    struct Room *room;
     /* How many keys were compared, at most, to find one without sorted keys; and how often `at` was called. */
     uint64_t compared;
     uint64_t asked;
@@ -97,6 +103,9 @@ typedef struct Container {
 
 /* module.c */
 
+/* Returns true if instances of a class can be made without calling it, as is done with dates and UIDs. Otherwise
+   raises. */
+int is_made(PyObject *class);
 /* Makes an object of a type, with room for so many items. It is all zeros after its head. Raises if the module was
    cleared. */
 void *instance_with(PyObject *type, Py_ssize_t items);
@@ -112,6 +121,7 @@ typedef struct Words {
     uint64_t count;
 } Words;
 
+/* Reads some of the file. Releases the GIL. */
 int words_of(const Source *source, Words *words);
 /* Raises, and returns NULL, if the collector has cleared the module. A finalizer may run after that. */
 void *raise_cleared(void);
@@ -263,6 +273,8 @@ PyObject *leaf_of(State *state, const Source *source, const bplist_body *body);
 
 /* tree.c */
 
+/* Frees the memory that the trees of containers left for the next one. */
+void room_free(struct Room *room);
 /* Returns the value of an object as a tree of dict, list and leaves. Builds each object once. Raises if the tree has
    more nodes than `limit`, and builds no more than that. */
 PyObject *tree_of(Handle *self, uint32_t object, uint64_t limit);

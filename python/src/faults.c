@@ -88,7 +88,12 @@ int raise_refused(const Source *source, const bplist_verdict *verdict)
 
 int words_of(const Source *source, Words *words)
 {
-    return expect(bplist_looks_like(source->file, source->length, words->text, sizeof words->text, &words->count));
+    bplist_status status;
+    PyThreadState *thread = PyEval_SaveThread();
+
+    status = bplist_looks_like(source->file, source->length, words->text, sizeof words->text, &words->count);
+    PyEval_RestoreThread(thread);
+    return expect(status);
 }
 
 int raise_changed(void)

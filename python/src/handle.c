@@ -139,6 +139,8 @@ void handle_close(Handle *self)
 {
     self->source.file = NULL;
     self->source.length = 0;
+    room_free(self->room);
+    self->room = NULL;
     if (atomic_load_explicit(&self->busy, memory_order_acquire) == 0) {
         bplist_close(&self->handle);
     } else {

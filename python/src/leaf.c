@@ -61,15 +61,44 @@ static PyObject *bare_uid(State *state, PyObject *number)
     return uid;
 }
 
+/* Asks for the class of UIDs, for the first of them. That may run any code: it loads plistlib. */
+static int know_uids(State *state)
+{
+    PyObject *told, *class, *data;
+
+    if (state->held[UID])
+        return 0;
+    if (state->held[UID_CLASS] == NULL) {
+        raise_cleared();
+        return -1;
+    }
+    told = PyObject_CallNoArgs(state->held[UID_CLASS]);
+    if (told == NULL)
+        return -1;
+    if (!PyArg_ParseTuple(told, "O!O", &PyType_Type, &class, &data) || !is_made(class)) {
+        Py_DECREF(told);
+        return -1;
+    }
+    if (state->held[UID] == NULL) {
+        Py_INCREF(class);
+        Py_INCREF(data);
+        state->held[UID] = class;
+        state->held[UID_DATA] = data;
+    }
+    Py_DECREF(told);
+    return 0;
+}
+
 static PyObject *uid_of(State *state, const uint8_t *bytes, uint64_t length)
 {
-    PyObject *uid, *number;
+    PyObject *uid, *number = PyLong_FromUnsignedLongLong(number_at(bytes, length));
 
-    if (state->held[UID] == NULL)
-        return raise_cleared();
-    number = PyLong_FromUnsignedLongLong(number_at(bytes, length));
     if (number == NULL)
         return NULL;
+    if (know_uids(state) < 0) {
+        Py_DECREF(number);
+        return NULL;
+    }
     if (state->held[UID_DATA] == Py_None)
         uid = PyObject_CallFunctionObjArgs(state->held[UID], number, NULL);
     else

@@ -86,15 +86,22 @@ static int find_path(Handle *self, PyObject *path, bplist_status *status, bplist
     return 0;
 }
 
-static PyObject *value_at(PyObject *object, PyObject *path)
+static PyObject *value_at(PyObject *object, PyObject *arguments)
 {
     Handle *self = (Handle *)object;
+    PyObject *path, *otherwise = NULL;
     bplist_status status;
     bplist_found found;
 
-    if (find_path(self, path, &status, &found) < 0)
+    if (!PyArg_UnpackTuple(arguments, "at", 1, 2, &path, &otherwise) || find_path(self, path, &status, &found) < 0)
         return NULL;
-    return status == BPLIST_OK ? handle_value(self, found.object) : raise_missing(path, status, found.step);
+    if (status == BPLIST_OK)
+        return handle_value(self, found.object);
+    if (otherwise && (status == BPLIST_NO_KEY || status == BPLIST_NO_INDEX || status == BPLIST_NOT_STEPPABLE)) {
+        Py_INCREF(otherwise);
+        return otherwise;
+    }
+    return raise_missing(path, status, found.step);
 }
 
 /* Returns the status of the library for a path, and the object that it leads to or the step at which it ends. */
@@ -262,11 +269,12 @@ static void dealloc(PyObject *object)
 }
 
 static PyMethodDef methods[] = {
-    {"at", value_at, METH_O,
-     "at(path)\n--\n\n"
+    {"at", value_at, METH_VARARGS,
+     "at(path, default=..., /)\n--\n\n"
      "Returns the value that a path leads to. A path is a JSON Pointer, for example \"/Root/items/0\"; \"\" is the top.\n\n"
-     "Raises KeyError if a dictionary has no such key, IndexError if an array has no such index, TypeError if a step\n"
-     "continues from any other value, and `PathError` if the path text is wrong."},
+     "If it leads nowhere, returns the default if one is given, and otherwise raises KeyError if a dictionary has no such\n"
+     "key, IndexError if an array has no such index, and TypeError if a step continues from any other value. Raises\n"
+     "`PathError` if the path text is wrong, whether or not there is a default."},
     {"close", close_handle, METH_NOARGS, "close()\n--\n\nCloses the property list. Closing it again does nothing."},
     {"_body", body_of_number, METH_O, "The kind of an object, and the place and length of its body."},
     {"_found", found_at, METH_O, "The library's status for a path, and the object that it leads to or the step that fails."},

@@ -119,9 +119,7 @@ static PyObject *rule_text(PyObject *module, PyObject *number)
     return text_of(bplist_rule_text, number);
 }
 
-/* Returns true if instances of a class can be made without calling it, as is done with dates and UIDs. Otherwise
-   raises. */
-static int is_made(PyObject *class)
+int is_made(PyObject *class)
 {
     if (PyType_GetSlot((PyTypeObject *)class, Py_tp_new))
         return 1;
@@ -133,12 +131,12 @@ static PyObject *bind(PyObject *module, PyObject *arguments)
 {
     State *state = PyModule_GetState(module);
     PyTypeObject *type = &PyType_Type;
-    PyObject *given[HELD];
+    PyObject *given[BOUND];
 
-    if (!PyArg_ParseTuple(arguments, "O!O!O!O!O!O!O", type, &given[ARRAY], type, &given[SET], type, &given[DICT], type,
-                          &given[FAR_DATE], type, &given[UID], type, &given[DATETIME], &given[UID_DATA]))
+    if (!PyArg_ParseTuple(arguments, "O!O!O!O!OO!", type, &given[ARRAY], type, &given[SET], type, &given[DICT], type,
+                          &given[FAR_DATE], &given[UID_CLASS], type, &given[DATETIME]))
         return NULL;
-    if (!is_made(given[UID]) || !is_made(given[DATETIME]))
+    if (!is_made(given[DATETIME]))
         return NULL;
     for (int i = ARRAY; i <= DICT; i++)
         if (!is_below(given[i], state->held[CONTAINER]))
@@ -146,7 +144,7 @@ static PyObject *bind(PyObject *module, PyObject *arguments)
     given[DATE_ARGUMENTS] = date_arguments();
     if (given[DATE_ARGUMENTS] == NULL)
         return NULL;
-    for (int i = ARRAY; i < HELD; i++) {
+    for (int i = ARRAY; i < BOUND; i++) {
         PyObject *old = state->held[i];
 
         if (i != DATE_ARGUMENTS)
@@ -164,7 +162,7 @@ static PyMethodDef functions[] = {
     {"map_file", map_file, METH_VARARGS, "Maps this many bytes of an open file into memory."},
     {"rule_name", rule_name, METH_O, "The name of a rule."},
     {"rule_text", rule_text, METH_O, "What a rule requires."},
-    {"bind", bind, METH_VARARGS, "Sets the classes to use, and the name of the only attribute of UIDs."},
+    {"bind", bind, METH_VARARGS, "Sets the classes to use, and what tells that of UIDs."},
     {NULL, NULL, 0, NULL},
 };
 

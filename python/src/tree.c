@@ -28,12 +28,28 @@ typedef struct Block {
     bplist_body bodies[BLOCK];
 } Block;
 
-/* A list or a dict that gets its members, and how many members or pairs it has. */
+/* A list or a dict that gets its members: how many members or pairs it has, and how many nodes its tree has so far, if
+   each member that is not yet made is one. */
 typedef struct Filling {
     uint32_t object;
     References references;
     uint64_t filled;
+    uint64_t nodes;
 } Filling;
+
+/* What is kept of each object while a tree is built. The tree of the top is built in new memory. All trees of containers
+   use the same, so that one of them costs no more than it has objects. */
+typedef struct Room {
+    /* By object number, and 0 for what was not made yet. */
+    Made *made;
+    /* By object number of a container that was made: the number of nodes of its tree, at most UINT64_MAX. */
+    uint64_t *nodes;
+    /* For the tree of a container: the objects that were made, and the length of this list. */
+    uint32_t *used;
+    size_t count;
+    size_t space;
+    int is_whole;
+} Room;
 
 typedef struct Tree {
     Handle *handle;
@@ -42,15 +58,13 @@ typedef struct Tree {
     /* The root of the tree, and the largest number of nodes that the tree may have. */
     uint32_t object;
     uint64_t limit;
-    /* The number of nodes so far, if no container occurs twice, and whether one does. */
+    /* The number of nodes so far, if no container occurs twice. */
     uint64_t nodes;
-    uint64_t is_shared;
-    /* By object number. */
-    Made *made;
+    Room *room;
     /* The way from the root to the container that gets members. */
     Filling *filling;
     size_t height;
-    size_t room;
+    size_t space;
     /* Whether the collector is to be enabled when the tree is whole. */
     int is_collecting;
     /* The bodies of keys, and of all others: a dictionary has its keys before its values. */
@@ -86,9 +100,9 @@ static void start_collector(const Tree *tree)
         PyGC_Enable();
 }
 
-/* Raises if the tree has too many nodes, by the number that the library gives. Meanwhile other threads run, and they
+/* Raises for a tree with too many nodes, with the number that the library gives. Meanwhile other threads run, and they
    may enable the collector or disable it. */
-static int tree_measure(Tree *tree)
+static int raise_too_large(Tree *tree)
 {
     bplist_sizes sizes;
     int status;
@@ -99,7 +113,7 @@ static int tree_measure(Tree *tree)
     if (status < 0)
         return -1;
     if (sizes.nodes <= tree->limit)
-        return tree->nodes <= tree->limit ? 0 : raise_changed();
+        return raise_changed();
     return raise_fault("TooLarge", "(KK)", (unsigned long long)sizes.nodes, (unsigned long long)tree->limit);
 }
 
@@ -148,18 +162,18 @@ static inline const bplist_body *tree_body(Tree *tree, Block *block, uint64_t ob
 /* Puts a container on the way. */
 static int push(Tree *tree, uint32_t object, const References *references)
 {
-    if (tree->height == tree->room) {
-        size_t room = 2 * tree->room + FEW;
-        Filling *moved = PyMem_Realloc(tree->filling, room * sizeof *moved);
+    if (tree->height == tree->space) {
+        size_t space = 2 * tree->space + FEW;
+        Filling *moved = PyMem_Realloc(tree->filling, space * sizeof *moved);
 
         if (moved == NULL) {
             PyErr_NoMemory();
             return -1;
         }
         tree->filling = moved;
-        tree->room = room;
+        tree->space = space;
     }
-    tree->filling[tree->height++] = (Filling){object, *references, 0};
+    tree->filling[tree->height++] = (Filling){object, *references, 0, 1 + reference_count(references)};
     return 0;
 }
 
@@ -172,15 +186,36 @@ static PyObject *container_of(Tree *tree, uint32_t object, const bplist_body *bo
     if (references_of(body, &references) < 0)
         return NULL;
     tree->nodes += reference_count(&references);
-    if (tree->nodes > tree->limit && tree_measure(tree) < 0)
+    if (tree->nodes > tree->limit) {
+        raise_too_large(tree);
         return NULL;
+    }
+    tree->room->nodes[object] = 1;
     if (references.count > 0 && push(tree, object, &references) < 0)
         return NULL;
     value = references.is_dict ? PyDict_New() : PyList_New((Py_ssize_t)references.count);
-    tree->made[object] = (Made)value;
+    tree->room->made[object] = (Made)value;
     if (value && !references.is_dict)
-        hide(&tree->made[object]);
+        hide(&tree->room->made[object]);
     return value;
+}
+
+/* Notes that an object of the tree of a container is made. */
+static int use(Room *room, uint32_t object)
+{
+    if (room->count == room->space) {
+        size_t space = 2 * room->space + BLOCK;
+        uint32_t *moved = PyMem_Realloc(room->used, space * sizeof *moved);
+
+        if (moved == NULL) {
+            PyErr_NoMemory();
+            return -1;
+        }
+        room->used = moved;
+        room->space = space;
+    }
+    room->used[room->count++] = object;
+    return 0;
 }
 
 /* Makes an object. */
@@ -194,21 +229,29 @@ static PyObject *make(Tree *tree, Block *block, uint64_t object)
         return NULL;
     }
     body = tree_body(tree, block, object);
-    if (body == NULL)
+    if (body == NULL || (!tree->room->is_whole && use(tree->room, (uint32_t)object) < 0))
         return NULL;
     if (is_container(body->kind))
         return container_of(tree, (uint32_t)object, body);
     value = leaf_of(tree->handle->state, &tree->source, body);
-    tree->made[object] = (Made)value;
+    tree->room->made[object] = (Made)value;
     if (body->kind == BPLIST_UID && value)
-        hide(&tree->made[object]);
+        hide(&tree->room->made[object]);
     return value;
 }
 
 /* Returns what was made for an object, as a borrowed reference, or NULL. */
 static inline PyObject *made_of(const Tree *tree, uint64_t object)
 {
-    return object < tree->handle->objects ? value_in(tree->made[object]) : NULL;
+    return object < tree->handle->objects ? value_in(tree->room->made[object]) : NULL;
+}
+
+/* Adds the nodes of a container, which is a member of the last one of the way and counted as one node of that. */
+static inline void add_nodes(Tree *tree, uint64_t nodes)
+{
+    uint64_t *sum = &tree->filling[tree->height - 1].nodes;
+
+    *sum = nodes - 1 > UINT64_MAX - *sum ? UINT64_MAX : *sum + (nodes - 1);
 }
 
 /* Returns the value of reference `i`, which is made if it was not yet. */
@@ -219,7 +262,8 @@ static inline PyObject *member(Tree *tree, const References *references, uint64_
 
     if (value == NULL)
         return make(tree, &tree->values, object);
-    tree->is_shared |= PyDict_CheckExact(value) || PyList_CheckExact(value);
+    if (PyDict_CheckExact(value) || PyList_CheckExact(value))
+        add_nodes(tree, tree->room->nodes[object]);
     Py_INCREF(value);
     return value;
 }
@@ -265,6 +309,16 @@ static inline int add_member(Tree *tree, PyObject *list, const References *refer
     return value ? PyList_SetItem(list, (Py_ssize_t)i, value) : -1;
 }
 
+/* Takes the last container from the way: its nodes are known now. */
+static void leave(Tree *tree)
+{
+    const Filling *whole = &tree->filling[--tree->height];
+
+    tree->room->nodes[whole->object] = whole->nodes;
+    if (tree->height > 0)
+        add_nodes(tree, whole->nodes);
+}
+
 /* Gives the last container of the way members, until one of them comes behind it on the way. A container that has all
    of them leaves the way. */
 static int fill(Tree *tree)
@@ -272,7 +326,7 @@ static int fill(Tree *tree)
     const size_t height = tree->height;
     const Filling filling = tree->filling[height - 1];
     const References *references = &filling.references;
-    PyObject *value = value_in(tree->made[filling.object]);
+    PyObject *value = value_in(tree->room->made[filling.object]);
     uint64_t i = filling.filled;
 
     for (; i < references->count && tree->height == height; i++)
@@ -280,10 +334,10 @@ static int fill(Tree *tree)
             return -1;
     /* Python makes a dict known to the collector when it gets a container as a value. */
     if (references->is_dict)
-        hide(&tree->made[filling.object]);
+        hide(&tree->room->made[filling.object]);
     tree->filling[height - 1].filled = i;
     if (tree->height == height)
-        tree->height--;
+        leave(tree);
     return 0;
 }
 
@@ -293,8 +347,13 @@ static int fill_all(Tree *tree)
     while (tree->height > 0)
         if (fill(tree) < 0)
             return -1;
-    /* If a container occurs twice, the tree has more nodes than were counted. */
-    return tree->is_shared ? tree_measure(tree) : 0;
+    return 0;
+}
+
+/* Whether the tree of a root that is whole has too many nodes: a container may occur twice. */
+static int is_too_large(const Tree *tree, PyObject *root)
+{
+    return (PyDict_CheckExact(root) || PyList_CheckExact(root)) && tree->room->nodes[tree->object] > tree->limit;
 }
 
 /* Builds the tree of an object. */
@@ -302,19 +361,34 @@ static PyObject *tree_build(Tree *tree)
 {
     PyObject *root = NULL;
 
-    if (tree->nodes <= tree->limit || tree_measure(tree) == 0)
+    if (tree->limit > 0)
         root = make(tree, &tree->values, tree->object);
+    else
+        raise_too_large(tree);
     if (root && fill_all(tree) < 0)
         Py_CLEAR(root);
+    if (root && is_too_large(tree, root)) {
+        raise_too_large(tree);
+        Py_CLEAR(root);
+    }
     return root;
+}
+
+/* Lets the collector know of what was made, if it was hidden. */
+static inline void track(Made made)
+{
+    if (made & HIDDEN)
+        PyObject_GC_Track(value_in(made));
 }
 
 /* Lets the collector know of a tree that is whole. */
 static void tree_track(const Tree *tree)
 {
-    for (uint64_t i = 0; i < tree->handle->objects; i++)
-        if (tree->made[i] & HIDDEN)
-            PyObject_GC_Track(value_in(tree->made[i]));
+    const Room *room = tree->room;
+    uint64_t count = room->is_whole ? tree->handle->objects : room->count;
+
+    for (uint64_t i = 0; i < count; i++)
+        track(room->made[room->is_whole ? i : room->used[i]]);
 }
 
 /* Runs the collector if it is due: it looks after that when memory for a container is taken from the heap, as for a
@@ -328,19 +402,60 @@ static void collect_if_due(void)
     Py_XDECREF(tuple);
 }
 
-/* Makes the table of what is made. The tree of the top needs almost all of it, so all of its memory is written to at
-   once: a page that is first read and then written to costs two page faults. */
-static Made *table_of(const Handle *self, uint32_t object)
+void room_free(Room *room)
+{
+    if (room == NULL)
+        return;
+    PyMem_Free(room->made);
+    PyMem_Free(room->nodes);
+    PyMem_Free(room->used);
+    PyMem_Free(room);
+}
+
+/* Makes room for a tree. That of the top needs almost all of it, so all of `made` is written to at once: a page that is
+   first read and then written to costs two page faults. */
+static Room *room_new(const Handle *self, int is_whole)
 {
     size_t size = self->objects * sizeof(Made);
-    Made *table;
+    Room *room = PyMem_Calloc(1, sizeof *room);
 
-    if (object != self->top)
-        return PyMem_Calloc(1, size);
-    table = PyMem_Malloc(size);
-    if (table)
-        memset(table, 0, size);
-    return table;
+    if (room == NULL)
+        return NULL;
+    room->is_whole = is_whole;
+    room->made = is_whole ? PyMem_Malloc(size) : PyMem_Calloc(1, size);
+    room->nodes = PyMem_Malloc(self->objects * sizeof *room->nodes);
+    if (room->made == NULL || room->nodes == NULL) {
+        room_free(room);
+        return NULL;
+    }
+    if (is_whole)
+        memset(room->made, 0, size);
+    return room;
+}
+
+/* Takes the room that the last tree of a container left, or makes room. Other threads run while a tree is measured, and
+   may build one too. */
+static Room *room_for(Handle *self, uint32_t object)
+{
+    Room *room = object == self->top ? NULL : self->room;
+
+    if (room == NULL)
+        return room_new(self, object == self->top);
+    self->room = NULL;
+    return room;
+}
+
+/* Leaves room for the next tree of a container. */
+static void room_leave(Handle *self, Room *room)
+{
+    if (room->is_whole || self->room || self->source.owner == NULL) {
+        room_free(room);
+        return;
+    }
+    for (size_t i = 0; i < room->count; i++)
+        room->made[room->used[i]] = 0;
+    room->count = 0;
+    self->room = room;
 }
 
 PyObject *tree_of(Handle *self, uint32_t object, uint64_t limit)
@@ -360,8 +475,8 @@ PyObject *tree_of(Handle *self, uint32_t object, uint64_t limit)
     tree.object = object;
     tree.limit = limit;
     tree.nodes = 1;
-    tree.made = table_of(self, object);
-    if (tree.made == NULL)
+    tree.room = room_for(self, object);
+    if (tree.room == NULL)
         return PyErr_NoMemory();
     tree.source = self->source;
     Py_INCREF(tree.source.owner);
@@ -372,7 +487,7 @@ PyObject *tree_of(Handle *self, uint32_t object, uint64_t limit)
         collect_if_due();
     if (root)
         tree_track(&tree);
-    PyMem_Free(tree.made);
+    room_leave(self, tree.room);
     PyMem_Free(tree.filling);
     Py_DECREF(tree.source.owner);
     return root;

@@ -8,6 +8,7 @@ import copy
 import datetime
 import gc
 import io
+import json
 import math
 import os
 import pathlib
@@ -60,14 +61,14 @@ def plist_of(*objects):
     """The property list of a file of these objects in order. The first is the top."""
     places = [8 + sum(map(len, objects[:n])) for n in range(len(objects) + 1)]
     trailer = bytes(6) + b"\x01\x01" + len(objects).to_bytes(8, "big") + bytes(8) + places.pop().to_bytes(8, "big")
-    return bplist.loads(b"bplist00" + b"".join(objects) + bytes(places) + trailer)
+    return bplist.view(b"bplist00" + b"".join(objects) + bytes(places) + trailer)
 
 
 def value_of(spelled):
     """The value of a file with one object, which has these bytes."""
     table = 8 + len(spelled)
     trailer = bytes(6) + b"\x01\x01" + (1).to_bytes(8, "big") + bytes(8) + table.to_bytes(8, "big")
-    return bplist.loads(b"bplist00" + spelled + b"\x08" + trailer).value
+    return bplist.view(b"bplist00" + spelled + b"\x08" + trailer).value
 
 
 class Tables(unittest.TestCase):
@@ -82,12 +83,12 @@ class Tables(unittest.TestCase):
                 self.assertEqual(verdict.ok, line.startswith("ok "))
                 if verdict.ok:
                     self.assertEqual(line.split()[:5], f"ok reached {verdict.reached} height {verdict.height}".split())
-                    with bplist.loads(sample.octets) as plist:
+                    with bplist.view(sample.octets) as plist:
                         self.assertEqual(plist.closed, False)
                     continue
                 self.see_fault(verdict.fault, line.split())
                 with self.assertRaises(bplist.Refused) as caught:
-                    bplist.to_python(sample.octets)
+                    bplist.loads(sample.octets)
                 self.see_fault(caught.exception, line.split())
 
     def see_fault(self, fault, words):
@@ -107,7 +108,7 @@ class Tables(unittest.TestCase):
             sound = sample.line is not None and sample.line.startswith(b"ok ")
             if not sound or len(sample.octets) > 100_000 or READ_WRONG in sample.name:
                 continue
-            with self.subTest(sample.name), bplist.loads(sample.octets) as plist:
+            with self.subTest(sample.name), bplist.view(sample.octets) as plist:
                 if plist.size > MOST_NODES:
                     continue
                 for want in by_plistlib(sample.octets):
@@ -121,7 +122,7 @@ class Tables(unittest.TestCase):
         with tempfile.TemporaryDirectory() as folder:
             for sample in written_files(folder):
                 for is_sorted in (False, True):
-                    with self.subTest(sample.name), bplist.loads(sample.octets, sorted_keys=is_sorted) as plist:
+                    with self.subTest(sample.name), bplist.view(sample.octets, sorted_keys=is_sorted) as plist:
                         self.assertEqual(plistlib.loads(sample.octets), sample.value)
                         self.assertEqual(plist.plain(), sample.value)
                         self.assertEqual(plain_of(plist.value), sample.value)
@@ -153,7 +154,7 @@ class Values(unittest.TestCase):
     }
 
     def setUp(self):
-        self.plist = bplist.loads(plistlib.dumps(self.tree, fmt=plistlib.FMT_BINARY))
+        self.plist = bplist.view(plistlib.dumps(self.tree, fmt=plistlib.FMT_BINARY))
 
     def test_lazy(self):
         value = self.plist.value
@@ -175,7 +176,7 @@ class Values(unittest.TestCase):
 
     def test_equal(self):
         """A container equals itself and anything with equal members: of this file, of another file, or of plistlib."""
-        value, other = self.plist.value, bplist.loads(plistlib.dumps(self.tree, fmt=plistlib.FMT_BINARY)).value
+        value, other = self.plist.value, bplist.view(plistlib.dumps(self.tree, fmt=plistlib.FMT_BINARY)).value
         self.assertEqual(value, self.plist.at(""))
         self.assertEqual(value, other)
         self.assertEqual(value, self.tree)
@@ -189,7 +190,7 @@ class Values(unittest.TestCase):
         self.assertNotEqual(value["list"], value[""])
         self.assertNotEqual(value["list"][2], value["list"][1])
         self.assertNotEqual(value[""], {"~/": 1, "a": 1})
-        self.assertNotEqual(value[""], bplist.loads(plistlib.dumps({"~": 1}, fmt=plistlib.FMT_BINARY)).value)
+        self.assertNotEqual(value[""], bplist.view(plistlib.dumps({"~": 1}, fmt=plistlib.FMT_BINARY)).value)
         for container in (value, value["list"]):
             with self.assertRaises(TypeError):
                 hash(container)
@@ -200,7 +201,7 @@ class Values(unittest.TestCase):
         self.plist.close()
         self.assertEqual(one, other)
         with self.assertRaises(bplist.Closed):
-            one == bplist.loads(plistlib.dumps(self.tree, fmt=plistlib.FMT_BINARY)).value
+            one == bplist.view(plistlib.dumps(self.tree, fmt=plistlib.FMT_BINARY)).value
 
     def test_paths(self):
         self.assertEqual(self.plist.at("/list/1/1/a"), 3)
@@ -218,9 +219,25 @@ class Values(unittest.TestCase):
         with self.assertRaises(UnicodeEncodeError):
             self.plist.at("/\ud800")
 
+    def test_paths_with_a_default(self):
+        """A default stands for a path that leads nowhere, and for no other fault."""
+        for path in "/none", "/list/03", "/text/0":
+            self.assertIsNone(self.plist.at(path, None))
+            self.assertIs(self.plist.at(path, self), self)
+        self.assertEqual(self.plist.at("/list/1/1/a", None), 3)
+        for path, words in (("list", "byte 0: a path begins with /"), ("/a~2", "byte 2: after ~ comes 0, for ~, or 1, for /")):
+            with self.assertRaisesRegex(bplist.PathError, f"{words}$"):
+                self.plist.at(path, None)
+        for arguments in (), ("", 1, 2), (b"",):
+            with self.assertRaises(TypeError):
+                self.plist.at(*arguments)
+        self.plist.close()
+        with self.assertRaises(bplist.Closed):
+            self.plist.at("/none", None)
+
     def test_sizes(self):
         """A tree with more nodes than the limit is refused, and the exception has its number of nodes."""
-        shared = bplist.loads(doubling(8, b"\x09"))
+        shared = bplist.view(doubling(8, b"\x09"))
         for plist, tree in ((self.plist, self.tree), (shared, plain_of(shared.value))):
             size = plist.size
             for limit in (size, 10**30):
@@ -233,11 +250,11 @@ class Values(unittest.TestCase):
         self.assertEqual(self.plist.at("/list").plain(limit=8), self.tree["list"])
 
     def test_shared_is_one_object(self):
-        plain = bplist.loads(doubling(8, b"\x51a")).plain()
+        plain = bplist.view(doubling(8, b"\x51a")).plain()
         self.assertIs(plain[0], plain[1])
 
     def test_text(self):
-        with bplist.loads(plistlib.dumps({"a": ["b", b"\x01"]}, fmt=plistlib.FMT_BINARY)) as plist:
+        with bplist.view(plistlib.dumps({"a": ["b", b"\x01"]}, fmt=plistlib.FMT_BINARY)) as plist:
             self.assertEqual(plist.text(), "{a=(b,<01>);}")
             with self.assertRaises(bplist.TooLarge):
                 plist.text(limit=5)
@@ -247,13 +264,13 @@ class Values(unittest.TestCase):
     def test_certificates(self):
         file = plistlib.dumps(self.tree, fmt=plistlib.FMT_BINARY)
         for is_sorted in (False, True):
-            with bplist.loads(file, sorted_keys=is_sorted) as plist:
+            with bplist.view(file, sorted_keys=is_sorted) as plist:
                 certificate = plist.certificate
-            with bplist.loads(file, certificate=certificate) as plist:
+            with bplist.view(file, certificate=certificate) as plist:
                 self.assertEqual(plist.certificate, certificate)
                 self.assertEqual(plist.plain(), self.tree)
         with self.assertRaises(bplist.Refused) as caught:
-            bplist.loads(file, certificate=b"bplcert3")
+            bplist.view(file, certificate=b"bplcert3")
         self.assertEqual((caught.exception.rule, caught.exception.number), ("CertMagic", 24))
 
 
@@ -273,7 +290,7 @@ class Edges(unittest.TestCase):
     def test_keys_of_lone_surrogates(self):
         file = b"bplist00" + b"\xd1\x01\x02" + b"\x61\xdc\x00" + b"\x09" + b"\x08\x0b\x0e"
         file += bytes(6) + b"\x01\x01" + (3).to_bytes(8, "big") + bytes(8) + (15).to_bytes(8, "big")
-        with bplist.loads(file) as plist:
+        with bplist.view(file) as plist:
             self.assertEqual(list(plist.value), ["\udc00"])
             self.assertIs(plist.value["\udc00"], True)
 
@@ -296,7 +313,7 @@ class Edges(unittest.TestCase):
         """A file of 298 bytes whose tree has 2^65 - 1 nodes: opened, sized and walked to its leaf."""
         file = doubling(64, b"\x09")
         self.assertEqual(len(file), 298)
-        with bplist.loads(file) as plist:
+        with bplist.view(file) as plist:
             self.assertEqual(plist.size, 2**64 - 1)
             self.assertIs(plist.at("/0" * 64), True)
             value = plist.value
@@ -309,9 +326,9 @@ class Edges(unittest.TestCase):
 
     def test_shared_are_equal(self):
         """Two trees of 2^65 - 1 nodes are compared by their 65 objects."""
-        value = bplist.loads(doubling(64, b"\x09")).value
-        self.assertEqual(value, bplist.loads(doubling(64, b"\x09")).value)
-        self.assertNotEqual(value, bplist.loads(doubling(64, b"\x08")).value)
+        value = bplist.view(doubling(64, b"\x09")).value
+        self.assertEqual(value, bplist.view(doubling(64, b"\x09")).value)
+        self.assertNotEqual(value, bplist.view(doubling(64, b"\x08")).value)
         self.assertNotEqual(value, value[0])
 
     def test_sets_are_equal(self):
@@ -329,7 +346,7 @@ class Edges(unittest.TestCase):
     def test_circle(self):
         file = b"bplist00" + b"\xa1\x00" + b"\x08" + bytes(6) + b"\x01\x01" + (1).to_bytes(8, "big") + bytes(8)
         with self.assertRaises(bplist.Refused) as caught:
-            bplist.loads(file + (10).to_bytes(8, "big"))
+            bplist.view(file + (10).to_bytes(8, "big"))
         self.assertEqual((caught.exception.rule, caught.exception.circle), ("Circle", (0,)))
 
 
@@ -359,7 +376,7 @@ class Deep(unittest.TestCase):
         body = b"".join(b"\xa1" + n.to_bytes(4, "big") for n in range(1, links + 1)) + b"\x09"
         offsets = b"".join((8 + 5 * n).to_bytes(4, "big") for n in range(links + 1))
         trailer = bytes(6) + b"\x04\x04" + (links + 1).to_bytes(8, "big") + bytes(8) + (8 + len(body)).to_bytes(8, "big")
-        with bplist.loads(b"bplist00" + body + offsets + trailer) as plist:
+        with bplist.view(b"bplist00" + body + offsets + trailer) as plist:
             value, depth = plist.plain(), 0
             while isinstance(value, list):
                 value, depth = value[0], depth + 1
@@ -387,20 +404,18 @@ class Files(unittest.TestCase):
         """Returns True if this process has mapped the file."""
         return os.path.basename(self.path) in pathlib.Path("/proc/self/maps").read_text(encoding="utf-8")
 
-    def test_load(self):
-        with open(self.path, "rb") as file, bplist.load(file) as plist:
-            self.assertEqual(plist.at("/a/1"), 2)
+    def test_view(self):
         data = pathlib.Path(self.path).read_bytes()
         for octets in (data, bytearray(data), memoryview(data)):
-            with bplist.loads(octets) as plist:
+            with bplist.view(octets) as plist:
                 self.assertEqual(plist.at("/a/1"), 2)
         with self.assertRaises(TypeError):
-            bplist.loads("no bytes")
+            bplist.view("no bytes")
 
     def test_to_python(self):
-        """to_python, the call that replaces plistlib, takes a path or bytes."""
-        for source in (self.path, pathlib.Path(self.path), pathlib.Path(self.path).read_bytes()):
-            self.assertEqual(bplist.to_python(source), {"a": [1, 2]})
+        for path in (self.path, pathlib.Path(self.path)):
+            self.assertEqual(bplist.to_python(path), {"a": [1, 2]})
+        self.assertIs(type(bplist.to_python(self.path, dict_type=collections.OrderedDict)), collections.OrderedDict)
         with self.assertRaises(bplist.TooLarge):
             bplist.to_python(self.path, limit=4)
 
@@ -525,11 +540,12 @@ class Files(unittest.TestCase):
                 ticks.append(None)
                 time.sleep(0)
 
-        certificate = bplist.loads(file).certificate
+        certificate = bplist.view(file).certificate
         calls = {
             "lint": lambda: bplist.lint_bytes(file),
-            "sort": lambda: bplist.loads(file, sorted_keys=True),
-            "check": lambda: bplist.loads(file, certificate=certificate),
+            "sort": lambda: bplist.view(file, sorted_keys=True),
+            "check": lambda: bplist.view(file, certificate=certificate),
+            "say what zeros look like": lambda: bplist.looks_like(bytes(1 << 20)),
         }
         thread = threading.Thread(target=tick)
         # A thread that holds the GIL never gives it up by itself.
@@ -611,11 +627,23 @@ class Package(unittest.TestCase):
 
     def test_not_copied(self):
         """What reads a file is neither copied nor pickled: its handle has one owner."""
-        plist = bplist.loads(plistlib.dumps({"a": [1]}, fmt=plistlib.FMT_BINARY))
-        for made in (plist, plist.value, plist.value["a"], iter(plist.value)):
+        plist = bplist.view(plistlib.dumps({"a": [1]}, fmt=plistlib.FMT_BINARY))
+        for made in (plist, iter(plist.value)):
             for call in (copy.copy, copy.deepcopy, pickle.dumps):
                 with self.assertRaises(TypeError):
                     call(made)
+
+    def test_copied(self):
+        """The copy of a container, and what is pickled of it, is its plain value, which needs no file."""
+        plist = bplist.view(plistlib.dumps({"a": [1, {"b": plistlib.UID(2)}]}, fmt=plistlib.FMT_BINARY))
+        containers = [plist.value, plist.value["a"], value_of(b"\xc0")]
+        for call in (copy.copy, copy.deepcopy, lambda container: pickle.loads(pickle.dumps(container))):
+            for container in containers:
+                copied = call(container)
+                self.assertEqual((type(copied), copied), (type(container.plain()), container.plain()))
+        self.assertEqual(json.dumps(plist.value["a"][:1]), "[1]")
+        with self.assertRaises(TypeError):
+            json.dumps(plist.value)
 
     def test_looks_like(self):
         """What a file looks like is a call of its own, and a part of the exception."""
@@ -665,7 +693,7 @@ class Changes(unittest.TestCase):
             file = bytearray(given.choice(files))
             file[given.randrange(len(file))] = given.randrange(256)
             try:
-                with bplist.loads(file) as plist:
+                with bplist.view(file) as plist:
                     if plist.size < 10_000:
                         # Compared as text, because NaN does not equal itself.
                         self.assertEqual(repr(plist.plain()), repr(plain_of(plist.value)))

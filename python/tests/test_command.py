@@ -110,6 +110,23 @@ class Command(unittest.TestCase):
         ran = started("--version")
         self.assertEqual((ran.returncode, ran.stdout), (0, f"bplist {bplist.__version__}\n".encode()))
 
+    def test_order(self):
+        """The words are looked at first, then the file is opened, then the paths are looked at, then the bytes."""
+        pathlib.Path(self.path).write_bytes(b"bplist")
+        wrong = b"fault PathText object none place 0\n"
+        for verb in ("show", "ls"):
+            status, said, complained = run(verb, "none", "/\udcff")
+            self.assertEqual((status, said), (2, b""))
+            self.assertIn(b"a path is UTF-8", complained)
+            self.assertEqual(run(verb, self.path + "x", "a"), (3, b"", b"read Open\n"))
+            self.assertEqual(run(verb, self.folder.name, "a"), (3, b"", b"read Device\n"))
+            self.assertEqual(run(verb, self.path, "a"), (2, b"", wrong))
+            self.assertEqual(run(verb, self.path, "/a"), (1, b"", b"fault TooShort object none place 6\n"))
+            words = [sys.executable, "-m", "bplist", verb, "-", "a"]
+            with subprocess.Popen(words, stdin=subprocess.PIPE, stderr=subprocess.PIPE) as waiting:
+                # Its standard input does not end.
+                self.assertEqual((waiting.wait(60), waiting.stderr.read()), (2, wrong))
+
     def test_failed_writes(self):
         """A full device is a fault with status 3. So is a pipe that nobody reads, but without a word."""
         module = [sys.executable, "-m", "bplist"]
@@ -142,6 +159,7 @@ class Command(unittest.TestCase):
             ("show 2>&-", 2, "", ""),
             ("--version >&-", 3, "", "write 0\n"),
             ("ls --help >&-", 3, "", "write 0\n"),
+            ("show - a <&-", 2, "", "fault PathText object none place 0\n"),
             ("lint - <&- >&- 2>&-", 3, "", ""),
         ):
             with self.subTest(line):

@@ -36,7 +36,7 @@ class Index:
 
 
 def opened(value):
-    return bplist.loads(plistlib.dumps(value, fmt=plistlib.FMT_BINARY, sort_keys=False)).value
+    return bplist.view(plistlib.dumps(value, fmt=plistlib.FMT_BINARY, sort_keys=False)).value
 
 
 def plain(value):
@@ -155,8 +155,8 @@ class Equality(unittest.TestCase):
     def test_deep(self):
         """A chain of 100,000 arrays is compared with another and with lists, without recursion."""
         links = 100_000
-        value = bplist.loads(chain(links, b"\x09")).value
-        self.assertTrue(value == bplist.loads(chain(links, b"\x09")).value)
+        value = bplist.view(chain(links, b"\x09")).value
+        self.assertTrue(value == bplist.view(chain(links, b"\x09")).value)
         self.assertTrue(value == plain_chain(links, True))
         self.assertTrue(plain_chain(links, True) == value)
         self.assertFalse(value == plain_chain(links, False))
@@ -180,7 +180,7 @@ class Equality(unittest.TestCase):
         places = [8 + 3 * n for n in range(66)]
         trailer = bytes(6) + b"\x01\x01" + (65).to_bytes(8, "big") + bytes(8) + (8 + 64 * 3 + 1).to_bytes(8, "big")
         file = b"bplist00" + b"".join(objects) + bytes(places[:65]) + trailer
-        self.assertEqual(bplist.loads(file).value, tree)
+        self.assertEqual(bplist.view(file).value, tree)
 
 
 class Sorting(unittest.TestCase):
@@ -200,19 +200,19 @@ class Sorting(unittest.TestCase):
 
     def test_linear(self):
         """What goes over a large dictionary by its keys takes about as long as with sorted keys, not a thousand times."""
-        sorted_keys = bplist.loads(self.file, sorted_keys=True).value
+        sorted_keys = bplist.view(self.file, sorted_keys=True).value
         wanted = {f"key number {i}": i for i in range(self.count)}
         calls = [dict, lambda v: [v[k] for k in v], lambda v: [k in v for k in v], lambda v: v == wanted]
         calls += [lambda v: v.keys() == wanted.keys(), lambda v: wanted.keys() & v.keys()]
         for number, call in enumerate(calls):
             with self.subTest(number):
                 quick = self.seconds(lambda: call(sorted_keys))
-                plist = bplist.loads(self.file)
+                plist = bplist.view(self.file)
                 self.assertLess(self.seconds(lambda: call(plist.value)), 20 * quick + 0.5)
 
     def test_when(self):
         """The 14th look-up sorts, as LIBRARY.md says. Then answers are the same, and the certificate has sorted keys."""
-        with bplist.loads(self.file) as plist:
+        with bplist.view(self.file) as plist:
             for _ in range(13):
                 self.assertEqual(plist.value["key number 777"], 777)
             self.assertFalse(self.is_sorted(plist))
@@ -222,17 +222,17 @@ class Sorting(unittest.TestCase):
                 self.assertEqual(plist.value[f"key number {i}"], i)
             self.assertNotIn("key number x", plist.value)
             self.assertEqual(plist.at("/key number 29999"), 29_999)
-            self.assertEqual(bplist.loads(self.file, certificate=plist.certificate).value["key number 3"], 3)
+            self.assertEqual(bplist.view(self.file, certificate=plist.certificate).value["key number 3"], 3)
 
     def test_by_paths(self):
-        with bplist.loads(self.file) as plist:
+        with bplist.view(self.file) as plist:
             for i in range(64):
                 self.assertEqual(plist.at(f"/key number {i}"), i)
             self.assertTrue(self.is_sorted(plist))
 
     def test_small(self):
         """A small dictionary is never sorted: it is as fast without."""
-        plist = bplist.loads(plistlib.dumps({f"k{i}": i for i in range(20)}, fmt=plistlib.FMT_BINARY))
+        plist = bplist.view(plistlib.dumps({f"k{i}": i for i in range(20)}, fmt=plistlib.FMT_BINARY))
         for _ in range(2000):
             self.assertEqual(plist.value["k7"], 7)
         self.assertFalse(self.is_sorted(plist))
@@ -242,7 +242,7 @@ class Finding(unittest.TestCase):
     def test_find(self):
         """`find` gives the object of a value and the place of its first byte, and raises as `at` does."""
         file = plistlib.dumps({"a": [1, "two"], "b": {"c": b"data"}}, fmt=plistlib.FMT_BINARY)
-        with bplist.loads(file) as plist:
+        with bplist.view(file) as plist:
             found = plist.find("/a/1")
             self.assertEqual(file[found.place : found.place + 4], b"\x53two")
             self.assertEqual(plist._value(found.object), "two")
@@ -257,7 +257,7 @@ class Finding(unittest.TestCase):
 
     def test_places(self):
         """Each object of a file with wide offsets stands where the offset table says."""
-        value = bplist.loads(chain(300, b"\x09")).value
+        value = bplist.view(chain(300, b"\x09")).value
         for depth in range(300):
             self.assertEqual(value._plist.find("/0" * depth), (depth, 8 + 5 * depth))
 

@@ -18,7 +18,7 @@ LARGE = """
     import plistlib, sys, threading, time
     import bplist
     FILE = plistlib.dumps([[[i] for i in range(500)] for _ in range(200)], fmt=plistlib.FMT_BINARY)
-    plist = bplist.loads(FILE)
+    plist = bplist.view(FILE)
     SIZE = 1 + 200 + 2 * 200 * 500
 """
 
@@ -28,7 +28,7 @@ def value_of(spelled):
     table = 8 + len(spelled)
     size = max(1, (table.bit_length() + 7) // 8)
     trailer = bytes(6) + bytes([size, 1]) + (1).to_bytes(8, "big") + bytes(8) + table.to_bytes(8, "big")
-    return bplist.loads(b"bplist00" + spelled + (8).to_bytes(size, "big") + trailer).value
+    return bplist.view(b"bplist00" + spelled + (8).to_bytes(size, "big") + trailer).value
 
 
 class Child(unittest.TestCase):
@@ -167,7 +167,7 @@ class Threads(Child):
                 certificates.append(plist.certificate)
 
         for _ in range(20):
-            plist, certificates, done = bplist.loads(file), [], []
+            plist, certificates, done = bplist.view(file), [], []
             thread = threading.Thread(target=read)
             thread.start()
             for key in keys[:40]:
@@ -176,7 +176,7 @@ class Threads(Child):
             thread.join()
             self.assertTrue(plist.certificate.startswith(b"bplcert2"))
             for certificate in {*certificates}:
-                self.assertTrue(bplist.loads(file, certificate=certificate).value[keys[-1]])
+                self.assertTrue(bplist.view(file, certificate=certificate).value[keys[-1]])
 
 
 class Cleared(Child):
@@ -187,7 +187,7 @@ class Cleared(Child):
             import bplist
             tree = {"a": [1], "d": datetime.datetime(2020, 2, 29), "u": plistlib.UID(7)}
             file = plistlib.dumps(tree, fmt=plistlib.FMT_BINARY)
-            plist = bplist.loads(file)
+            plist = bplist.view(file)
             value = plist.value
             definition = ctypes.pythonapi.PyModule_GetDef
             definition.restype, definition.argtypes = ctypes.c_void_p, [ctypes.py_object]
@@ -196,7 +196,7 @@ class Cleared(Child):
             clear = ctypes.c_void_p.from_address(definition(module) + 11 * 8).value
             ctypes.PYFUNCTYPE(ctypes.c_int, ctypes.py_object)(clear)(module)
             calls = [lambda path=path: plist.at(path) for path in ("", "/a", "/d", "/u")]
-            calls += [plist.plain, lambda: iter(value), lambda: value["a"], lambda: bplist.loads(file)]
+            calls += [plist.plain, lambda: iter(value), lambda: value["a"], lambda: bplist.view(file)]
             calls += [lambda: bplist.open(sys.executable, map=True)]
             for number, call in enumerate(calls):
                 try:
@@ -220,7 +220,7 @@ class Import(Child):
                     import bplist
             except TypeError:
                 import bplist
-            assert bplist.loads(file).value == moment
+            assert bplist.view(file).value == moment
         """)
 
     def test_free_threaded(self):
@@ -244,8 +244,8 @@ class Arguments(unittest.TestCase):
                 return b"bplist00"
 
         for given in (50, 10**9, [98, 112], "text", None, 1.5, pathlib.Path("/"), Making()):
-            for call in (bplist.loads, bplist.lint_bytes, lambda given: bplist.loads(b"", certificate=given)):
-                if given is None and call not in (bplist.loads, bplist.lint_bytes):
+            for call in (bplist.view, bplist.lint_bytes, lambda given: bplist.view(b"", certificate=given)):
+                if given is None and call not in (bplist.view, bplist.lint_bytes):
                     continue
                 with self.assertRaises(TypeError, msg=repr(given)):
                     call(given)
@@ -259,9 +259,9 @@ class Arguments(unittest.TestCase):
             pass
 
         for given in (bytearray(file), memoryview(file), memoryview(spread)[::2], Kept(file)):
-            self.assertEqual(bplist.loads(given).value[0], "x")
+            self.assertEqual(bplist.view(given).value[0], "x")
         given = Kept(file)
-        given.plist = bplist.loads(given)
+        given.plist = bplist.view(given)
         gone = weakref.ref(given.plist)
         del given
         gc.collect()
@@ -277,7 +277,7 @@ class Collector(unittest.TestCase):
             pass
 
         for path in (lambda t: t, lambda t: t["a"], lambda t: t["a"][0], lambda t: t["a"][1], lambda t: t["a"][1]["b"]):
-            tree = bplist.to_python(file)
+            tree = bplist.loads(file)
             self.assertTrue(gc.is_tracked(tree) and gc.is_tracked(tree["a"]) and gc.is_tracked(tree["a"][0]))
             mark = Mark()
             gone, held = weakref.ref(mark), path(tree)
@@ -290,7 +290,7 @@ class Collector(unittest.TestCase):
             self.assertIsNone(gone())
 
     def test_uid_is_known(self):
-        tree = bplist.to_python(plistlib.dumps([plistlib.UID(1)], fmt=plistlib.FMT_BINARY))
+        tree = bplist.loads(plistlib.dumps([plistlib.UID(1)], fmt=plistlib.FMT_BINARY))
         self.assertEqual(gc.is_tracked(tree[0]), gc.is_tracked(plistlib.UID(1)))
 
     def test_often(self):
@@ -310,7 +310,7 @@ class Collector(unittest.TestCase):
         self.addCleanup(gc.set_threshold, *gc.get_threshold())
         gc.set_threshold(2)
         for count in range(60):
-            plist = bplist.loads(file)
+            plist = bplist.view(file)
             Reading()
             try:
                 self.assertEqual(plist.plain(), tree)

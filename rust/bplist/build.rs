@@ -5,7 +5,7 @@ use std::path::{Path, PathBuf};
 use std::process::{self, Command};
 
 /// The oldest version of the library that has all calls of `src/ffi.rs`.
-const LEAST: &str = "0.4.0";
+const LEAST: &str = "0.5.0";
 
 /// Returns the directory in which `make install` put the library.
 fn installed() -> Result<PathBuf, String> {

@@ -95,6 +95,13 @@ def preference_paths(users):
     return [f"/user{user:04}/com.example.app{domain:04}/{rest}" for user, domain, rest in places]
 
 
+def keys_in_no_order(count):
+    """So many keys, in the order of a hash table."""
+    keys = list(range(count))
+    random.Random(1).shuffle(keys)
+    return {f"key{i:06}": i for i in keys}
+
+
 # Of each file what makes its value, and the paths of the three values.
 FILES = {
     "preferences, 1 MB": (lambda: preferences(22), preference_paths(22)),
@@ -103,6 +110,8 @@ FILES = {
         lambda: {f"key{i:06}": i for i in range(100_000)},
         ["/key000010", "/key050000", "/key099990"],
     ),
+    "100,000 keys in no order": (lambda: keys_in_no_order(100_000), ["/key000010", "/key050000", "/key099990"]),
+    "1,000,000 keys in no order": (lambda: keys_in_no_order(1_000_000), ["/key000010", "/key500000", "/key999990"]),
     "1,000,000 integers": (lambda: list(range(1_000_000)), ["/10", "/500000", "/999990"]),
     "archive, 31 kB": (lambda: archive(390), ["/$version", "/$objects/5/NSFrame", "/$objects/300/NSvFlags"]),
 }

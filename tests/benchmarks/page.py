@@ -37,6 +37,8 @@ MOST, MOST_OF_OTHERS = 20, 10  # seconds of processor time after which a run is 
 FEW_ROUNDS = 2  # on a hostile file
 LONG = 2  # seconds of processor time of a run there, or for many values, that is not repeated
 KEYS = 1000
+# Of a file with so many keys; the second and the third have theirs in no order.
+KEY_FILES = {"100,000 keys": 100_000, "100,000 keys in no order": 100_000, "1,000,000 keys in no order": 1_000_000}
 HOSTILE = 16 << 20
 FAMILIES = [family.__name__ for family in (*families.FAMILIES, *families.REFUSED_PAIRS)]
 WORST = 3
@@ -65,7 +67,8 @@ writes all of them. libplist, the Rust crate plist and Python's plistlib build t
 
 ## Many values of one file
 
-{many} random keys of the file of 100,000 keys, in one call:
+{many} random keys of a file, in one call. In the files of 100,000 and 1,000,000 keys in no order they lie as a hash table
+has them, as most programs write them:
 
 {keys}
 
@@ -188,16 +191,17 @@ class Bench:
             sys.exit(f"{name}: {rows}")
         return rows, libraries
 
-    def time_keys(self):
-        """The rows of 1,000 keys."""
-        path = self.file("100,000 keys")
-        paths = [f"/key{key:06}" for key in random.Random(1).sample(range(100_000), KEYS)]
+    def time_keys(self, name):
+        """The rows of 1,000 keys of a file."""
+        path = self.file(name)
+        paths = [f"/key{key:06}" for key in random.Random(1).sample(range(KEY_FILES[name]), KEYS)]
         rows = {
             "`cat`, to compare": Run(["cat", path]),
             SORTED: Run([self.program, "get", path, path + ".2", *paths]),
             SHOW: Run([self.program, "show", path, *paths]),
-            "`get`, certificate made without `--sorted`": Run([self.program, "get", path, path + ".1", *paths]),
         }
+        if name == "100,000 keys":
+            rows["`get`, certificate made without `--sorted`"] = Run([self.program, "get", path, path + ".1", *paths])
         for _ in range(self.rounds):
             for row in rows.values():
                 if not LONG < row.processor < math.inf:
@@ -273,6 +277,13 @@ def slowest(timed):
         held = [name for name in timed if call in timed[name]]
         found |= set(sorted(held, key=lambda name: -timed[name][call].processor)[:WORST])
     return [name for name in timed if name in found]
+
+
+def keys_table(timed):
+    """A column for each file. A call that would take long for the greatest is not timed there."""
+    calls = list(next(iter(timed.values())))
+    rows = [[call, *(rows[call].cell() if call in rows else NO for rows in timed.values())] for call in calls]
+    return table(["call", *timed], rows)
 
 
 def hostile_table(timed):
@@ -355,8 +366,10 @@ def main():
         for name in bench_library.FILES:
             print(f"timing {name}", flush=True)
             timed[name] = own.time_file(name)
-        print(f"timing {KEYS} keys", flush=True)
-        keys, hostile = own.time_keys(), {}
+        keys, hostile = {}, {}
+        for name in KEY_FILES:
+            print(f"timing {KEYS} of {name}", flush=True)
+            keys[name] = own.time_keys(name)
         for family in FAMILIES[::8] if given.quick else FAMILIES:
             print(f"timing {family}", flush=True)
             hostile[family] = own.time_family(family, size)
@@ -366,12 +379,12 @@ def main():
         machine=machine(), kit=told("rt", "version"), commit=told("git", "describe", "--always", "--dirty", "--exclude=*"),
         date=datetime.date.today(), rounds=own.rounds, short=own.rounds_of(0),
         bytes=bench_library.SHORT // 1_000_000, few=FEW_ROUNDS, long=LONG, picture="speed.svg", files=files_table(timed), many=f"{KEYS:,}",
-        keys=table(["call", "ms (MiB)"], [[name, row.cell()] for name, row in keys.items()]), hostile=size >> 20,
+        keys=keys_table(keys), hostile=size >> 20,
         families=len(hostile), most=MOST, others=MOST_OF_OTHERS, slow=hostile_table(worst), libraries=libraries_table(timed), builds=held,
         builder=builder)
     (ROOT / "docs/BENCHMARKS.md").write_text(page)
     (ROOT / "docs/speed.svg").write_text(speed_picture(timed))
-    write_readme(timed, keys)
+    write_readme(timed, keys["100,000 keys"])
 
 
 if __name__ == "__main__":

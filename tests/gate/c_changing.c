@@ -83,7 +83,9 @@ static void held(bplist_status status, uint64_t count, const void *buffer, size_
     const uint8_t *behind = (const uint8_t *)buffer + ROOM * size;
 
     calls++;
-    expect(status <= BPLIST_NO_STATUS, "no such status");
+    /* Nothing refuses memory here, and a program may repeat a call to which it was refused. */
+    expect(status != BPLIST_MEMORY, "memory was refused");
+    expect(status <= BPLIST_UNPAIRED, "no such status");
     expect(status != BPLIST_OK || count <= ROOM, "more than the room");
     for (size_t i = 0; i < GUARD; i++)
         expect(behind[i] == MARK, "written behind the buffer");
@@ -127,6 +129,7 @@ static void read_object(bplist_handle *handle, const struct map *map, uint32_t o
     uint16_t units[ROOM + GUARD];
     bplist_body body = {0};
     bplist_integer number;
+    bplist_bits bits;
     uint64_t count = 0;
     uint32_t found;
     bplist_status status = bplist_face(handle, map->file, map->length, object, &body);
@@ -138,6 +141,11 @@ static void read_object(bplist_handle *handle, const struct map *map, uint32_t o
     held(status, count, bytes, 1);
     status = bplist_units(handle, map->file, map->length, object, 0, units, ROOM, &count);
     held(status, count, units, sizeof *units);
+    memset(bytes, MARK, sizeof bytes);
+    status = bplist_utf8(handle, map->file, map->length, object, (char *)bytes, ROOM, &count);
+    held(status, count, bytes, 1);
+    held(bplist_number(handle, map->file, map->length, object, &bits), 0, bytes, 1);
+    held(bplist_find_utf8(handle, map->file, map->length, object, "k1", 2, &found), 0, bytes, 1);
     held(bplist_int(handle, map->file, map->length, object, &number), 0, bytes, 1);
     held(bplist_uid(handle, map->file, map->length, object, &found), 0, bytes, 1);
     held(bplist_member(handle, map->file, map->length, object, 1, &found), 0, bytes, 1);
@@ -168,7 +176,7 @@ static void use(bplist_handle *handle, const struct map *map, uint32_t objects)
 
     for (size_t i = 0; i < sizeof paths / sizeof *paths; i++) {
         calls++;
-        expect(bplist_find(handle, map->file, map->length, paths[i], strlen(paths[i]), &found) <= BPLIST_NO_STATUS,
+        expect(bplist_find(handle, map->file, map->length, paths[i], strlen(paths[i]), &found) <= BPLIST_UNPAIRED,
                "no such status");
     }
     for (uint32_t object = 0; object < objects + 2 && object < MOST_OBJECTS; object++)
@@ -180,7 +188,7 @@ static void use(bplist_handle *handle, const struct map *map, uint32_t objects)
 static void verdict_held(bplist_status status, const bplist_verdict *verdict)
 {
     calls++;
-    expect(status == BPLIST_OK || status == BPLIST_FAULT || status == BPLIST_OTHER_FILE || status == BPLIST_MEMORY,
+    expect(status == BPLIST_OK || status == BPLIST_FAULT || status == BPLIST_OTHER_FILE,
            "another status of a file");
     if (status == BPLIST_FAULT)
         expect(verdict->rule >= 1 && verdict->rule <= 32, "no such rule");

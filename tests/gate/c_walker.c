@@ -140,6 +140,66 @@ static void see_text(bplist_handle *handle, struct file file, uint32_t object, c
     HOLDS(count == 0);
 }
 
+/* Encodes units as UTF-8, at most three bytes for each. Returns the number of bytes, or UINT64_MAX if a half of a
+   surrogate pair stands alone. */
+static uint64_t encoded(const uint16_t *units, uint64_t count, uint8_t *out)
+{
+    uint64_t length = 0;
+
+    for (uint64_t i = 0; i < count; i++) {
+        uint32_t point = units[i];
+        int more = point < 0x80 ? 0 : point < 0x800 ? 1 : 2;
+
+        if (point >> 11 == 0xd800 >> 11) {
+            if (point >> 10 != 0xd800 >> 10 || i + 1 == count || units[i + 1] >> 10 != 0xdc00 >> 10)
+                return UINT64_MAX;
+            point = 0x10000 + ((point & 0x3ff) << 10 | (units[++i] & 0x3ff));
+            more = 3;
+        }
+        out[length++] = (uint8_t)(more == 0 ? point : (0xff00u >> (more + 1) & 0xff) | point >> 6 * more);
+        while (more-- > 0)
+            out[length++] = (uint8_t)(0x80 | (point >> 6 * more & 0x3f));
+    }
+    return length;
+}
+
+/* Room for so many bytes: `few`, which has 256, or a block of memory. */
+static void *room_for(void *few, size_t length)
+{
+    return length < 256 ? few : taken(length);
+}
+
+/* The UTF-8 of a text, with room for it and without. Short texts take no memory, since each growth is refused once. */
+static void see_utf8(bplist_handle *handle, struct file file, uint32_t object, const bplist_body *body)
+{
+    uint16_t few_units[128];
+    uint8_t few_wanted[256];
+    char few_text[256];
+    uint16_t *units = room_for(few_units, body->count * sizeof *units);
+    uint8_t *wanted = room_for(few_wanted, 3 * body->count);
+    char *text = room_for(few_text, 3 * body->count);
+    uint64_t length, count = 7;
+    bplist_status status;
+
+    HOLDS(bplist_units(handle, file.bytes, file.length, object, 0, units, body->count, &count) == BPLIST_OK);
+    length = encoded(units, body->count, wanted);
+    ASK(status, bplist_utf8(handle, file.bytes, file.length, object, NULL, 0, &count));
+    if (length == UINT64_MAX) {
+        HOLDS(status == BPLIST_UNPAIRED && count == body->count);
+    } else {
+        HOLDS(status == (length == 0 ? BPLIST_OK : BPLIST_SHORT) && count == length);
+        text[length] = '!';
+        ASK(status, bplist_utf8(handle, file.bytes, file.length, object, text, length, &count));
+        HOLDS(status == BPLIST_OK && count == length && memcmp(text, wanted, length) == 0 && text[length] == '!');
+    }
+    if (units != few_units)
+        free(units);
+    if (wanted != few_wanted)
+        free(wanted);
+    if (text != few_text)
+        free(text);
+}
+
 /* The bytes of the body, by parts of 16: the first of them and the last. */
 static void see_body(bplist_handle *handle, struct file file, uint32_t object, const bplist_body *body)
 {
@@ -233,6 +293,21 @@ static void see_int(bplist_handle *handle, struct file file, uint32_t object, co
     HOLDS(found.low == expected.low && found.high == expected.high);
 }
 
+/* The bits of a real or a date by the bytes of its body. */
+static void see_number(bplist_handle *handle, struct file file, uint32_t object, const bplist_body *body)
+{
+    bool is_number = body->kind == BPLIST_REAL || body->kind == BPLIST_DATE;
+    bplist_bits number = {1, 2};
+    uint64_t bits = 0;
+
+    for (uint64_t i = 0; i < body->length && is_number; i++)
+        bits = bits << 8 | file.bytes[body->place + i];
+    if (bplist_number(handle, file.bytes, file.length, object, &number) == BPLIST_OK)
+        HOLDS(is_number && number.bits == bits && number.length == body->length && (bits >> 32 == 0 || body->length == 8));
+    else
+        HOLDS(!is_number && number.bits == 1 && number.length == 2);
+}
+
 static void see_size(bplist_handle *handle, struct file file, uint32_t object)
 {
     bplist_sizes sizes;
@@ -260,12 +335,14 @@ static void see_size(bplist_handle *handle, struct file file, uint32_t object)
     free(text);
 }
 
-/* One step by the units of each text key leads to its value. */
+/* One step by the units of each text key leads to its value, and so does one by its UTF-8 if it has any. */
 static void see_keys(bplist_handle *handle, struct file file, uint32_t object, uint64_t pairs)
 {
     uint16_t units[64];
+    char utf8[3 * 64];
     uint64_t count;
     uint32_t key, value, found;
+    bplist_status status;
 
     for (uint64_t i = 0; i < pairs && i < 16; i++) {
         HOLDS(bplist_member(handle, file.bytes, file.length, object, 2 * i, &key) == BPLIST_OK);
@@ -275,6 +352,13 @@ static void see_keys(bplist_handle *handle, struct file file, uint32_t object, u
             continue;
         HOLDS(bplist_find_key(handle, file.bytes, file.length, object, units, count, &found) == BPLIST_OK);
         HOLDS(found == value);
+        ASK(status, bplist_utf8(handle, file.bytes, file.length, key, utf8, sizeof utf8, &count));
+        if (status == BPLIST_UNPAIRED)
+            continue;
+        HOLDS(status == BPLIST_OK);
+        found = ~value;
+        ASK(status, bplist_find_utf8(handle, file.bytes, file.length, object, utf8, count, &found));
+        HOLDS(status == BPLIST_OK && found == value);
     }
 }
 
@@ -286,6 +370,7 @@ static void walk(bplist_handle *handle, struct file file, uint32_t object, uint6
     uint16_t unit;
     uint64_t count;
     uint64_t members;
+    char letter;
 
     if (++*nodes > MOST_NODES)
         return;
@@ -303,10 +388,14 @@ static void walk(bplist_handle *handle, struct file file, uint32_t object, uint6
         HOLDS(bplist_int(handle, file.bytes, file.length, object, &number) == BPLIST_OTHER_KIND);
     HOLDS(bplist_uid(handle, file.bytes, file.length, object, &uid)
           == (body.kind == BPLIST_UID ? BPLIST_OK : BPLIST_OTHER_KIND));
-    if (body.kind == BPLIST_ASCII || body.kind == BPLIST_WIDE)
+    see_number(handle, file, object, &body);
+    if (body.kind == BPLIST_ASCII || body.kind == BPLIST_WIDE) {
         see_text(handle, file, object, &body);
-    else
+        see_utf8(handle, file, object, &body);
+    } else {
         HOLDS(bplist_units(handle, file.bytes, file.length, object, 0, &unit, 1, &count) == BPLIST_OTHER_KIND);
+        HOLDS(bplist_utf8(handle, file.bytes, file.length, object, &letter, 1, &count) == BPLIST_OTHER_KIND);
+    }
     if (body.kind == BPLIST_DICT)
         see_keys(handle, file, object, body.count);
     for (uint64_t i = 0; i < members && *nodes <= MOST_NODES; i++) {
@@ -324,6 +413,8 @@ static void see_refusals(bplist_handle *handle, struct file file, const bplist_v
     uint32_t object = 7;
     uint64_t count = 9;
     uint8_t byte = 11;
+    bplist_bits bits = {3, 5};
+    char text[1];
     bplist_status status;
 
     ASK(status, bplist_open(handle, file.bytes, file.length, false, &again));
@@ -342,6 +433,14 @@ static void see_refusals(bplist_handle *handle, struct file file, const bplist_v
     HOLDS(object == 7 && count == 9 && byte == 11);
     HOLDS(bplist_size(handle, file.bytes, file.length, UINT32_MAX, &sizes) == BPLIST_NO_OBJECT);
     HOLDS(bplist_find_key(handle, file.bytes, file.length, UINT32_MAX, (const uint16_t[]){0}, 1, &object) == BPLIST_NO_OBJECT);
+    ASK(status, bplist_find_utf8(handle, file.bytes, file.length, UINT32_MAX, "k", 1, &object));
+    HOLDS(status == BPLIST_NO_OBJECT);
+    ASK(status, bplist_find_utf8(handle, file.bytes, file.length, verdict->top, "k\xff", 2, &object));
+    HOLDS(status == BPLIST_NOT_UTF8);
+    ASK(status, bplist_find_utf8(handle, file.bytes, file.length, verdict->top, "no such key", 11, &object));
+    HOLDS((status == BPLIST_NO_KEY || status == BPLIST_NO_INDEX || status == BPLIST_NOT_STEPPABLE) && object == 7);
+    HOLDS(bplist_number(handle, file.bytes, file.length, UINT32_MAX, &bits) == BPLIST_NO_OBJECT && bits.length == 5);
+    HOLDS(bplist_utf8(handle, file.bytes, file.length, UINT32_MAX, text, 1, &count) == BPLIST_NO_OBJECT && count == 9);
     ASK(status, bplist_find(handle, file.bytes, file.length, "x", 1, &found));
     HOLDS(status == BPLIST_PATH_TEXT && found.step == 0);
     ASK(status, bplist_find(handle, file.bytes, file.length, "/~2", 3, &found));
@@ -379,6 +478,8 @@ static void see_nulls(bplist_handle *handle, struct file file, const bplist_verd
     ASK(status, bplist_find(handle, bytes, length, NULL, 0, &found));
     HOLDS(status == BPLIST_OK && found.object == top->top);
     status = bplist_find_key(handle, bytes, length, top->top, NULL, 0, &object);
+    HOLDS(status == BPLIST_OK || (status >= BPLIST_NO_KEY && status <= BPLIST_NOT_STEPPABLE));
+    ASK(status, bplist_find_utf8(handle, bytes, length, top->top, NULL, 0, &object));
     HOLDS(status == BPLIST_OK || (status >= BPLIST_NO_KEY && status <= BPLIST_NOT_STEPPABLE));
     HOLDS(bplist_faces(handle, bytes, length, NULL, 0, NULL, 0, &count) == BPLIST_OK && count == 0);
     HOLDS(bplist_members(handle, bytes, length, top->top, 0, NULL, 0, &count) == BPLIST_OK && count == 0);
@@ -418,6 +519,8 @@ static void see_closed(bplist_handle *handle, struct file file)
     HOLDS(bplist_members(handle, file.bytes, file.length, 0, 0, &object, 1, &count) == BPLIST_CLOSED);
     HOLDS(bplist_read(handle, file.bytes, file.length, 0, 0, &byte, 1, &count) == BPLIST_CLOSED);
     HOLDS(bplist_certificate(handle, &byte, 1, &count) == BPLIST_CLOSED && count == 5);
+    HOLDS(bplist_find_utf8(handle, file.bytes, file.length, 0, "k", 1, &object) == BPLIST_CLOSED);
+    HOLDS(bplist_utf8(handle, file.bytes, file.length, 0, (char *)&byte, 1, &count) == BPLIST_CLOSED);
 }
 
 /* Opens the file by the certificate of the handle, and sees the same. */
@@ -508,13 +611,13 @@ static void see_words(void)
     HOLDS(bplist_rule_name(33, name, sizeof name, &count) == BPLIST_NO_RULE);
     HOLDS(bplist_rule_text(0, text, sizeof text, &count) == BPLIST_NO_RULE);
     HOLDS(bplist_rule_text(33, text, sizeof text, &count) == BPLIST_NO_RULE);
-    HOLDS(bplist_status_text(18, text, sizeof text, &count) == BPLIST_NO_STATUS);
+    HOLDS(bplist_status_text(BPLIST_UNPAIRED + 1, text, sizeof text, &count) == BPLIST_NO_STATUS);
     HOLDS(bplist_status_text(UINT32_MAX, text, sizeof text, &count) == BPLIST_NO_STATUS && count == 3);
     for (uint32_t rule = 1; rule <= 32; rule++) {
         HOLDS(bplist_rule_text(rule, text, 200, &count) == BPLIST_OK && count >= 2);
         HOLDS(text[count - 1] == '.');
     }
-    for (bplist_status status = BPLIST_OK; status <= BPLIST_NO_STATUS; status++) {
+    for (bplist_status status = BPLIST_OK; status <= BPLIST_UNPAIRED; status++) {
         HOLDS(bplist_status_text(status, text, 200, &count) == BPLIST_OK && count >= 2);
         HOLDS(text[count - 1] == '.');
     }

@@ -3,11 +3,13 @@
 
 Tests what no row of a table can say of the program beside other programs: on a terminal a fault has lines below it; a
 reader that goes away ends a run without a word; `certify` opens no pipe to see what it holds, and says of a certificate
-that it is too long; lists of names go from one run to the next, whatever the names are; and git shows binary, XML,
+that it is too long; lists of names go from one run to the next, whatever the names are, and a name that is not UTF-8 is answered for itself;
+OUT is never a standard descriptor; `textconv` bounds its bytes; and git shows binary, XML,
 broken and empty property lists by `textconv`. The last line is `N passed, M failed`, with a number of skipped tests if git
 is missing.
 """
 import argparse
+import json
 import os
 import pathlib
 import plistlib
@@ -16,10 +18,12 @@ import subprocess
 import sys
 import tempfile
 import threading
+import time
 
 sys.path.insert(0, str(pathlib.Path(__file__).resolve().parents[1]))
 
 from helpers.harness import closing, lacks, on_terminal  # noqa: E402
+from helpers.spelled import array, in_turn, text  # noqa: E402
 
 SOUND = bytes.fromhex("62706c697374303009080000000000000101000000000000000100000000000000000000000000000009")
 TWICE = bytes.fromhex(
@@ -73,6 +77,7 @@ def pipe_tests(program, top):
     folder.mkdir()
     for k in range(20_000):
         (folder / f"{k}.plist").write_bytes(SOUND)
+        os.utime(folder / f"{k}.plist", ns=(0, time.time_ns()))
     lint = ("lint", "-r", "--summary", folder)
     for words in (("ls", "-R", large), ("ls", large), ("map", large), lint, ("textconv", large)):
         ran = subprocess.Popen([program, *words], stdout=subprocess.PIPE, stderr=subprocess.PIPE)
@@ -80,6 +85,10 @@ def pipe_tests(program, top):
         ran.stdout.close()
         said = ran.stderr.read()
         yield f"a reader goes away: {words[0]}", (said, ran.wait(timeout=300)), (b"", 3)
+    # A pipe holds some 1,000 lines. The system notes when a file is read.
+    (folder / "0.plist").read_bytes()
+    noted = [file.stat().st_atime_ns != 0 for file in folder.iterdir()]
+    yield "a reader goes away: files read", 1 <= sum(noted) < 5_000, True
 
 
 def certify_tests(program, top):
@@ -138,6 +147,38 @@ def list_tests(program, top):
     yield "lint -rl: one line a file", lines.count(b"\n"), len(names)
 
 
+def word_tests(program, top):
+    """Names that are not UTF-8, and descriptors that are closed."""
+    (top / "sound").write_bytes(SOUND)
+    (top / "twice").write_bytes(TWICE)
+    ran = run(program, "lint", b"a\xff", "sound", "twice", cwd=top)
+    yield "lint of three names", (ran.stdout, ran.stderr, ran.returncode), (
+        b"sound: ok reached 1 height 1 top true\n", b"a\\xff: read Open\ntwice: %s\n" % FAULT.encode(), 3
+    )
+    ran = run(program, "lint", "--json", b"a\xff", cwd=top)
+    yield "lint --json", (json.loads(ran.stdout), ran.returncode), (
+        {"file": "a\ufffd", "file_hex": "61ff", "ok": False, "error": "read Open", "cause": "its name is not UTF-8"}, 3
+    )
+    ran = run(program, "show", b"a\xff", cwd=top)
+    yield "show", (ran.stderr, ran.returncode), (b"an argument is not UTF-8: a\\xff\n", 2)
+    for closed in ("<&-", ">&-", "2>&-", "<&- >&- 2>&-"):
+        ran = run("sh", "-c", f'"$1" certify sound out {closed}', "sh", program, cwd=top)
+        yield f"certify {closed}", ((top / "out").read_bytes()[:8], ran.returncode), (b"bplcert1", 0)
+        (top / "out").unlink()
+    ran = run("sh", "-c", '"$1" certify twice out >&- 2>&-', "sh", program, cwd=top)
+    yield "certify of a file that is not sound", ((top / "out").exists(), ran.returncode), (False, 1)
+
+
+def textconv_tests(program, top):
+    """The lines of a file of 4 kB would have 4 MB, and `textconv` writes 1 MiB of them."""
+    (top / "same").write_bytes(in_turn([array([1] * 2000, 1), text(b"t" * 2000)], 1))
+    ran = run(program, "textconv", "same", cwd=top)
+    shown, _, last = ran.stdout.rstrip(b"\n").rpartition(b"\n")
+    yield "textconv", (len(shown), last, ran.returncode), (1 << 20, b"more than 1048576 bytes", 0)
+    ran = run(program, "textconv", "-H", "same", cwd=top)
+    yield "textconv -H", ran.stdout.splitlines()[-1], b"same: more than 1048576 bytes"
+
+
 FILES = {"binary.plist": 0, "xml.plist": 1, "broken.plist": 2, "empty.plist": 3}
 
 
@@ -191,7 +232,7 @@ def main():
     parser.add_argument("program", type=os.path.abspath)
     program = parser.parse_args().program
     passed = failed = skipped = 0
-    for tests in (terminal_tests, pipe_tests, certify_tests, list_tests, git_tests):
+    for tests in (terminal_tests, pipe_tests, certify_tests, list_tests, word_tests, textconv_tests, git_tests):
         with tempfile.TemporaryDirectory(prefix="bplint") as name:
             for what, got, wanted in tests(program, pathlib.Path(name)):
                 if got is None and wanted is None:

@@ -4,6 +4,7 @@
 Tests what no table can show of `lint --recursive`. Only the names of the files take memory for each file: N files, 2,000
 unless given, in one folder and in folders of 100. A file or folder that may not be read has a line, and does not end the run.
 The line of counts is written without being asked for if standard error is a terminal. A name of any bytes takes one line.
+A file with a hole of terabytes keeps nothing reading.
 The last line is `N passed, M failed`.
 """
 import argparse
@@ -118,8 +119,38 @@ def name_tests(program, top):
     yield "names", sorted(lines), wanted
 
 
+def direction_tests(program, top):
+    """A name with controls of direction and separators of lines is shown in its order, and on one line."""
+    folder = top / "directions"
+    folder.mkdir()
+    (folder / "a\u202egnp\u2028.plist").write_bytes(SOUND)
+    wanted = f"{folder}/a\\U202egnp\\U2028.plist: ok reached 1 height 1 top true\n".encode()
+    yield "direction", lint(program, "-r", folder).stdout, wanted
+
+
 def shown(octet):
     return octet if b" " <= octet <= b"~" else b"\\x%02x" % octet[0]
+
+
+def hole_tests(program, top):
+    """Files that are a hole, of zeros alone or behind a header, take no more reading than the last MiB of each."""
+    folder = top / "holes"
+    folder.mkdir()
+    for name, front, length in (("a.plist", b"", 1 << 43), ("b.plist", b"", 3 << 30), ("c.plist", b"bplist00", 3 << 30)):
+        with open(folder / name, "wb") as file:
+            file.write(front)
+            file.truncate(length)
+
+    def limit():
+        resource.setrlimit(resource.RLIMIT_CPU, (20, 20))
+
+    ran = lint(program, "-r", "--skip-other", ".", cwd=folder, preexec_fn=limit)
+    yield "holes: faults", (ran.returncode, ran.stderr.decode()), (
+        1,
+        f"./a.plist: fault TooLarge object none place {1 << 43}\n"
+        "./b.plist: fault Magic object none place 0\n"
+        f"./c.plist: fault NoObjects object none place {(3 << 30) - 24}\n",
+    )
 
 
 def main():
@@ -135,6 +166,8 @@ def main():
             unreadable_tests(given.program, top),
             terminal_tests(given.program, top),
             name_tests(given.program, top),
+            hole_tests(given.program, top),
+            direction_tests(given.program, top),
         ):
             for what, got, wanted in tests:
                 if got == wanted:

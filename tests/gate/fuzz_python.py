@@ -5,14 +5,17 @@ fuzz_python.py --file FILE
 Builds the Python extension with ASAN and UBSAN, and makes all calls of the package on N files (20,000): those of
 conformance/, of tests/vectors and of other writers, each with some bytes changed. A file may be refused. If it is opened,
 the whole tree equals what a walk by single reads gives, and what plistlib loads if plistlib takes the file too; keys and
-paths lead to the same values, certificates open the file again, damaged ones are refused, and a closed property list says
+paths lead to the same values, containers have the same plain values, certificates open the file again, damaged ones are refused, and a closed property list says
 so. One case in ten maps the file and changes it while it is open: then a call may also raise an exception of the package.
 
 The same seed makes the same cases. What fails is printed with the first 2,000 bytes of its file in hexadecimal; with --file
 the calls are made on a file alone. FOLDER has libbplist.a. The last line is `N passed, M failed`.
 """
 import argparse
+import collections
 import contextlib
+import copy
+import datetime
 import math
 import os
 import pathlib
@@ -35,6 +38,8 @@ LONGEST_SEED = 8000
 # A tree of more nodes is only measured. It is not deeper than a walk can recurse.
 MOST_NODES = 400
 SHOWN = 2000
+# So many containers of a file are made plain by themselves.
+PARTS = 8
 SECONDS = 3000
 FLAGS = "-std=gnu11 -O1 -g -fPIC -shared -fsanitize=address,undefined -fno-sanitize-recover=undefined".split()
 # plistlib reads a count of 16 bytes as one of 1 byte.
@@ -121,6 +126,19 @@ def walked(bplist, value):
     return value
 
 
+def as_loaded(tree):
+    """A tree of OrderedDict, and of dates in UTC, as `loads` gives it without arguments."""
+    if isinstance(tree, dict):
+        expect(type(tree) is collections.OrderedDict, "a dictionary of another type")
+        return {key: as_loaded(member) for key, member in tree.items()}
+    if isinstance(tree, list):
+        return [as_loaded(member) for member in tree]
+    if isinstance(tree, datetime.datetime):
+        expect(tree.tzinfo is datetime.timezone.utc, "a date without a time zone")
+        return tree.replace(tzinfo=None)
+    return tree
+
+
 def by_plistlib(file):
     try:
         return [plistlib.loads(file, fmt=plistlib.FMT_BINARY)]
@@ -141,11 +159,11 @@ class Case:
         data = self.given.choice([bytes, bytearray, memoryview])(self.file)
         verdict = self.bplist.lint_bytes(data)
         try:
-            plist = self.bplist.loads(data, sorted_keys=self.given.random() < 0.3)
+            plist = self.bplist.view(data, sorted_keys=self.given.random() < 0.3)
         except self.bplist.Refused as fault:
-            expect(not verdict and str(fault) == str(verdict.fault), "lint and loads differ")
+            expect(not verdict and str(fault) == str(verdict.fault), "lint and view differ")
             return False
-        expect(verdict, "loads takes what lint refuses")
+        expect(verdict, "view takes what lint refuses")
         with plist:
             self.read(plist)
             container = plist.value
@@ -167,10 +185,32 @@ class Case:
         expect(same(tree, walked(self.bplist, plist.value)), "plain and a walk differ")
         for other in by_plistlib(self.file):
             expect(READ_WRONG in self.file or same(tree, other), "plistlib loads another value")
+        expect(same(tree, self.bplist.loads(self.file)), "loads gives another value")
+        self.see_parts(plist.value)
+        self.see_types(tree)
         self.see_paths(plist, tree)
         self.see_certificate(plist, tree)
         with contextlib.suppress(ValueError, self.bplist.TooLarge):
             plist.text(self.given.choice([0, 5, 10_000]))
+
+    def see_parts(self, value):
+        """The plain values of some containers, one after the other."""
+        left = [value]
+        for _ in range(PARTS):
+            part = left.pop(self.given.randrange(len(left))) if left else None
+            if not isinstance(part, self.bplist.values.Container):
+                continue
+            expect(same(part.plain(), walked(self.bplist, part)), "plain of a part and a walk differ")
+            with contextlib.suppress(self.bplist.TooLarge):
+                size = part.size
+                part.plain(size - self.given.choice([0, 1]))
+                expect(same(part.plain(size), copy.copy(part)), "a copy differs")
+            left.extend(part.values() if isinstance(part, self.bplist.Dict) else part)
+
+    def see_types(self, tree):
+        """The tree with other dictionaries, and with dates that have a time zone."""
+        other = self.bplist.loads(self.file, dict_type=collections.OrderedDict, aware_datetime=True)
+        expect(same(tree, as_loaded(other)), "dict_type or aware_datetime changes the value")
 
     def see_paths(self, plist, tree):
         """A way down by keys and indexes, and by the path of them."""
@@ -189,12 +229,12 @@ class Case:
 
     def see_certificate(self, plist, tree):
         certificate = plist.certificate
-        with self.bplist.loads(self.file, certificate=certificate) as again:
+        with self.bplist.view(self.file, certificate=certificate) as again:
             expect(same(tree, again.plain()), "another value by the certificate")
         damaged = bytearray(certificate)
         damaged[self.given.randrange(len(damaged))] ^= 1 << self.given.randrange(8)
         with contextlib.suppress(self.bplist.Refused):
-            with self.bplist.loads(self.file, certificate=damaged) as again:
+            with self.bplist.view(self.file, certificate=damaged) as again:
                 expect(same(tree, again.plain()), "another value by a damaged certificate")
 
     def see_closed(self, plist, container, iterator):

@@ -53,7 +53,12 @@ CALLS = [call for call in EACH if "FILE" not in call]
 EACH_OF = {
     "keys_of_one_fingerprint": {"check FILE, version 2": 140, "get FILE": 140},
     "keys_of_our_fingerprint": {"check FILE, version 2": 140, "get FILE": 140},
-    "keys_over_keys_vouched": {"check FILE, version 1": 40, "check FILE, version 2": 40},
+    "keys_in_no_order": {"check FILE, version 2": 160, "get FILE": 160},
+    "keys_of_chance": {"check FILE, version 2": 80, "get FILE": 80},
+    "keys_over_keys_vouched": {"check FILE, version 1": 80, "check FILE, version 2": 40},
+    "over_shuffled": {"check FILE, version 1": 160, "check FILE, version 2": 40},
+    "over_halves": {"check FILE, version 1": 160, "check FILE, version 2": 40},
+    "over_falling": {"check FILE, version 1": 160, "check FILE, version 2": 40},
     # At 64 kB the keys are just too short for a rank, so that each pair is compared.
     "pairs_of_keys": {"check-2": 20},
 }
@@ -64,9 +69,17 @@ SIZES = 1 << 16, 1 << 18
 READ_SIZE = 1 << 20  # the windows hold a file of 128 kB whole
 FREE = 4
 
-# By family. What stands here and grows no faster is said, so that it can be taken out.
+# By family. What stands here and grows no faster is said, so that it can be taken out. The comments have seconds, and bytes
+# read for each byte of the file.
+FILE_CALLS = [call for call in EACH if "FILE" in call]
 KNOWN = {
     "keys_over_regions": ["check FILE, version 1", "check FILE, version 2"],
+    "pairs_too_short": ["check-2", "check FILE, version 2", "get FILE"],  # a sound file: 15 s at 16 MB, 3,155 bytes
+    "pivots_in_a_run": ["check FILE, version 1"],  # 10 s at 1 MB, 15,000 bytes, and 20 times as much at 4 MB
+    "descending_run": ["check FILE, version 2"],  # 5 s at 1 MB, 20,000 bytes
+    # Each object is a jump, for which a window or a pane is read: 120 bytes, and at 16 MB 1.7 s in place of 0.1 s.
+    "objects_in_no_order": FILE_CALLS,
+    "scattered_lists": ["check-2", *FILE_CALLS],  # 550 bytes
 }
 
 # Many small dictionaries. If a quick way gave up, each would be read once more.

@@ -2,8 +2,9 @@
 """help.py PROGRAM
 
 Compares what `--help` of PROGRAM and of its subcommands says with the manual page, the completions and docs/RULES.md: the
-subcommands, the flags of each and their letters, and what `explain` says of each rule by its word and its number. The last
-line is `N passed, M failed`. The exit status is 1 if one failed.
+subcommands, the flags of each and their letters, and what `explain` says of each rule by its word and its number. `--hex`
+names the operands that each subcommand has, and a command line that lacks a certificate is told of `show`. The last line is
+`N passed, M failed`. The exit status is 1 if one failed.
 """
 import pathlib
 import re
@@ -14,6 +15,19 @@ ROOT = pathlib.Path(__file__).resolve().parents[2]
 COMMON = {"--help"}
 FLAG = "--[a-z0-9]+(?:-[a-z0-9]+)*"
 LETTER = "-([a-zA-Z0-9])"
+BASES = {
+    "format": "format. The published format asks for it.",
+    "profile": "profile. This project asks for it, and the format does not.",
+}
+HEX = {
+    "FILE holds hexadecimal text": {"lint", "show", "ls", "map"},
+    "FILE and CERT hold hexadecimal text": {"check", "get", "print"},
+    "FILE holds hexadecimal text, and OUT will": {"certify"},
+}
+TIPS = {
+    "get FILE /KEY": "tip: without a certificate: bplint show FILE PATH",
+    "print FILE /KEY 9": "tip: without a certificate: bplint show --text FILE PATH",
+}
 ESCAPES = {r"\-": "-", r"\(aq": "'", r"\e": "\\"}
 
 
@@ -92,16 +106,23 @@ def fish_letters(text):
 
 
 def rules_table():
-    """Number, word, demand and breach of each rule in docs/RULES.md."""
+    """Number, word, demand, breach and basis of each rule in docs/RULES.md."""
     section = (ROOT / "docs/RULES.md").read_text(encoding="utf-8").split("## The rules in plain words")[1].split("\n## ")[0]
     rows = [line.strip("| ").split(" | ") for line in section.split("\n") if re.match(r"\| \d", line)]
-    return [(int(number), word, demand, breach) for number, word, demand, breach in rows]
+    return [(int(number), *cells) for number, *cells in rows]
 
 
 def manual_rules(text):
     section = text.split(".SH RULES")[1].split(".SH EXAMPLES")[0]
     found = re.findall(r"\.TP\n\.B (\d+) (\w+)\n(.*?)(?=\.TP|\Z)", section, re.DOTALL)
     return [(int(number), word, " ".join(demand.split())) for number, word, demand in found]
+
+
+def manual_profile(text):
+    """The numbers of the rules that the manual page calls choices of this project."""
+    listed = re.search(r"^Rules ([\d, and to\n]+) are choices of this project", text, re.MULTILINE)[1]
+    ends = [[int(number) for number in part.split(" to ")] for part in re.split(", | and ", listed)]
+    return {number for first, *last in ends for number in range(first, (last or [first])[0] + 1)}
 
 
 class Tally:
@@ -151,15 +172,26 @@ def compare_flags(tally, program):
 def compare_rules(tally, program):
     table = rules_table()
     tally.compare("numbers in docs/RULES.md", list(range(1, 33)), [number for number, *_ in table])
-    for number, word, demand, breach in table:
-        wanted = f"rule {number} {word}: {demand}\nbroken by: {breach}\n"
+    for number, word, demand, breach, basis in table:
+        wanted = f"rule {number} {word}: {demand}\nbroken by: {breach}\nbasis: {BASES[basis]}\n"
         tally.compare(f"explain {word}", wanted, output(program, "explain", word))
         tally.compare(f"explain {number}", wanted, output(program, "explain", str(number)))
     tally.compare("rules in man/bplint.1", [row[:3] for row in table], manual_rules(manual()))
+    profile = {number for number, *_, basis in table if basis == "profile"}
+    tally.compare("rules of this project in man/bplint.1", profile, manual_profile(manual()))
     words = " ".join(word for _, word, *_ in table)
     for name in ("bplint.bash", "_bplint", "bplint.fish"):
         held = (ROOT / "completions" / name).read_text(encoding="utf-8")
         tally.compare(f"words in {name}", True, words in held)
+
+
+def compare_words(tally, program):
+    for words, verbs in HEX.items():
+        said = {verb for verb in subcommands(program) if re.search(rf"--hex +{words}$", output(program, verb, "--help"), re.M)}
+        tally.compare(f"--hex: {words}", verbs, said)
+    for line, tip in TIPS.items():
+        ran = subprocess.run([program, *line.split()], capture_output=True, text=True, timeout=60, check=False)
+        tally.compare(line, (2, tip), (ran.returncode, ran.stderr.rstrip("\n").split("\n")[-1]))
 
 
 def main():
@@ -167,7 +199,7 @@ def main():
         print(__doc__, file=sys.stderr)
         return 2
     tally = Tally()
-    for compare in (compare_flags, compare_rules):
+    for compare in (compare_flags, compare_rules, compare_words):
         compare(tally, sys.argv[1])
     print(f"{tally.passed} passed, {tally.failed} failed")
     return 1 if tally.failed else 0

@@ -22,12 +22,13 @@ import tempfile
 ROOT = pathlib.Path(__file__).resolve().parents[2]
 sys.path.insert(0, str(ROOT / "tests"))
 
-from helpers.contents import number_at  # noqa: E402
+from helpers.contents import number_at, trailer  # noqa: E402
 from helpers.harness import closing, lacks  # noqa: E402
 
 TRAILER = 32
 # The bytes of a trailer that are zero in nearly every file.
 ZEROS = [*range(5), *range(8, 11), *range(16, 19), *range(24, 27)]
+MEBIBYTE = 1 << 20
 # A run of the program takes so many files.
 BATCH = 400
 LOOK = re.compile(r"^  looks like: (.*)$", re.MULTILINE)
@@ -57,11 +58,9 @@ def cuts(octets):
     """The file without its last bytes: one, the trailer and half of all."""
     for left in len(octets) - 1, len(octets) - TRAILER, len(octets) // 2, 8, 5:
         cut = octets[:left]
-        need = f"{table_bytes(cut)} bytes" if left >= 40 else ""
-        words = f"{MISSING}, by the last 32 bytes the offset table would need {need}" if need else MISSING
         # What has zeros at the places of a trailer's zeros may be one with a wrong number.
-        if not need or any(cut[-TRAILER:][place] for place in ZEROS):
-            yield f"cut at {left}", cut, words
+        if left < 40 or any(cut[-TRAILER:][place] for place in ZEROS):
+            yield f"cut at {left}", cut, MISSING
 
 
 def holes(octets):
@@ -81,9 +80,21 @@ def longer(octets):
         words = f"{plural(len(extra), 'byte')} too many after a trailer at {place}"
         if not octets.endswith(extra):
             yield f"with {len(extra)} more", octets + extra, words
+    # A second trailer, whose offset table ends where it begins: the last of two counts.
+    table = number_at(octets, len(octets) - 8, 8)
+    second = trailer(1, 1, place + TRAILER - table, 0, table)
+    yield "with a second trailer", octets + second + b"\n", f"1 byte too many after a trailer at {place + TRAILER}"
     for zeros in 1, 64, 5000:
         words = f"{plural(zeros, 'zero')} at the end, after a trailer at {place}"
         yield f"with {zeros} zeros", octets + bytes(zeros), words
+
+
+def wider(octets):
+    """The file with bytes between its offset table and its trailer."""
+    place = len(octets) - TRAILER
+    for extra in bytes(1), b"hidden", bytes(1000), b"\xff" * 5000:
+        words = f"{plural(len(extra), 'byte')} between the offset table and the trailer"
+        yield f"with {len(extra)} inside", octets[:place] + extra + octets[place:], words
 
 
 def emptied(octets):
@@ -117,6 +128,18 @@ XML = b'<?xml version="1.0" encoding="UTF-8"?>\n<!DOCTYPE plist PUBLIC "-//Apple
 OTHERS = [
     (b"", "an empty file"),
     (bytes(9000), "zeros alone"),
+    (bytes(MEBIBYTE), "zeros alone"),
+    (bytes(MEBIBYTE + 1), "zeros, in the first 4096 bytes and in the last 1048576"),
+    (bytes(5000) + b"\1" + bytes(MEBIBYTE), "zeros, in the first 4096 bytes and in the last 1048576"),
+    (bytes(5000) + b"\1" + bytes(MEBIBYTE - 1), None),
+    (b"bplist00" + bytes(MEBIBYTE), "1048576 zeros or more at the end"),
+    (b"bplist00" + bytes(MEBIBYTE - 1), "1048575 zeros at the end, and no trailer before"),
+    (b" \t\r\n\v\f", "blanks alone"),
+    ("\r\n ".encode("utf-16"), "blanks alone"),
+    (b" " * 4096, "blanks alone"),
+    (b"NIBArchive\1\0\0\0\t\0\0\0", "a NIBArchive, another form of a nib file"),
+    (b"\4\vstreamtyped\x81\xe8\3\x84\1@", "a typed stream, as NSArchiver writes it"),
+    (b"\4\vtypedstream\x81\3\xe8\x84\1@", "a typed stream, as NSArchiver writes it"),
     (XML, "an XML property list"),
     (b"\xef\xbb\xbf" + XML, "an XML property list"),
     (XML.decode().encode("utf-16"), "an XML property list"),
@@ -136,7 +159,18 @@ OTHERS = [
     ('CFBundleName = "Notizen";\n'.encode("utf-16"), "an old-style text property list"),
     (b"bplist", MISSING),
     (b"bplist00", MISSING),
-    # What has no hint.
+    ("{ \u650a = \u0a0a; }".encode("utf-16-le"), "an old-style text property list, or JSON"),
+    (b"{ a = b; }" + bytes(range(0x80, 0x100)) * 40, "an old-style text property list, or JSON"),
+    # What has no hint. No text has a zero byte, nor a control character that is no blank.
+    (b"{\0", None),
+    *((front + bytes(60), None) for front in (b"{", b"(", b'"', b"//", b"/*", b"<?xml plist", b"[1", b"YnBsaXN0MD")),
+    *((b"{ a = b; }" + bytes([octet]), None) for octet in (*range(9), *range(14, 32), 127)),
+    (b"{ a = b; }" + b" " * 4085 + b"\1", None),
+    (b"{\0\0\0" * 9, None),
+    ("{ a = b; \1 }".encode("utf-16"), None),
+    (b" " * 4097, None),
+    (b"\4\vstreamtype", None),
+    (b"NIBArchiv", None),
     (b"[section]\nname = value\n", None),
     (b"NAME=value\n", None),
     (b"\x89PNG\r\n\x1a\n" + bytes(40), None),
@@ -149,7 +183,7 @@ def damages():
     """Name, bytes and words of each file."""
     for name, octets in sound_files():
         yield name, octets, None
-        for damage in cuts, holes, longer, emptied, changed:
+        for damage in cuts, holes, longer, wider, emptied, changed:
             for what, damaged, words in damage(octets):
                 yield f"{name}, {what}", damaged, words
     for octets, words in OTHERS:

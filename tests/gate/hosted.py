@@ -3,8 +3,9 @@
 
 Tests what other programs read to run bplint.
 
-- .pre-commit-hooks.yaml: its command is run on the files that its pattern picks in a folder. Sound, XML and old-style
-  ones pass without a word. Each broken one has a line with its name, also if it is the only file.
+- .pre-commit-hooks.yaml: its command is run on the files that its pattern picks in a folder. Sound ones and those of
+  other forms pass without a word. Each broken one has a line with its name, also if it is the only file. The pattern
+  has the endings that `lint --recursive` looks at.
 - packaging/problem-matcher.json: its expression finds name, message and word in each line of a fault that `lint` writes
   on the broken files of conformance and on files that cannot be read, and fits no other line.
 
@@ -29,8 +30,23 @@ PASSED_OVER = {
     "Localizable.strings": b'/* A comment. */\n"a" = "b";\n',
     "old.plist": b'{ a = b; c = "d e"; }\n',
     "notes.txt": b"not looked at",
+    "Main.nib": b"NIBArchive\1\0\0\0\t\0\0\0",
+    "old.nib": b"\4\vstreamtyped\x81\xe8\3\x84\1@",
+    "empty.strings": b"",
+    "blank.strings": b"\xff\xfe\r\0\n\0",
+    "page.webloc": plistlib.dumps({"URL": "a"}),
+    "page.webarchive": SOUND,
+    "x.loctable": SOUND,
+    "x.stringsdict": plistlib.dumps({}),
 }
-BROKEN = {"cut.plist": SOUND[:-1], "zeros.nib": bytes(100), "empty.plist": b""}
+BROKEN = {
+    "brace.plist": b"{" + bytes(60),
+    "cut.plist": SOUND[:-1],
+    "cut.webloc": SOUND[:-1],
+    "empty.plist": b"",
+    "flipped.strings": b'"' + SOUND[1:],
+    "zeros.nib": bytes(100),
+}
 
 
 def hooks():
@@ -54,6 +70,12 @@ def run_hook(hook, folder, names):
     return ran.returncode, (ran.stdout + ran.stderr).splitlines()
 
 
+def endings():
+    """The endings of names in bplint/looks.rt."""
+    text = (ROOT / "crates/bplint/src/looks.rt").read_text(encoding="utf-8").split("const ENDINGS")[1].split("];")[0]
+    return sorted(re.findall(r'"\.(\w+)"', text))
+
+
 def write(folder, files):
     for name, octets in files.items():
         pathlib.Path(folder, name).write_bytes(octets)
@@ -65,6 +87,7 @@ def hook_tests(folder):
     (hook,) = hooks()
     yield "keys of the hook", {"id", "name", "entry", "language", "files"} <= set(hook), True
     yield "language", hook["language"], "system"
+    yield "endings", sorted(re.search(r"\((.*)\)", hook["files"])[1].split("|")), endings()
     yield "the hook on files that pass", run_hook(hook, folder, PASSED_OVER), (0, [])
     status, lines = run_hook(hook, folder, PASSED_OVER | BROKEN)
     yield "status of the hook on broken files", status, 1

@@ -46,10 +46,12 @@ def value_of(tree, n, kind):
 
 def row_of(tree, n, name):
     """The line of an object with this name."""
-    path, index, below = name
+    path, index, key, below = name
     row = {"path": path}
     if index is not None:
         row["index"] = index
+    if key is not None:
+        row["key"] = key
     if below:
         row["below"] = below
     kind, count, _, _ = tree.head(n)
@@ -60,23 +62,23 @@ def row_of(tree, n, name):
 
 def members(tree, n, name):
     """The members of an object, each with its name."""
-    path, index, below = name
+    path, index, key, below = name
     head = tree.head(n)
     kind, count = head[:2]
     references = tree.plist.references(head)
     for i in range(count if kind in CONTAINER_KINDS else 0):
         units = tree.units(references[i]) if kind == "dict" else None
         if kind == "set" or (units is not None and not is_utf16(units)):
-            inner = (None, i, "")
+            inner = (None, i, units and text_of(units), "")
         else:
             step = f"/{i}" if kind == "array" else key_step(text_of(units))
-            inner = (None, index, below + step) if path is None else (path + step, None, "")
+            inner = (None, index, key, below + step) if path is None else (path + step, None, None, "")
         yield references[count + i if kind == "dict" else i], inner
 
 
 def wanted_rows(tree):
     """All rows of a file, in the order in which they are written."""
-    stack = [(tree.plist.top, ("", None, ""))]
+    stack = [(tree.plist.top, ("", None, None, ""))]
     while stack:
         n, name = stack.pop()
         yield row_of(tree, n, name)
@@ -113,13 +115,26 @@ def wanted_finding(program, path, octets):
         return {**finding, "reached": int(reached), "height": int(height), "top": top}, status
     circle = [int(word) for word in words[1:]] if words[0] == "circle" else None
     rule = "Circle" if circle else words[1]
-    rule_number, sentence = re.match(r"rule (\d+) \w+: (.*)\n", run(program, "explain", rule)[1].decode()).groups()
-    shown = re.search(rb"\n  path: (.*)\n", run(program, "lint", "--explain", path)[2])
-    path_text = shown and shown[1].decode()
+    explained_rule = r"rule (\d+) \w+: (.*)\nbroken by: .*\nbasis: (\w+)\."
+    rule_number, sentence, basis = re.match(explained_rule, run(program, "explain", rule)[1].decode()).groups()
+    explained = run(program, "lint", "--explain", path)[2].decode()
+    found = (re.search(f"\n  {word}: (.*)\n", explained) for word in ("path", "looks like"))
+    path_text, looks = (place and place[1] for place in found)
     numbers = [circle[0], None] if circle else [None if words[3] == "none" else int(words[3]), int(words[5])]
-    finding |= {"rule": rule, "number": int(rule_number), "object": numbers[0], "place": numbers[1], "sentence": sentence}
-    finding["path"] = {"the top": "", "none": None, "not found, objects overlap": None}.get(path_text, path_text)
-    return finding | ({"circle": circle} if circle else {}), status
+    finding |= {"rule": rule, "number": int(rule_number), "basis": basis}
+    finding |= {"object": numbers[0], "place": numbers[1], "sentence": sentence}
+    finding |= way_of(path_text) | ({"circle": circle} if circle else {}) | ({"looks_like": looks} if looks else {})
+    return finding, status
+
+
+def way_of(path_text):
+    """The fields of the path that --explain writes. If it names a key by its index, JSON has another one."""
+    no_paths = {"none": "unreached", "not found, objects overlap": "overlap", "not found, memory was refused": "memory"}
+    if path_text is None or path_text == "the top":
+        return {"path": path_text and ""}
+    if path_text in no_paths or re.search(r" \.\. and \d+ more steps?$", path_text):
+        return {"path": None, "no_path": no_paths.get(path_text, "long")}
+    return {"path": ...} if "[" in path_text else {"path": path_text}
 
 
 def try_finding(program, path, octets):
@@ -127,6 +142,9 @@ def try_finding(program, path, octets):
     got = run(program, "lint", "--json", path)
     assert (got[0], got[2]) == (status, b""), f"lint --json: status {got[0]}, {got[2]}"
     rows = parsed(got[1])
+    if wanted.get("path", "") is ...:
+        wanted |= {"path": rows[0]["path"]}
+        rows[0] = {field: value for field, value in rows[0].items() if field not in ("index", "below")}
     assert is_same([wanted], rows), f"lint --json: {difference([wanted], rows)}"
 
 
@@ -184,7 +202,7 @@ def try_rows(program, path, octets):
     for name, row in zip(names, rows, strict=True):
         shown = name_in_ls(row)
         assert name == shown or UNSHOWN.search(shown), f"ls -R: {name!r} in place of {shown!r}"
-    below = [row_of(tree, n, name) for n, name in members(tree, tree.plist.top, ("", None, ""))]
+    below = [row_of(tree, n, name) for n, name in members(tree, tree.plist.top, ("", None, None, ""))]
     inside = wanted[:1] if wanted[0]["kind"] not in CONTAINER_KINDS else below
     got = run(program, "ls", "--json", path)
     assert (got[0], got[2]) == (0, b"") and is_same(inside, parsed(got[1])), f"ls --json: {difference(inside, parsed(got[1]))}"

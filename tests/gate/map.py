@@ -2,7 +2,7 @@
 """map.py PROGRAM
 
 Compares `bplint map` with a plain computation: on each file of tests/vectors, on files of other writers
-(tests/helpers/writers.py), and on damaged and overlapping ones. The verdict of `lint` is taken from PROGRAM. Places, ends,
+(tests/helpers/writers.py), on each hostile family (tests/helpers/families.py), and on damaged and overlapping files. The verdict of `lint` is taken from PROGRAM. Places, ends,
 rules 14 to 20, heights, gaps, overlaps and the paths of `--paths` are computed here, and each byte of the file has to be in
 some line. Without plistutil its files are skipped. The last line is `N passed, M failed`, with `, K skipped` if some were.
 """
@@ -16,10 +16,12 @@ sys.path.insert(0, str(pathlib.Path(__file__).resolve().parents[1]))
 
 from gate.listing import key_name  # noqa: E402
 from helpers.contents import HEADER, trailer  # noqa: E402
+from helpers.families import FAMILIES  # noqa: E402
 from helpers.harness import closing  # noqa: E402
 from helpers.layout import Layout  # noqa: E402
 from helpers.printed import units_of  # noqa: E402
 from helpers.sample_files import table_files  # noqa: E402
+from helpers.spelled import array, file_of  # noqa: E402
 from helpers.writers import written  # noqa: E402
 
 TITLE = "place\tend\tobject\tkind\tcount\theight\n"
@@ -29,6 +31,8 @@ FRAME_RULES = set(
 LOOKED = 16
 LONGEST_KEY = 4096
 LONGEST_PATH = 256
+LONGEST_TEXT = 5000  # bytes of a path to which a step is added
+FAMILY = 4_000  # bytes of a file of a family
 
 
 def notes_by(said, plist):
@@ -114,7 +118,7 @@ def paths_in(plist):
             if m < plist.objects and m not in depths:
                 depths[m] = depths[n] + 1
                 met.append(m)
-                if depths[m] <= LONGEST_PATH:
+                if depths[m] <= LONGEST_PATH and n in paths and len(paths[n].encode()) <= LONGEST_TEXT:
                     paths[m] = paths[n] + step_of(plist, head[0], references, index)
         budget -= min(budget, len(members))
     return paths
@@ -169,6 +173,13 @@ def overlapping(count):
     return HEADER + body + table + trailer(4, 4, count, 0, 8 + len(body))
 
 
+def back_to_front(count):
+    """An array of integers, whose last member comes first in the file."""
+    members = b"".join(b"\x11" + n.to_bytes(2, "big") for n in reversed(range(count)))
+    places = [8 + len(members), *(8 + 3 * (count - 1 - n) for n in range(count))]
+    return file_of(members + array(range(1, count + 1), 2), places, 2)
+
+
 def all_files(folder):
     """Names and bytes, None for a file that cannot be made here."""
     yield from ((sample.name, sample.octets) for sample in table_files())
@@ -179,6 +190,11 @@ def all_files(folder):
             for i in range(12):
                 yield f"{name}, damaged {i}", damaged(octets, source)
     yield "overlapping texts", overlapping(20_000)
+    yield "objects back to front", back_to_front(300)
+    for family in FAMILIES:
+        octets = family(FAMILY)
+        if len(octets) < 10 * FAMILY:  # a few are made of thousands of objects at least
+            yield family.__name__, octets
 
 
 def main():

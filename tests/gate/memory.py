@@ -2,8 +2,9 @@
 """memory.py PROGRAM
 
 Shows that `lint` takes at most 16 bytes of memory for each object and a constant, and for a faulty file a quarter of its
-length more. Where keys were made to have one fingerprint, it takes up to 28. `lint` runs with a limit of that size on the data of its process, and has to give its answer. The files are the
-hostile families, and usual ones of some 400,000 objects: keys that share one value, keys with values, numbers, texts, and
+length more. Where keys were made to have one fingerprint, it takes up to 32 more for each and 2 for each of their units.
+`lint` runs with a limit of that size on the data of its process, and has to give its answer. The files are the hostile
+families, and usual ones of some 400,000 objects: keys that share one value, keys with values, numbers, texts, and
 dictionaries. For the usual ones memory has to be refused if the limit is 8 bytes for each object. One run counts as one test.
 The last line is `N passed, M failed`.
 
@@ -22,8 +23,19 @@ from helpers.contents import number_at  # noqa: E402
 from helpers.families import FAMILIES, ring  # noqa: E402
 
 MOST, LESS = 16, 8
-# By family: keys of one fingerprint are put in order, with 16 bytes for each.
-MOST_OF = {"keys_of_our_fingerprint": 28}
+KEY, UNIT = 32, 2
+# The families in which other keys have a key's fingerprint, so that they are put in order.
+IN_ORDER = [
+    "keys_of_our_fingerprint",
+    "keys_alike_but_the_last",
+    "keys_alike_in_both_spellings",
+    "keys_with_long_fronts",
+    "keys_in_a_comb",
+    "pairs_of_keys",
+    "pairs_in_one_slot",
+    "pairs_too_short",
+    "dictionaries_in_dictionaries",
+]
 BESIDE = 1 << 20  # the program's own data, and what the allocator rounds up
 LENGTH = 2_000_000  # of a hostile file, about
 FAULT, REFUSED = 1, 4  # what the program's status says
@@ -48,26 +60,27 @@ def lint_within(program, path, size):
 
 
 def runs():
-    """The name, the content, the bytes an object and the wanted status of each run."""
+    """The name, the content, the bytes an object and a byte of the content, and the wanted status of each run."""
     for name, value in USUAL.items():
         content = plistlib.dumps(value(), fmt=plistlib.FMT_BINARY)
-        yield name, content, MOST, 0
-        yield name, content, LESS, REFUSED
+        yield name, content, MOST, 0, 0
+        yield name, content, LESS, 0, REFUSED
     for family in FAMILIES:
         if family is not ring:
-            yield family.__name__, family(LENGTH), MOST_OF.get(family.__name__, MOST), None
+            more = (MOST + KEY, UNIT) if family.__name__ in IN_ORDER else (MOST, 0)
+            yield family.__name__, family(LENGTH), *more, None
 
 
 def main(program):
     passed = failed = 0
-    for name, content, each, wanted in runs():
+    for name, content, each, of_content, wanted in runs():
         objects = number_at(content, len(content) - 24, 8)
         with tempfile.NamedTemporaryFile() as file:
             file.write(content)
             file.flush()
             if wanted is None:
                 wanted = lint_within(program, file.name, resource.RLIM_INFINITY)[0]
-            beside = BESIDE + (len(content) // 4 if wanted == FAULT else 0)
+            beside = BESIDE + of_content * len(content) + (len(content) // 4 if wanted == FAULT else 0)
             status, said = lint_within(program, file.name, each * objects + beside)
         if status == wanted:
             passed += 1

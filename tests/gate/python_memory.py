@@ -6,8 +6,10 @@ Each call returns what it returns otherwise, or raises MemoryError. It leaves no
 outlives it. python_package.py runs this script on the installed package, with refuse_growth.c in front of malloc and with
 PYTHONMALLOC=malloc_debug. The last line is `N passed, M failed`.
 """
+import collections
 import ctypes
 import datetime
+import io
 import os
 import plistlib
 import sys
@@ -42,9 +44,9 @@ def file_of(*objects):
 ODD = file_of(b"\xc4\x01\x02\x03\x04", b"\x00", b"\x14\x7f" + bytes(15), b"\x33\x7f\xef" + b"\xff" * 6, b"\x61\xd8\x00")
 MANY = plistlib.dumps({f"k{i}": i for i in range(60)}, fmt=plistlib.FMT_BINARY)
 CIRCLE = file_of(b"\xa1\x00")
-CERTIFICATE = bplist.loads(FILE, sorted_keys=True).certificate
-PLIST = bplist.loads(FILE)
-OPEN_ODD = bplist.loads(ODD)
+CERTIFICATE = bplist.view(FILE, sorted_keys=True).certificate
+PLIST = bplist.view(FILE)
+OPEN_ODD = bplist.view(ODD)
 VALUE = PLIST.value
 
 
@@ -58,17 +60,17 @@ def walked(value):
 
 def looked_up():
     """Looks up keys of a dictionary until its keys are sorted."""
-    value = bplist.loads(MANY).value
+    value = bplist.view(MANY).value
     return [value["k7"] for _ in range(40)]
 
 
 CALLS = {
-    "loads": lambda: bplist.loads(FILE).closed,
-    "loads, sorted": lambda: bplist.loads(FILE, sorted_keys=True).closed,
-    "loads, certificate": lambda: bplist.loads(FILE, certificate=CERTIFICATE).closed,
-    "loads, wrong certificate": lambda: bplist.loads(FILE, certificate=b"bplcert3"),
-    "loads, fault": lambda: bplist.loads(b"bplist00"),
-    "loads, circle": lambda: bplist.loads(CIRCLE),
+    "view": lambda: bplist.view(FILE).closed,
+    "view, sorted": lambda: bplist.view(FILE, sorted_keys=True).closed,
+    "view, certificate": lambda: bplist.view(FILE, certificate=CERTIFICATE).closed,
+    "view, wrong certificate": lambda: bplist.view(FILE, certificate=b"bplcert3"),
+    "view, fault": lambda: bplist.view(b"bplist00"),
+    "view, circle": lambda: bplist.view(CIRCLE),
     "open": lambda: bplist.open(PATH).closed,
     "open, mapped": lambda: bplist.open(PATH, map=True).closed,
     "lint": lambda: bplist.lint_bytes(FILE),
@@ -76,6 +78,15 @@ CALLS = {
     "plain": PLIST.plain,
     "plain, odd values": lambda: repr(OPEN_ODD.plain()),
     "plain, limit": lambda: PLIST.plain(limit=1),
+    "plain, container": lambda: bplist.view(FILE).value["list"].plain(),
+    "plain, container again": VALUE["list"].plain,
+    "plain, container, limit": lambda: VALUE["list"].plain(limit=3),
+    "plain, other types": lambda: PLIST.plain(dict_type=collections.OrderedDict, aware_datetime=True),
+    "load": lambda: bplist.load(io.BytesIO(FILE)),
+    "loads": lambda: bplist.loads(FILE),
+    # What copy.copy calls. Its own code is left out: CPython 3.11 loses the arguments of a function, here of copy._reconstruct,
+    # if memory for the cell of a variable that an inner function uses is refused.
+    "copy": lambda: VALUE["list"].__reduce__(),
     "walk": lambda: walked(VALUE),
     "walk, odd values": lambda: repr(walked(OPEN_ODD.value)),
     "keys": lambda: [*VALUE, *VALUE.values()][0],
@@ -90,7 +101,7 @@ CALLS = {
     "sorted by itself": looked_up,
     "equal": lambda: VALUE == TREE,
     "size": lambda: PLIST.size,
-    "text": lambda: bplist.loads(TEXTS).text(),
+    "text": lambda: bplist.view(TEXTS).text(),
     "certificate": lambda: PLIST.certificate,
 }
 

@@ -26,7 +26,7 @@ import zipfile
 ROOT = pathlib.Path(__file__).resolve().parents[2]
 sys.path.insert(0, str(ROOT / "tests"))
 
-from helpers.harness import MODULES, closing, lacks  # noqa: E402
+from helpers.harness import MODULES, closing, is_gate, lacks  # noqa: E402
 
 HERE = pathlib.Path(__file__).resolve().parent
 TESTS = ROOT / "python/tests"
@@ -43,8 +43,10 @@ def run_tests(names):
     suite = loader.loadTestsFromNames(wanted) if names else loader.discover(str(TESTS))
     result = unittest.TextTestRunner(stream=sys.stdout, verbosity=0).run(suite)
     failed = len({test.id().partition(" ")[0] for test, _ in result.failures + result.errors})
+    for test, why in result.skipped:
+        print(f"skipped {test.id()}: {why}")
     # In the gate nothing is skipped.
-    failed += len(result.skipped) + (result.testsRun == 0)
+    failed += (len(result.skipped) if is_gate() else 0) + (result.testsRun == 0)
     print(f"{max(result.testsRun - failed, 0)} passed, {failed} failed")
     return 1 if failed else 0
 

@@ -2,7 +2,7 @@
 """run_library.py [--only PREFIX] TABLE PROGRAM
 
 Gives all rows of TABLE to PROGRAM, one request on each line, and prints every answer that differs. It also lets PROGRAM
-count the bytes that each call asks its source for, and prints every count above the bound that is proved of the call. A
+count the bytes that each call asks its source for, and prints every count above the bound of the call. A
 last test lowers a bound below its count, and wants that to be noticed. The last line is `N passed, M failed`. The exit
 status is 1 if one failed. tests/vectors/README.md describes the columns, and the page of bplist_calls the form of a request.
 """
@@ -40,13 +40,13 @@ def answers(vectors, *program):
 
 
 def excess(count):
-    """What is wrong with a count and its bound, or None. A call of which no bound is proved has `-` for both."""
+    """What is wrong with a count and its bound, or None. A call that has no bound has `-` for both."""
     if count == b"-":
         return None
     asked, _, bound = count.partition(b" ")
     if asked.isdigit() and bound.isdigit() and int(asked) <= int(bound):
         return None
-    return f"asks for {readable(asked)} bytes, and {readable(bound)} are proved"
+    return f"asks for {readable(asked)} bytes, and {readable(bound)} are its bound"
 
 
 def is_lowered_bound_noticed(counts):

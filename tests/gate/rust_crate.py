@@ -1,12 +1,12 @@
 #!/usr/bin/env python3
 """rust_crate.py
 
-Runs the tests and the examples of the Rust crate rust/bplist over the built libbplist.a, and compares it with the crate
-plist (rust/compare_plist) on the files of the tables and of other writers. Run `make lib` first. Both are built in a
-temporary folder, without a network.
+Runs the tests and the examples of the Rust crate rust/bplist over the built libbplist.a, with and without its feature
+serde, and compares it with the crate plist (rust/compare_plist) on the files of the tables and of other writers. Run
+`make lib` first. Both are built in a temporary folder, without a network.
 
-The crate plist is Debian's librust-plist-dev. Without it, or without cargo, the tests that need it are skipped; in the gate
-they fail. The last line is `N passed, M failed`, with `, K skipped` if some were.
+The crates serde and plist are Debian's librust-serde-dev, librust-serde-derive-dev and librust-plist-dev. Without them, or
+without cargo, the tests that need them are skipped; in the gate they fail. The last line is `N passed, M failed`, with `, K skipped` if some were.
 """
 import os
 import pathlib
@@ -19,12 +19,14 @@ import tempfile
 ROOT = pathlib.Path(__file__).resolve().parents[2]
 sys.path.insert(0, str(ROOT / "tests"))
 
-from helpers.harness import closing, is_gate, lacks  # noqa: E402
+from helpers.harness import REGISTRY, closing, lacks  # noqa: E402
 from helpers.installed import install, write_pc  # noqa: E402
 from helpers.sample_files import table_files, written_files  # noqa: E402
 
 LIBRARY = ROOT / "crates/bplist_c/out"
-REGISTRY = pathlib.Path("/usr/share/cargo/registry")
+# The crates of Debian, in place of those of the network.
+OFFLINE = ["--offline", "--config", 'source.crates-io.replace-with="debian"']
+OFFLINE += ["--config", f'source.debian.directory="{REGISTRY}"']
 RESULT = re.compile(r"^test result: \w+\. (\d+) passed; (\d+) failed;", re.MULTILINE)
 COMPARED = re.compile(r"compared (\d+) files")
 # What the crate plist reads wrong: a count of 16 bytes as one of 1 byte.
@@ -73,7 +75,7 @@ class Tests:
         if "PKG_CONFIG_PATH" in variables:
             del environment["BPLIST_LIB_DIR"]
         folder = self.folder / "rust" / crate
-        words = ["cargo", command, "--offline", *words]
+        words = ["cargo", command, *OFFLINE, *words]
         return subprocess.run(
             words, cwd=folder, env=environment, capture_output=True, text=True, timeout=SECONDS, check=False
         )
@@ -100,7 +102,7 @@ class Tests:
         self.count("all examples", "" if there == {row[0] for row in EXAMPLES} else f"{there}")
 
     def see_documents(self):
-        ran = self.cargo("bplist", "doc", "--no-deps")
+        ran = self.cargo("bplist", "doc", "--no-deps", "--all-features")
         self.count("cargo doc", "" if ran.returncode == 0 else ran.stderr)
 
     def without_library(self):
@@ -117,19 +119,15 @@ class Tests:
             return
         prefix = self.folder / "installed"
         install(prefix, LIBRARY, "0.3.0")
-        for version, status in [("0.3.0", 101), ("0.4.0", 0)]:
+        for version, status in [("0.4.0", 101), ("0.5.0", 0)]:
             write_pc(prefix, version)
             ran = self.cargo("bplist", "test", "--test", "faults", PKG_CONFIG_PATH=str(prefix / "lib/pkgconfig"))
             self.count(f"pkg-config, {version}", "" if ran.returncode == status else ran.stderr)
 
     def compare(self):
-        if not list(REGISTRY.glob("plist-1.*")):
-            name, why = "comparison with the crate plist", "librust-plist-dev is not here"
-            if is_gate():
-                self.count(name, why)
-            else:
-                print(f"skipped {name}: {why}")
-                self.skipped += 1
+        if lacks("plist"):
+            print("skipped comparison with the crate plist: it is not here")
+            self.skipped += 1
             return
         files = self.folder / "files"
         files.mkdir()
@@ -146,13 +144,14 @@ class Tests:
 
 
 def main():
-    for program in ("cargo", "objcopy"):
+    for program in ("cargo", "objcopy", "serde", "serde_derive"):
         if lacks(program):
             print(f"skipped, {program} is not installed: the Rust crate\n{closing(0, 0, 1)}")
             return 0
     with tempfile.TemporaryDirectory() as folder:
         tests = Tests(pathlib.Path(folder))
         tests.run_tests("bplist")
+        tests.run_tests("bplist", "--features", "serde")
         tests.run_examples()
         tests.see_documents()
         tests.without_library()

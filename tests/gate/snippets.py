@@ -36,7 +36,7 @@ from helpers.harness import closing, is_gate, lacks  # noqa: E402
 from helpers.installed import install  # noqa: E402
 from helpers.session import PROMPT, printed, write_files  # noqa: E402
 
-PAGES = ["README.md", "SECURITY.md", "docs/PROGRAM.md", "docs/LIBRARY.md", "include/bplist.h"]
+PAGES = ["README.md", "SECURITY.md", "docs/PROGRAM.md", "docs/RECIPES.md", "docs/LIBRARY.md", "include/bplist.h"]
 PAGES += ["python/README.md", "rust/bplist/README.md"]
 # readme.py runs the session of README.md.
 LEFT = {"README.md": ("console",)}
@@ -210,6 +210,8 @@ class Runner:
         (place / ".ci/run").chmod(0o755)
         unused = shutil.ignore_patterns("target", "Cargo.lock")
         shutil.copytree(ROOT / "rust", place / "rust", ignore=unused)
+        # The crates of Debian, in place of those of the network.
+        shutil.copytree(ROOT / "rust/compare_plist/.cargo", place / ".cargo")
         shutil.copytree(ROOT / "examples", place / "examples")
         if self.wheel:
             (place / "dist").mkdir()
@@ -334,8 +336,8 @@ class Tests:
         for piece in pieces:
             if piece.language == "sh" and "pip " in piece.text and not self.runner.wheel:
                 self.skip(piece, "there is no wheel")
-            elif piece.language == "rust" and lacks("cargo"):
-                self.skip(piece, "cargo is not here")
+            elif piece.language == "rust" and (lacks("cargo") or lacks("serde")):
+                self.skip(piece, "cargo or serde is not here")
             elif piece.language != "python":
                 self.count(piece, getattr(self.runner, piece.language, lambda _: "no such language")(piece))
 
@@ -343,7 +345,7 @@ class Tests:
         """Each broken piece is refused."""
         for number, (language, text) in enumerate(BROKEN):
             piece = Piece(f"broken{number}", 0, 0, language, "", text)
-            if language == "python" and not self.runner.wheel or language == "rust" and lacks("cargo"):
+            if language == "python" and not self.runner.wheel or language == "rust" and (lacks("cargo") or lacks("serde")):
                 continue
             wrong = self.runner.python([piece]) if language == "python" else getattr(self.runner, language)(piece)
             self.count(f"broken {language}", "" if wrong else "it is not refused")

@@ -1,6 +1,7 @@
 """What the scripts of tests do if a program that they need is not installed."""
 import functools
 import os
+import pathlib
 import pty
 import shutil
 import subprocess
@@ -29,6 +30,9 @@ PACKAGES = {
 }
 # The same of the modules of Python that make a wheel and install it.
 MODULES = {"ensurepip": "python3-venv", "pip": "python3-pip", "setuptools": "python3-setuptools", "wheel": "python3-wheel"}
+# The same of crates, which Debian has in a folder of its own.
+REGISTRY = pathlib.Path("/usr/share/cargo/registry")
+CRATES = {"plist": "librust-plist-dev", "serde": "librust-serde-dev", "serde_derive": "librust-serde-derive-dev"}
 # The Python that makes the wheel, as in the Makefile.
 PYTHON = os.environ.get("PYTHON", "/usr/bin/python3")
 
@@ -44,12 +48,16 @@ def has_module(name):
 
 
 def lacks(name):
-    """Whether the program or the module of Python is not installed, so that the tests that need it are skipped. In the gate
-    this ends the script."""
-    if has_module(name) if name in MODULES else shutil.which(name):
+    """Whether the program, the module of Python or the crate is not installed, so that the tests that need it are skipped.
+    In the gate this ends the script."""
+    if name in CRATES:
+        is_there = any(REGISTRY.glob(f"{name}-1.*"))
+    else:
+        is_there = has_module(name) if name in MODULES else shutil.which(name)
+    if is_there:
         return False
     if is_gate():
-        package = {**PACKAGES, **MODULES}[name]
+        package = {**PACKAGES, **MODULES, **CRATES}[name]
         sys.exit(f"FAILED: {name} is not installed (Debian package {package}), and the gate skips no test")
     return True
 

@@ -1,16 +1,11 @@
 #!/usr/bin/env python3
-"""definitions.py [--write | --count [CALL..]]
+"""definitions.py [--write]
 
-Makes docs/DEFINITIONS.md from crates/*/specs: what a reader has to believe, in reading order. The page has the text of the
-definitions that the theorem leads to, then of those that other clauses of `answer_certified` add, and then the names of the
-definitions of all other public calls.
-
-With --write it writes the page. Without, it compares the page with the one that is there, one test for each section. Three
-more tests show that no public contract leads to a definition that computes what the grammar says, that each file of the
-theorem has its place in the reading order, and that docs/THEOREM.md has the theorem as the sources have it, and README.md
-its sentence. The last line is
-`N passed, M failed`. With --count it prints the table of the page, or how many definitions and lines the contracts of these
-calls lead to; a type such as `Checked` means its methods.
+Makes docs/DEFINITIONS.md from crates/*/specs: the definitions that the theorem leads to, in reading order, which a reader has
+to believe. With --write it writes the page. Without, it compares the page with the one that is there. Three more tests show
+that no public contract leads to a definition that computes what the grammar says, that each file of the theorem has its place
+in the reading order, and that docs/THEOREM.md has the theorem as the sources have it, and README.md its sentence. The last
+line is `N passed, M failed`.
 """
 import itertools
 import pathlib
@@ -21,8 +16,8 @@ ROOT = pathlib.Path(__file__).resolve().parents[2]
 
 HEAD = """# Definitions
 
-What a reader has to believe, from the bytes to the theorem. Each block is a part of the named file, without the definitions
-that only proofs and private contracts cite. A name without a definition here is a type of the Rust code, as `Frame`, `Kind`
+What a reader has to believe, from the bytes to [the theorem](THEOREM.md). Each block is a part of the named file, without the
+definitions that the theorem does not lead to. A name without a definition here is a type of the Rust code, as `Frame`, `Kind`
 and `Head`, or a word of the kit's library. The words above a definition say it in plain English. The words above a block
 name its source: Apple's published CFBinaryPList.c, a standard, or `profile`, a choice of this project.
 
@@ -31,11 +26,11 @@ items (bplist_cursor/path.rt, replies.rt) and a `Certificate` as its lists (bpli
 `Source` itself (bplist_octets/source.rt); the names of the 32 rules; and some 25 words of the kit's library, such as `map`
 and `length`.
 
-`tests/tools/definitions.py --write` makes this page, and the gate compares. A line of the table has what it adds to those
-above it. Comments are not counted.
+`tests/tools/definitions.py --write` makes this page, and the gate compares.
 
-| to believe | definitions | lines |
-|---|---|---|
+## The clauses
+
+`check` has the clause `sound`, and `answer_certified` the clause `theorem`.
 """
 # The files that the theorem leads to, in reading order.
 READING = {
@@ -56,13 +51,6 @@ READING = {
 }
 # The crates of the two calls whose contracts are the theorem.
 CALLS = {"check": "bplist_cert", "answer_certified": "bplist_cursor"}
-# The parts of the page with text: a title, and the clauses that each adds.
-PARTS = {
-    "the theorem: clause `sound` of `check`, clause `theorem` of `answer_certified`, and `Source`": ["check sound", "theorem"],
-    "that the call only reads: clause `handed`": ["handed"],
-    "when replies come: clauses `yes` and `accepted`": ["yes", "accepted"],
-    "which fault comes: clause `refused`": ["refused"],
-}
 # The files whose definitions compute what the grammar says, for contracts inside crates.
 COMPUTING = {("bplist_objects", "Markers"), ("bplist_objects", "Spelled")}
 
@@ -264,8 +252,8 @@ def sources_of(specs, crate):
     return {path.stem: path.read_text() for path in sorted((specs.root / "crates" / crate / "src").glob("*.rt"))}
 
 
-def cited_by(specs, crate, calls):
-    """What the contracts of a crate's public calls cite, or those of these calls and types alone, where some are given."""
+def cited_by(specs, crate, calls=frozenset()):
+    """What the contracts of a crate's public calls cite, or those of these calls and types alone, if some are given."""
     sources = sources_of(specs, crate)
     names = public_names(sources)
     names &= calls or names
@@ -289,53 +277,21 @@ def clauses_of(specs, call):
     raise SystemExit(f"{call} is gone")
 
 
-def theorem_clauses(specs):
-    """The clauses of `answer_certified` by name, and clause `sound` of `check`; and what each cites."""
-    found = {"check sound": clauses_of(specs, "check")["sound"], **clauses_of(specs, "answer_certified")}
-    return {name: one[0] for name, one in found.items()}, {name: one[1] for name, one in found.items()}
-
-
 class Reading:
-    """What is to be believed: each part with the definitions that it adds to those before it."""
+    """What is to be believed: the clauses of `answer_certified`, clause `sound` of `check`, and the definitions of the theorem."""
 
     def __init__(self):
         self.specs = Specs(ROOT)
-        self.clauses, cited = theorem_clauses(self.specs)
-        places, self.seen, self.parts = cited_by(self.specs, "bplist_octets", {"Source"}), set(), {}
-        for part, names in PARTS.items():
-            places |= {place for name in names for place in cited[name]}
-            self.add(part, places)
-        for part, crates_of_it in self.groups().items():
-            places |= {place for crate in crates_of_it for place in cited_by(self.specs, crate, set())}
-            self.add(part, places)
-
-    def groups(self):
-        """The crates of the other parts."""
-        library = [crate for crate in self.specs.by_crate if crate.startswith("bplist_") and crate != "bplist_c"]
-        program = [crate for crate in self.specs.by_crate if crate.startswith("bplint")]
-        return {"all other calls of the library": library, "the program": program, "the C library": ["bplist_c"]}
-
-    def add(self, part, places):
-        """A part: the definitions that these places lead to and no part before."""
+        sound, told = clauses_of(self.specs, "check")["sound"], clauses_of(self.specs, "answer_certified")
+        self.clauses = [sound[0], *(text for text, _ in told.values())]
+        self.theorem = [sound[0], told["theorem"][0]]
+        places = cited_by(self.specs, "bplist_octets", {"Source"}) | sound[1] | told["theorem"][1]
         found = self.specs.reachable(places)
-        self.parts[part] = [one for listed in self.specs.by_crate.values() for one in listed if one in found - self.seen]
-        self.seen |= found
-
-    def table(self):
-        """The rows of the table: each part, how many definitions it adds, and their lines."""
-        rows = [(part, len(found), lines_of(found)) for part, found in self.parts.items()]
-        return [*rows, ("all of them", sum(row[1] for row in rows), sum(row[2] for row in rows))]
+        self.found = [one for listed in self.specs.by_crate.values() for one in listed if one in found]
 
     def page(self):
-        """The page, section by section."""
-        rows = "".join(f"| {part} | {many} | {lines:,} |\n" for part, many, lines in self.table())
-        sections = {"the table": HEAD + rows}
-        for part, found in self.parts.items():
-            with_text = part in PARTS
-            clause = "".join(f"\n```rust\n{self.clauses[name]}\n```\n" for name in PARTS.get(part, ()))
-            body = reading_blocks(found) if part == next(iter(PARTS)) else blocks(by_file(found), with_text, "###")
-            sections[part] = f"\n## {part[0].upper()}{part[1:]}\n{clause}{body}"
-        return sections
+        clauses = "".join(f"\n```rust\n{clause}\n```\n" for clause in self.theorem)
+        return HEAD + clauses + reading_blocks(self.found)
 
 
 def by_file(found):
@@ -347,24 +303,14 @@ def by_file(found):
 
 
 def reading_blocks(found):
-    """The blocks of the theorem, in reading order."""
+    """The text of definitions, in reading order."""
     files, out = by_file(found), []
     for title, places in READING.items():
-        out.append(f"\n### {title}\n" + blocks({place: files[place] for place in places if place in files}, True, None))
-    return "".join(out)
-
-
-def blocks(files, with_text, heading):
-    """The definitions of each of these files: with their text, or by name with the words above them."""
-    out = []
-    for (crate, file), found in files.items():
-        path = f"crates/{crate}/specs/{file}.antt"
-        out.append(f"\n{heading} {file}\n" if heading and with_text else "")
-        if with_text:
-            out.append(f"\n[{path}](../{path}): {head_of(path)}\n\n```text\n{text_of(found)}\n```\n")
-        else:
-            listed = "".join(f"- `{one.name}`: {' '.join(one.comment)}\n" for one in found)
-            out.append(f"\n[{path}](../{path})\n\n{listed}")
+        out.append(f"\n## {title}\n")
+        for crate, file in places:
+            path = f"crates/{crate}/specs/{file}.antt"
+            text = text_of(files.get((crate, file), []))
+            out.append(f"\n[{path}](../{path}): {head_of(path)}\n\n```text\n{text}\n```\n")
     return "".join(out)
 
 
@@ -387,65 +333,43 @@ def text_of(found):
     return "\n".join(out).rstrip()
 
 
-def lines_of(found):
-    """How many lines these definitions have."""
-    return sum(len(one.lines) for one in found)
-
-
-def count(calls):
-    """Prints the table, or how much the contracts of these calls lead to."""
-    if calls:
-        specs = Specs(ROOT)
-        found = specs.reachable({place for crate in specs.by_crate for place in cited_by(specs, crate, calls)})
-        print(f"{len(found)}\t{lines_of(found)}")
-        return 0
-    for row in Reading().table():
-        print("\t".join(map(str, row)))
-    return 0
-
-
 def computing(reading):
     """What public contracts lead to, and should not: definitions that compute what the grammar says."""
-    found = sorted(f"{one.name} ({one.file})" for one in reading.seen if (one.crate, one.file) in COMPUTING)
+    specs = reading.specs
+    seen = specs.reachable({place for crate in specs.by_crate for place in cited_by(specs, crate)})
+    found = sorted(f"{one.name} ({one.file})" for one in seen if (one.crate, one.file) in COMPUTING)
     return f"public contracts lead to definitions that compute: {', '.join(found)}" if found else ""
 
 
 def misplaced(reading):
     """The files of the theorem that have no place in the reading order."""
     placed = {place for places in READING.values() for place in places}
-    found = [f"{crate}, {file}" for crate, file in by_file(reading.parts[next(iter(PARTS))]) if (crate, file) not in placed]
+    found = [f"{crate}, {file}" for crate, file in by_file(reading.found) if (crate, file) not in placed]
     return f"these files have no place in the reading order: {'; '.join(found)}" if found else ""
 
 
 def unquoted(reading):
-    """What docs/THEOREM.md does not say of the theorem as the sources do: the clauses, the two definitions, how much is to be
-    believed; and whether README.md has the same sentence."""
-    texts = ["\n".join(one.lines).rstrip() for one in reading.seen if one.name in ("IsSound", "IsAnswered")]
-    _, many, lines = reading.table()[0]
-    counts = f"{many} definitions of {lines} lines"
+    """What docs/THEOREM.md does not say of the theorem as the sources do: the clauses and the two definitions; and whether
+    README.md has the same sentence."""
+    texts = ["\n".join(one.lines).rstrip() for one in reading.found if one.name in ("IsSound", "IsAnswered")]
     page, readme = ((ROOT / name).read_text() for name in ("docs/THEOREM.md", "README.md"))
     sentence = page[page.index("**If `check`") : page.index("**\n\nThis page")]
-    wanted = [(one, "docs/THEOREM.md", page) for one in (*reading.clauses.values(), *texts, counts)]
-    wanted += [(one, "README.md", readme) for one in (sentence, counts)]
+    wanted = [(one, "docs/THEOREM.md", page) for one in (*reading.clauses, *texts)] + [(sentence, "README.md", readme)]
     found = [f"{name}: {one.split(' {')[0].splitlines()[0]}" for one, name, text in wanted if one not in text]
     return f"these do not say of the theorem what the sources say: {'; '.join(found)}" if found else ""
 
 
 def main():
-    if "--count" in sys.argv[1:]:
-        return count(set(sys.argv[2:]))
     reading, page = Reading(), ROOT / "docs/DEFINITIONS.md"
-    sections = reading.page()
+    text = reading.page()
     if "--write" in sys.argv[1:]:
-        page.write_text("".join(sections.values()))
+        page.write_text(text)
         return 0
-    text = page.read_text() if page.exists() else ""
-    stale = [part for part, wanted in sections.items() if wanted not in text]
-    failed = [f"docs/DEFINITIONS.md is not what specs/ says: run tests/tools/definitions.py --write ({part})" for part in stale]
-    failed += [lines for lines in (computing(reading), misplaced(reading), unquoted(reading)) if lines]
+    stale = "" if page.exists() and page.read_text() == text else "docs/DEFINITIONS.md is not what specs/ says: use --write"
+    failed = [one for one in (stale, computing(reading), misplaced(reading), unquoted(reading)) if one]
     for one in failed:
         print(one)
-    print(f"{len(sections) + 3 - len(failed)} passed, {len(failed)} failed")
+    print(f"{4 - len(failed)} passed, {len(failed)} failed")
     return 1 if failed else 0
 
 

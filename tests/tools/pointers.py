@@ -233,7 +233,7 @@ def spoiled(pages):
     for what, page, old, new in (
         ("a wrong name", "CONTRIBUTING.md", "`rule_name`", "`rule_nane`"),
         ("a name in another file", "CONTRIBUTING.md", "(bplist_objects/marker.rt)", "(bplist_objects/head.rt)"),
-        ("a wrong file", "docs/DESIGN.md", "tests/tools/walk.py", "tests/tools/walks.py"),
+        ("a wrong file", "docs/DESIGN.md", "tests/tools/sizes.py", "tests/tools/size.py"),
         ("a dead link", "CONTRIBUTING.md", "(docs/DESIGN.md#the-way-of-a-byte)", "(docs/DESIGN.md#the-way-of-a-bit)"),
         ("a wrong target", "CONTRIBUTING.md", "`make check`", "`make checks`"),
         ("a wrong clause", PROMISES, "| `theorem` |", "| `exact` |"),

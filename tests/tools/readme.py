@@ -3,7 +3,7 @@
 
 Runs the session on README.md's first screen: each line after `$ ` in a shell, in a folder with the files that the session
 names, with BPLINT as `bplint`. Compares what it prints, with standard error. The Rattle code of README.md has to be in
-crates/examples, word for word, and the numbers of broken files that other readers take are those of docs/PARSERS.md. With
+crates/example_value, word for word, and the numbers of broken files that other readers take are those of docs/PARSERS.md. With
 --write it writes the session anew. The last line is `N passed, M failed`: one test for each command, and one each for the
 code and the numbers.
 """
@@ -18,7 +18,7 @@ sys.path.insert(0, str(ROOT / "tests"))
 from helpers.session import FENCE, PROMPT, README, answers, session  # noqa: E402
 
 ALL = "all but (profile)"
-EXAMPLE = ROOT / "crates/examples/src/main.rt"
+EXAMPLE = ROOT / "crates/example_value/src/main.rt"
 
 
 def is_example(text):

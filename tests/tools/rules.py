@@ -3,11 +3,14 @@
 
 Without WORD, compares the tables of docs/RULES.md with the sources: the definitions and functions are in the files that the
 page names, the functions that make a rule's fault are those that it names, rows of tests/vectors break the rule, and there
-are edits of the functions. The last line is `N passed, M failed`. The exit status is 1 if one failed.
+are edits of the functions. The basis of each rule is compared with that of the files in conformance/cases.tsv: a file that
+breaks a rule of the format first has the basis `format`, except for the rules whose greatest size is profile; a file whose
+basis is `profile` breaks a rule of this project, or such a size. The last line is `N passed, M failed`. The exit status is 1 if one failed.
 
 With the word or the number of a rule, prints where all of these are.
 """
 import collections
+import csv
 import pathlib
 import re
 import signal
@@ -72,6 +75,25 @@ def rules():
 def plain_words():
     page = (ROOT / "docs/RULES.md").read_text(encoding="utf-8").split("## Where each is decided")[0]
     return re.findall(r"^\| (\d+) \| (\w+) \|", page, re.MULTILINE)
+
+
+def bases():
+    """The basis of each rule by its word, and the words of those whose greatest size is profile."""
+    page = (ROOT / "docs/RULES.md").read_text(encoding="utf-8").split("## Where each is decided")[0]
+    rows = re.findall(r"^\| (\d+) \| (\w+) \|.*\| (format|profile) \|$", page, re.MULTILINE)
+    limits = page.split("a greatest size that is profile")[1].split("\n\n")[0]
+    limited = {number for pair in re.findall(r"rules? (\d+)(?: and (\d+))?", limits) for number in pair}
+    return {word: basis for _, word, basis in rows}, {word for number, word, _ in rows if number in limited}
+
+
+def case_bases():
+    """For each rule's word the bases of the files of conformance that break it first."""
+    found = collections.defaultdict(set)
+    with open(ROOT / "conformance/cases.tsv", encoding="utf-8", newline="") as lines:
+        for row in csv.DictReader(lines, delimiter="\t", quoting=csv.QUOTE_NONE):
+            if row["answer"] == "refuse":
+                found[row["rule"]].add(row["basis"])
+    return found
 
 
 def line_of(name, file):
@@ -161,6 +183,12 @@ def compare_all():
     comparison.expect(listed == plain_words(), f"the rules with deciders are {listed}")
     for rule in held:
         comparison.compare(rule)
+    basis, limited = bases()
+    for word, found in case_bases().items():
+        wanted = {"format", "profile"} if word in limited else {basis[word]}
+        # A file may break a rule of the format too, behind the rule of this project that it breaks first.
+        holds = found <= wanted | {"format"} and (basis[word] in found)
+        comparison.expect(holds, f"rule {word}: its basis is {basis[word]}, and conformance/cases.tsv has {sorted(found)}")
     print(f"{comparison.passed} passed, {comparison.failed} failed")
     return 1 if comparison.failed else 0
 

@@ -2,11 +2,13 @@
 """suite.py [--write]
 
 Makes the files of conformance/ and its table cases.tsv, from the tables of tests/vectors and from the hostile families, and
-compares them with those that are there. With --write it writes them. The last line is `N passed, M failed`. The exit status
+compares them with those that are there. The totals in conformance/README.md are of as many files as there are. With --write
+it writes the files and the table. The last line is `N passed, M failed`. The exit status
 is 1 if one failed. tests/helpers/cases.py has the expected answers.
 """
 import collections
 import pathlib
+import re
 import sys
 
 ROOT = pathlib.Path(__file__).resolve().parents[2]
@@ -55,19 +57,29 @@ def write(made):
         (SUITE / name).write_bytes(octets)
 
 
+def is_counted(cases):
+    """Whether the totals that the page prints are those of so many files."""
+    told = re.search(r"(\d+) passed, (\d+) failed, (\d+) choices", (SUITE / "README.md").read_text(encoding="utf-8"))
+    return told is not None and sum(map(int, told.groups())) == len(cases)
+
+
 def main():
     if sys.argv[1:] not in ([], ["--write"]):
         print(__doc__, file=sys.stderr)
         return 2
-    made = made_files(chosen(all_cases()))
+    cases = chosen(all_cases())
+    made = made_files(cases)
     if sys.argv[1:]:
         write(made)
     there = present_files()
     wrong = sorted(name for name in made.keys() | there.keys() if made.get(name) != there.get(name))
     for name in wrong:
         print(f"conformance/{name} is not what tests/tools/suite.py makes")
-    print(f"{len(made) - len(wrong)} passed, {len(wrong)} failed")
-    return 1 if wrong else 0
+    failed = len(wrong) + (not is_counted(cases))
+    if not is_counted(cases):
+        print(f"conformance/README.md: the totals are not those of {len(cases)} files")
+    print(f"{len(made) + 1 - failed} passed, {failed} failed")
+    return 1 if failed else 0
 
 
 if __name__ == "__main__":

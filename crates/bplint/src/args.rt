@@ -2,6 +2,7 @@
 
 ghost use Rattle.bplint_engine.specs.Commands.{PrintsOnePath};
 
+use crate::output::Replaces;
 use bplint_engine::{Command, Verb};
 use bplint_json::{Form, Listed};
 use bplint_lines::Style;
@@ -87,13 +88,15 @@ pub struct Run<'a> {
     pub operands: Operands<'a>,
     /// OUT, or `-` for standard output if the subcommand has no OUT.
     pub out: &'a str,
-    /// True if OUT may be a property list, which is replaced.
-    pub force: bool,
+    /// Which files at OUT are replaced.
+    pub replaces: Replaces,
     /// True if each line begins with the name of FILE.
     pub named: bool,
     /// The file that lists the paths of `show` and `get`; `-` is standard input. Each line of the answer then begins with
     /// its path.
     pub paths_from: Option<&'a str>,
+    /// The largest number of bytes that `ls` writes.
+    pub most: Option<u64>,
 }
 
 impl<'a> Run<'a> {
@@ -227,7 +230,8 @@ pub enum Shown<'a> {
         style: Style,
     },
     /// The map of the file.
-    Map,
-    /// The map of the file, with the shortest path to each object.
-    MapPaths,
+    Map {
+        /// True if it has the shortest path to each object.
+        paths: bool,
+    },
 }

@@ -20,6 +20,8 @@ pub(crate) enum Form {
     Without(&'static [&'static str]),
     /// `--limit N`, which needs another flag, and the default for N.
     Limit(&'static str, &'static str),
+    /// `--NAME N`, with this name.
+    Most(&'static str),
     /// `--name`, or `--name=WHEN` for one of three words.
     When,
     /// `--name`, which needs another flag.
@@ -54,19 +56,31 @@ pub(crate) struct Argument {
 pub(crate) const HEX: Argument = Argument {
     name: "hex",
     form: Form::Short('x'),
-    help: "FILE and CERT hold hexadecimal text, and OUT will",
+    help: "FILE holds hexadecimal text",
+};
+
+pub(crate) const HEX_CERT: Argument = Argument {
+    name: "hex",
+    form: Form::Short('x'),
+    help: "FILE and CERT hold hexadecimal text",
+};
+
+pub(crate) const HEX_OUT: Argument = Argument {
+    name: "hex",
+    form: Form::Short('x'),
+    help: "FILE holds hexadecimal text, and OUT will",
 };
 
 pub(crate) const QUIET: Argument = Argument {
     name: "quiet",
     form: Form::Short('q'),
-    help: "Print nothing for a file that holds a value",
+    help: "Print nothing for a sound file",
 };
 
 pub(crate) const RECURSIVE: Argument = Argument {
     name: "recursive",
     form: Form::LettersWithout('r', 'R', "hex"),
-    help: "Lint the files below a FILE that is a folder: those that begin with bplist, and .plist, .strings and .nib",
+    help: "Lint the files below a FILE that is a folder: those that begin with bplist, or whose names end as usual",
 };
 
 pub(crate) const ALL: Argument = Argument {
@@ -78,7 +92,7 @@ pub(crate) const ALL: Argument = Argument {
 pub(crate) const SKIP_OTHER: Argument = Argument {
     name: "skip-other",
     form: Form::Flag,
-    help: "Pass over a FILE that looks like XML or an old-style text",
+    help: "Pass over a FILE in another form: XML, an old-style text, a nib that is none, .strings without a string",
 };
 
 pub(crate) const LIST: Argument = Argument {
@@ -144,7 +158,7 @@ pub(crate) const WITH_NAME: Argument = Argument {
 pub(crate) const FORCE: Argument = Argument {
     name: "force",
     form: Form::Flag,
-    help: "Write to OUT even if it begins with bplist",
+    help: "Replace OUT even if it is no certificate",
 };
 
 pub(crate) const SORTED: Argument = Argument {
@@ -201,6 +215,12 @@ pub(crate) const TREE_LIMIT: Argument = Argument {
     name: "LIMIT",
     form: Form::Limit("recursive", "1000000"),
     help: "How many nodes to list at most",
+};
+
+pub(crate) const LIST_BYTES: Argument = Argument {
+    name: "BYTES",
+    form: Form::Most("limit-bytes"),
+    help: "How many bytes of lines to write at most",
 };
 
 pub(crate) const FILE: Argument = Argument {
@@ -286,6 +306,7 @@ impl Argument {
             Form::With(other) => flag(arg, name).requires_arg(other),
             Form::Without(others) => flag(arg, name).conflicts_with_all(others),
             Form::Limit(with, default) => limit(arg.default_value(default), with),
+            Form::Most(long) => Ok(arg.long(long).value_parser(value_parser!(u64))),
             Form::When => Ok(when(arg, name)),
             Form::List => Ok(list(arg, name)),
             Form::ListWithout(others) => list(arg, name).conflicts_with_all(others),

@@ -6,6 +6,7 @@ ghost use Rattle.bplint_engine.specs.declared.run.Verb.TheVariants as verbs;
 use crate::args::{
     Choice, Job, Line, Lint, Operands, Printed, Request, Run, Shown, Task, Textconv,
 };
+use crate::output::Replaces;
 use crate::rule_words::{no_rule, rule_in};
 use crate::subcommands::bplint;
 use bplint_engine::{Command, Verb};
@@ -32,6 +33,18 @@ pub fn read_line<'a>(
             ErrorKind::MissingSubcommand,
             "no subcommand was given",
         )?),
+    }
+}
+
+/// Returns what reads a file without a certificate, for a command line that may lack one: a line, or the empty text.
+pub fn tip_for(words: &[String], error: &Error) -> &'static str {
+    match (error.kind(), words) {
+        (ErrorKind::MissingRequiredArgument, [_, verb, ..]) => match verb.as_str() {
+            "get" => "tip: without a certificate: bplint show FILE PATH\n",
+            "print" => "tip: without a certificate: bplint show --text FILE PATH\n",
+            _ => "",
+        },
+        _ => "",
     }
 }
 
@@ -137,10 +150,22 @@ fn run_of<'a>(
             hex: matches.get_flag("hex"),
         },
         out: matches.get_str("OUT").unwrap_or("-"),
-        force: matches.get_flag("force"),
+        replaces: replaces_in(matches),
         named: matches.get_flag("with-filename"),
         paths_from: matches.get_str("paths-from"),
+        most: matches.get_one::<u64>("BYTES"),
     })
+}
+
+/// Returns which files at OUT are replaced.
+fn replaces_in(matches: &ArgMatches<'_>) -> Replaces {
+    if matches.get_flag("force") {
+        return Replaces::All;
+    }
+    if matches.get_flag("hex") {
+        return Replaces::HexCertificates;
+    }
+    Replaces::Certificates
 }
 
 fn task_of<'a>(alloc: Global, name: &str, matches: &ArgMatches<'a>) -> Result<Task<'a>, Error> {
@@ -152,8 +177,9 @@ fn task_of<'a>(alloc: Global, name: &str, matches: &ArgMatches<'a>) -> Result<Ta
             Ok(Task::Rows(rows_in(matches, form)))
         }
         "ls" => Ok(Task::Show(listed_by(matches))),
-        "map" if matches.get_flag("paths") => Ok(Task::Show(Shown::MapPaths)),
-        "map" => Ok(Task::Show(Shown::Map)),
+        "map" => Ok(Task::Show(Shown::Map {
+            paths: matches.get_flag("paths"),
+        })),
         _ => Ok(Task::Command(job_of(alloc, verb_of(name), matches)?)),
     }
 }

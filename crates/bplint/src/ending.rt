@@ -1,13 +1,16 @@
 //! How a run ends: the line of its fault on standard error, with what is below it, and the exit status.
 
-ghost use Rattle.std.specs.Prelude.{◌≡◌, Err, MatchResult, None, Ok};
-ghost use Rattle.bplint.specs.ExitStatuses.{EndsWith, IsRefusedWith};
+ghost use Rattle.std.specs.Prelude.{◌≡◌, ◌≤◌, Err, MatchResult, None, Ok};
+ghost use Rattle.bplint.specs.ExitStatuses.{EndsWith, IsPrintedWith, IsRefusedWith};
 ghost use Rattle.clap.specs.Values.{kind_of};
 
+use crate::output::{OutFault, OutFile};
 use bplint_lines::{RawFault, RunFault, Said};
 use clap::Error;
 use clap::error::ErrorKind;
 use std::alloc::{AllocError, Global};
+use std::fs::{File, Files};
+use std::io::Write;
 
 /// The exit status of a wrong command line.
 pub const WRONG_LINE: u8 = 2;
@@ -116,17 +119,35 @@ pub fn refuse_line<R: Eprint>(rt: &R, line: &str) -> u8
 }
 
 /// Prints the error or help text of `clap`. Returns the exit status.
-pub fn refuse<R: Print + Eprint>(rt: &R, alloc: Global, error: Error) -> u8
-    ensures { IsRefusedWith (kind_of error) result }
+pub fn refuse<R: Files<File = File> + Print + Eprint>(rt: &R, alloc: Global, error: Error) -> u8
+    ensures status { IsRefusedWith (kind_of error) result }
+    ensures few { result ≤ 4 }
 {
     match error.kind() {
         ErrorKind::OutOfMemory => end(rt, alloc, "", Ending::with(alloc, RunFault::Memory)),
-        kind => {
-            let _ = error.print(rt);
-            match kind {
-                ErrorKind::DisplayHelp | ErrorKind::DisplayVersion => 0,
-                _ => WRONG_LINE,
+        ErrorKind::DisplayHelp | ErrorKind::DisplayVersion => {
+            match format!(in alloc; "{error}") {
+                Ok(text) => print_text(rt, alloc, &text),
+                Err(_) => end(rt, alloc, "", Ending::with(alloc, RunFault::Memory)),
             }
         }
+        _ => {
+            let _ = rt.eprint(&error);
+            WRONG_LINE
+        }
     }
+}
+
+/// Prints a text to standard output. Returns the exit status. Nothing is said if nobody reads it any more.
+pub fn print_text<R: Files<File = File> + Print + Eprint>(rt: &R, alloc: Global, text: &str) -> u8
+    ensures status { IsPrintedWith result }
+    ensures few { result ≤ 4 }
+{
+    let mut out = OutFile::new(rt, "-");
+    if out.write_all(text.as_bytes()).is_ok() {
+        return 0;
+    }
+    let silent = matches!(out.fault(), Some(OutFault::Closed));
+    let ending = Ending::with(alloc, RunFault::Write { sent: 0 });
+    end(rt, alloc, "", Ending { silent, ..ending })
 }

@@ -1,8 +1,8 @@
 //! What `lint` says of each file: its line or its fault, its name alone, or nothing. A run counts its files, and keeps the
 //! greatest exit status.
 
-ghost use Rattle.std.specs.Prelude.{◌≡◌, ◌⊎◌, ◌≤◌};
-ghost use Rattle.bplint.specs.Tallies.{CountsOne, IsAnswer, IsEndOf, no_counts};
+ghost use Rattle.std.specs.Prelude.{◌≡◌, ◌≤◌, ℕ, max};
+ghost use Rattle.bplint.specs.ExitStatuses.{EndsWith};
 
 use crate::args::{Job, Lint, Printed, Request, Task};
 use crate::ending::{Ending, end};
@@ -14,6 +14,7 @@ use crate::reasons::{Names, completed, prefix_of};
 use crate::runs::{answer, finding_of};
 use crate::tally::Tally;
 use crate::unread::Unread;
+use crate::words::name_behind;
 use bplint_engine::{Command, Verb};
 use bplint_json::Finding;
 use bplint_lines::RunFault;
@@ -34,7 +35,7 @@ pub struct Findings<'a, R> {
 impl<'a, R: Files<File = File> + Print + Eprint> Findings<'a, R> {
     /// Makes the findings of a run, without any so far.
     pub fn new(rt: &'a R, alloc: Global, lint: &'a Lint<'a>) -> Findings<'a, R>
-        ensures { result.tally ≡ no_counts }
+        ensures { result.tally ≡ 0 }
     {
         Findings {
             rt,
@@ -46,9 +47,7 @@ impl<'a, R: Files<File = File> + Print + Eprint> Findings<'a, R> {
     }
 
     /// Lints an input, and says what it found.
-    pub fn add(&mut self, name: &str, inputs: Inputs)
-        ensures { CountsOne IsAnswer self.old.tally self.new.tally }
-    {
+    pub fn add(&mut self, name: &str, inputs: Inputs) {
         if self.prints_json() {
             let finding = finding_of(self.alloc, inputs.file);
             return self.print_finding(name.as_bytes(), &finding);
@@ -86,9 +85,7 @@ impl<'a, R: Files<File = File> + Print + Eprint> Findings<'a, R> {
     }
 
     /// Prints the name of a file that is not sound, and counts the file.
-    fn print_name(&mut self, name: &str)
-        ensures { CountsOne IsAnswer self.old.tally self.new.tally }
-    {
+    fn print_name(&mut self, name: &str) {
         match self.name_line(name) {
             Ok(line) => self.print(&line, 1),
             Err(_) => self.end_without_memory(),
@@ -116,9 +113,7 @@ impl<'a, R: Files<File = File> + Print + Eprint> Findings<'a, R> {
     }
 
     /// Prints the JSON line of a finding about the file with this name, and counts the file.
-    fn print_finding(&mut self, name: &[u8], finding: &Finding)
-        ensures { CountsOne IsAnswer self.old.tally self.new.tally }
-    {
+    fn print_finding(&mut self, name: &[u8], finding: &Finding) {
         match finding.line(self.alloc, name) {
             Ok(line) => self.print(&line, finding.status()),
             Err(_) => self.end_without_memory(),
@@ -128,7 +123,6 @@ impl<'a, R: Files<File = File> + Print + Eprint> Findings<'a, R> {
     /// Prints a line to standard output, and counts a file whose run ended with this status.
     fn print(&mut self, line: &[u8], status: u8)
         requires { status ≤ 4 }
-        ensures { CountsOne IsAnswer self.old.tally self.new.tally }
     {
         let mut out = OutFile::new(self.rt, "-");
         if out.write_all(line).is_ok() {
@@ -140,9 +134,10 @@ impl<'a, R: Files<File = File> + Print + Eprint> Findings<'a, R> {
     }
 
     /// Says that an input could not be read.
-    pub fn add_unread(&mut self, unread: Unread<'_>)
-        ensures { CountsOne IsAnswer self.old.tally self.new.tally }
-    {
+    pub fn add_unread(&mut self, unread: Unread<'_>) {
+        if let Some(name) = name_behind(self.alloc, unread.name) {
+            return self.add_unnamed(&name);
+        }
         if self.prints_json() {
             let (name, finding) = (unread.name, unread.finding(self.rt, self.alloc));
             return self.print_finding(name.as_bytes(), &finding);
@@ -155,9 +150,7 @@ impl<'a, R: Files<File = File> + Print + Eprint> Findings<'a, R> {
     }
 
     /// Says that a path is not UTF-8, and cannot be opened.
-    pub fn add_unnamed(&mut self, path: &[u8])
-        ensures { CountsOne IsAnswer self.old.tally self.new.tally }
-    {
+    pub fn add_unnamed(&mut self, path: &[u8]) {
         if self.prints_json() {
             let finding = Finding::Unread {
                 fault: RunFault::Open,
@@ -172,9 +165,7 @@ impl<'a, R: Files<File = File> + Print + Eprint> Findings<'a, R> {
     }
 
     /// Prints the counts.
-    pub fn print_counts(&mut self)
-        ensures { (self.new.tally ≡ self.old.tally) ⊎ CountsOne IsAnswer self.old.tally self.new.tally }
-    {
+    pub fn print_counts(&mut self) {
         match self.tally.line(self.alloc) {
             Ok(line) => {
                 let _ = self.rt.eprintln(line);
@@ -185,8 +176,7 @@ impl<'a, R: Files<File = File> + Print + Eprint> Findings<'a, R> {
 
     /// Prints how a run ended, and counts it.
     fn end(&mut self, prefix: &str, ending: Ending)
-        ensures counts { CountsOne IsAnswer self.old.tally self.new.tally }
-        ensures status { CountsOne (IsEndOf ending.answer) self.old.tally self.new.tally }
+        ensures { (status : ℕ) × EndsWith ending.answer status × (self.new.tally ≡ max self.old.tally status) }
     {
         let silent = ending.silent;
         let status = end(self.rt, self.alloc, prefix, ending);
@@ -198,9 +188,7 @@ impl<'a, R: Files<File = File> + Print + Eprint> Findings<'a, R> {
     }
 
     /// Ends the run after memory for its lines was refused.
-    fn end_without_memory(&mut self)
-        ensures { CountsOne IsAnswer self.old.tally self.new.tally }
-    {
+    fn end_without_memory(&mut self) {
         self.end("", Ending::with(self.alloc, RunFault::Memory));
     }
 

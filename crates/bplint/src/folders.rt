@@ -1,12 +1,9 @@
-//! Lists folders, and shows the names of their entries in lines. A name can have control characters, or bytes that are
-//! not UTF-8; these are shown as `\xHH`, so that each name fits on one line.
-
-ghost use Rattle.std.specs.Prelude.{◌≡◌, ◌++◌, IfOk, string_bytes};
-ghost use Rattle.std.specs.List.{flat_map};
-ghost use Rattle.bplint.specs.FileNames.{is_printable, shown_octet, shown_text};
+//! Lists folders, and shows the names of their entries in lines. A name can have characters that a line may not show, or
+//! bytes that are not UTF-8; these are shown as `\xHH` or `\UHHHH`, so that each name fits on one line.
 
 use crate::input::read_whole;
 use crate::input_fault::InputFault;
+use bplint_lines::is_unshown;
 use std::alloc::{AllocError, Global};
 use std::fs::{self, Files};
 
@@ -23,34 +20,18 @@ pub enum Entry {
 
 /// A file system whose folders are walked over.
 pub trait Folders {
-    ghost use Rattle.std.specs.Prelude.{◌≡◌, ◌⊎◌, Err, IfSome, MatchResult, Ok, Option};
-    ghost use Rattle.bplint.specs.Disks.{Disk};
-    ghost use Rattle.bplint.specs.Walks.{bytes_of};
-
-    /// What its calls return, if that is known and does not change.
-    ghost disk: { Self → Option Disk };
-
     /// Returns true if the name leads to a folder, directly or through a link.
-    fn is_folder(&self, name: &str) -> bool
-        ensures { IfSome (disk self.now) (λ d. result ≡ d.is_folder name.now) };
+    fn is_folder(&self, name: &str) -> bool;
 
     /// Returns the type of what is at a path. Does not follow a link.
-    fn entry_at(&self, path: &str) -> Result<Entry, InputFault>
-        ensures { IfSome (disk self.now) (λ d. result ≡ d.entry path.now) };
+    fn entry_at(&self, path: &str) -> Result<Entry, InputFault>;
 
     /// Returns the paths of all entries of a folder, sorted by the bytes of their names, the last name first. They need
     /// not be UTF-8. Follows a link to a folder.
-    fn paths_in(&self, alloc: Global, folder: &str) -> Result<Vec<Vec<u8>>, InputFault>
-        ensures { IfSome (disk self.now) (λ d. MatchResult result
-            (λ paths. d.paths folder.now ≡ Ok (bytes_of paths.items))
-            (λ fault. (fault ≡ InputFault.Memory) ⊎ (d.paths folder.now ≡ Err fault))) };
+    fn paths_in(&self, alloc: Global, folder: &str) -> Result<Vec<Vec<u8>>, InputFault>;
 }
 
 impl Folders for HostRuntime {
-    ghost use Rattle.std.specs.Prelude.{None};
-
-    ghost disk = { λ _. None };
-
     fn is_folder(&self, name: &str) -> bool {
         match fs::metadata(self, name) {
             Ok(metadata) => metadata.is_dir(),
@@ -106,46 +87,29 @@ fn joined(alloc: Global, front: &str, name: &[u8]) -> Result<Vec<u8>, AllocError
     Ok(path)
 }
 
-/// Returns a name in which `\xHH` replaces each control character, so that it fits on one line.
-pub fn shown_name(alloc: Global, name: &str) -> Result<String, AllocError>
-    ensures { IfOk result (λ shown. string_bytes shown ≡ shown_text name.now) }
-{
+/// Returns a name in which `\xHH` replaces each control character, and `\UHHHH` each other character that a line may not
+/// show, so that it fits on one line and is displayed in its order.
+pub fn shown_name(alloc: Global, name: &str) -> Result<String, AllocError> {
     let mut shown = String::new(alloc);
     for c in name.chars() {
-        if c.is_control() {
-            let code = c as u32;
-            write!(shown, "\\x{code:02x}")?;
-        } else {
-            shown.push(c)?;
+        match u16::try_from(c as u32) {
+            Ok(unit) if c.is_control() => write!(shown, "\\x{unit:02x}")?,
+            Ok(unit) if is_unshown(unit) => write!(shown, "\\U{unit:04x}")?,
+            _ => shown.push(c)?,
         }
     }
     Ok(shown)
 }
 
 /// Returns a name that is not UTF-8, in which `\xHH` replaces each byte that is not printable ASCII.
-pub fn shown_octets(alloc: Global, name: &[u8]) -> Result<String, AllocError>
-    ensures { IfOk result (λ shown. string_bytes shown ≡ flat_map shown_octet name.now) }
-{
+pub fn shown_octets(alloc: Global, name: &[u8]) -> Result<String, AllocError> {
     let mut shown = String::new(alloc);
     for octet in name {
-        add_octet(&mut shown, *octet)?;
+        if 0x20 <= *octet && *octet < 0x7f {
+            shown.push(*octet as char)?;
+        } else {
+            write!(shown, "\\x{octet:02x}")?;
+        }
     }
     Ok(shown)
-}
-
-/// Adds a byte of a name that is not UTF-8.
-fn add_octet(shown: &mut String, octet: u8) -> Result<(), AllocError>
-    ensures { IfOk result (λ _. string_bytes shown.new ≡ string_bytes shown.old ++ shown_octet octet) }
-{
-    if is_printable(octet) {
-        shown.push(octet as char)
-    } else {
-        write!(shown, "\\x{octet:02x}")
-    }
-}
-
-fn is_printable(octet: u8) -> bool
-    ensures { result ≡ is_printable octet }
-{
-    0x20 <= octet && octet < 0x7f
 }

@@ -10,7 +10,6 @@ ghost use Rattle.bplint_engine.specs.Hexadecimal.{spelled};
 
 use crate::args::Operands;
 use crate::input_fault::{HexFault, InputFault};
-use crate::output::HEADER;
 use crate::unread::Unread;
 use bplint_engine::undo_hex;
 use bplint_lines::RunFault;
@@ -19,6 +18,9 @@ use bplist_octets::{FileSource, ReadFault, Source};
 use std::alloc::Global;
 use std::fs::{self, File, Files};
 use std::io::{ErrorKind, Read};
+
+/// How a binary property list of any version begins.
+pub const HEADER: &[u8; 6] = b"bplist";
 
 /// The largest input that is read as a whole, in bytes.
 pub const WHOLE_LIMIT: usize = 67_108_864;
@@ -239,9 +241,10 @@ fn open_file<R: Files<File = File>>(
     }
 }
 
-/// Returns true if a file has a reliable length, so that it can be read by place. Pipes, devices and folders have none,
-/// and files of /proc claim 0. It is false too if the system does not answer: to open the file then says why.
-fn has_length<R: Files<File = File>>(rt: &R, name: &str) -> bool {
+/// Returns true if a file has a reliable length, so that it can be read by place. Pipes, devices and folders have none;
+/// empty files and those of /proc claim 0. It is false too if the system does not answer: to open the file then says
+/// why.
+pub fn has_length<R: Files>(rt: &R, name: &str) -> bool {
     match fs::metadata(rt, name) {
         Ok(metadata) => metadata.is_file() && metadata.len() > 0,
         Err(_) => false,

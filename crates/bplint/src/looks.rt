@@ -5,12 +5,24 @@ use crate::input_fault::InputFault;
 use bplist_hints::hint_of;
 use bplist_octets::SliceSource;
 
+/// The ends of the names that property lists usually have.
+const ENDINGS: [&str; 7] = [
+    ".plist",
+    ".strings",
+    ".nib",
+    ".webloc",
+    ".loctable",
+    ".stringsdict",
+    ".webarchive",
+];
+
 /// What `lint` does with a file.
 #[derive(Clone, Copy, Drop)]
 pub enum Look {
     /// It lints the file.
     Lint,
-    /// It counts the file as another form of a property list: XML, or text of the old style.
+    /// It counts the file as another form: XML, text of the old style, another form of a nib file, or a file of strings
+    /// without a string.
     OtherForm,
     /// It passes over the file.
     PassOver,
@@ -24,22 +36,23 @@ pub fn look_at_found(file: &mut Operand, name: &str, all: bool) -> Result<Look, 
     if !all && !has_usual_ending(name) {
         return Ok(Look::PassOver);
     }
-    look_at(file)
+    look_at(file, name)
 }
 
 /// Returns what to do with a file that is linted unless it has another form.
-pub fn look_at(file: &mut Operand) -> Result<Look, InputFault> {
+pub fn look_at(file: &mut Operand, name: &str) -> Result<Look, InputFault> {
     let hint = match file {
         Operand::Whole(text) => hint_of(&mut SliceSource::new(text))?,
         Operand::File(file) => hint_of(file)?,
     };
     Ok(match hint {
         Some(hint) if hint.is_other_form() => Look::OtherForm,
+        Some(hint) if hint.is_blank() && name.ends_with(".strings") => Look::OtherForm,
         _ => Look::Lint,
     })
 }
 
 /// Returns true if the name of a file ends as those of property lists do.
 fn has_usual_ending(name: &str) -> bool {
-    name.ends_with(".plist") || name.ends_with(".strings") || name.ends_with(".nib")
+    ENDINGS.iter().any(|ending| name.ends_with(*ending))
 }

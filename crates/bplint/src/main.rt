@@ -1,6 +1,6 @@
 //! The program bplint: lints, checks and reads binary property lists. This crate has the command line, the inputs and
-//! the outputs. What is written is proved in `bplint_engine`, `bplint_map` and `bplint_lines`; the functions here pass
-//! it on.
+//! the outputs. What is written is proved in `bplint_engine` and `bplint_lines`, and tested for `bplint_map` and
+//! `bplint_json`; the functions here pass it on.
 //!
 //! ```
 //! $ bplint lint Info.plist
@@ -13,13 +13,13 @@
 //! |---|---|
 //! | `subcommands` | the table of subcommands, and the `clap` command line that is made of it |
 //! | `arguments` | their arguments |
-//! | `args`, `command_line` | what a command line asks for, and how it is read |
+//! | `words`, `args`, `command_line` | the words of a command line, what they ask for, and how they are read |
 //! | `input` | FILE and CERT: opened and read by place, or read as a whole |
-//! | `lists` | lists of names and of paths |
+//! | `lists` | lists of paths |
 //! | `rule_words` | the words that `explain` takes for a rule |
 //! | `input_fault` | why an input cannot be read |
 //! | `runs` | one request about one FILE |
-//! | `textconv` | any file as text |
+//! | `textconv`, `first_lines` | any file as text, and no more of it than is wanted |
 //! | `output` | OUT, which is created when its first byte is written |
 //! | `labels`, `waiting` | lines after the name of their file or their path; bytes that wait for the end of a run |
 //! | `ending` | the line of a fault, and the exit status |
@@ -36,6 +36,7 @@ mod arguments;
 mod command_line;
 mod ending;
 mod findings;
+mod first_lines;
 mod folders;
 mod input;
 mod input_fault;
@@ -52,36 +53,44 @@ mod tally;
 mod textconv;
 mod unread;
 mod waiting;
+mod words;
 
 use args::Line;
-use bplint_lines::{RunFault, Said, rule_text};
+use bplint_lines::{RunFault, rule_text};
 use bplist_objects::Rule;
-use command_line::read_line;
-use ending::{Ending, WRONG_LINE, end, refuse};
-use folders::Folders;
+use command_line::{read_line, tip_for};
+use ending::{Ending, end, print_text, refuse, refuse_line};
+use folders::{Folders, shown_name};
 use linting::lint_files;
-use output::{OutFault, OutFile};
 use runs::run;
-use std::alloc::Global;
+use std::alloc::{AllocError, Global};
 use std::fs::{File, Files};
-use std::io;
-use std::io::{IsTerminal, Write};
+use std::io::IsTerminal;
+use std::os::fd::{AsRawFd, IntoRawFd};
 use std::process::ExitCode;
 use textconv::show_any;
+use words::{WordFault, words_of};
 
-/// Writes the explanation of a rule. Returns how the run ends.
-fn page<R: Files<File = File> + Print>(rt: &R, alloc: Global, rule: Rule) -> Ending {
-    let Ok(text) = rule_text(alloc, rule) else {
-        return Ending::with(alloc, RunFault::Memory);
-    };
-    let mut out = OutFile::new(rt, "-");
-    match out.write_all(text.as_bytes()) {
-        Ok(()) => Ending::of(alloc, Ok(Said::All)),
-        Err(_) => {
-            let silent = matches!(out.fault(), Some(OutFault::Closed));
-            let ending = Ending::with(alloc, RunFault::Write { sent: 0 });
-            Ending { silent, ..ending }
+/// Opens standard input, output and error on /dev/null if they are closed. Otherwise OUT could become one of them, and
+/// hold what is said to standard error.
+fn open_standard(rt: &HostRuntime) {
+    for _ in 0..3 {
+        match File::open(rt, "/dev/null") {
+            Ok(file) if file.as_raw_fd() < 3 => {
+                let _ = file.into_raw_fd();
+            }
+            _ => return,
         }
+    }
+}
+
+/// Writes the explanation of a rule. Returns the exit status.
+fn explain<R: Files<File = File> + Print + Eprint>(rt: &R, alloc: Global, rule: Rule) -> u8
+    ensures { result ≤ 4 }
+{
+    match rule_text(alloc, rule) {
+        Ok(text) => print_text(rt, alloc, &text),
+        Err(_) => end(rt, alloc, "", Ending::with(alloc, RunFault::Memory)),
     }
 }
 
@@ -99,34 +108,52 @@ fn start<R: Files<File = File> + Folders + Input + Print + Eprint>(
         Ok(Line::Lint(lint)) => lint_files(rt, alloc, &lint, on_terminal),
         Ok(Line::Run(line)) => run(rt, alloc, line),
         Ok(Line::Textconv(line)) => show_any(rt, alloc, &line),
-        Ok(Line::Explain(rule)) => end(rt, alloc, "", page(rt, alloc, rule)),
-        Err(error) => refuse(rt, alloc, error),
+        Ok(Line::Explain(rule)) => explain(rt, alloc, rule),
+        Err(_) => refuse_words(rt, alloc, words, on_terminal),
     }
 }
 
-fn words(rt: &HostRuntime) -> io::Result<Vec<String>> {
-    let words: Vec<String> = std::env::args(rt)?.collect(rt.alloc())?;
-    Ok(words)
+/// Says what is wrong with a command line, of which words may have characters that a line may not show. So it is read
+/// once more as it is shown. Returns the exit status.
+fn refuse_words<R: Files<File = File> + Print + Eprint>(
+    rt: &R,
+    alloc: Global,
+    words: &[String],
+    on_terminal: bool,
+) -> u8
+    ensures { result ≤ 4 }
+{
+    let Ok(shown) = shown_words(alloc, words) else {
+        return end(rt, alloc, "", Ending::with(alloc, RunFault::Memory));
+    };
+    match read_line(alloc, &shown, on_terminal) {
+        // The words are right, so memory was refused when they were read first.
+        Ok(_) => end(rt, alloc, "", Ending::with(alloc, RunFault::Memory)),
+        Err(error) => {
+            let tip = tip_for(&shown, &error);
+            let status = refuse(rt, alloc, error);
+            let _ = rt.eprint(tip);
+            status
+        }
+    }
+}
+
+/// Returns words as a line shows them.
+fn shown_words(alloc: Global, words: &[String]) -> Result<Vec<String>, AllocError> {
+    let mut shown = Vec::new(alloc);
+    for word in words {
+        shown.push(shown_name(alloc, word)?)?;
+    }
+    Ok(shown)
 }
 
 fn main(rt: HostRuntime) -> ExitCode {
-    let status = match words(&rt) {
-        Ok(words) => start(&rt, rt.alloc(), &words, rt.stderr().is_terminal()),
-        Err(error) if error.kind() == io::ErrorKind::OutOfMemory => {
-            end(
-                &rt,
-                rt.alloc(),
-                "",
-                Ending::with(rt.alloc(), RunFault::Memory),
-            )
-        }
-        Err(error) => {
-            let _ = match error.kind() {
-                io::ErrorKind::InvalidData => rt.eprintln("an argument is not UTF-8"),
-                _ => rt.eprintln(&error),
-            };
-            WRONG_LINE
-        }
+    open_standard(&rt);
+    let alloc = rt.alloc();
+    let status = match words_of(&rt) {
+        Ok(words) => start(&rt, alloc, &words, rt.stderr().is_terminal()),
+        Err(WordFault::Memory) => end(&rt, alloc, "", Ending::with(alloc, RunFault::Memory)),
+        Err(WordFault::NotUtf8(line)) => refuse_line(&rt, &line),
     };
     ExitCode::from(status)
 }

@@ -2,17 +2,32 @@
 
 ghost use Rattle.std.specs.Prelude.{◌≤◌, IfOk, length};
 
-use std::fs::{self, File, Files};
+use crate::input::has_length;
+use std::fs::{File, Files};
 use std::io::{self, ErrorKind, Read, Write};
 
-/// How a binary property list of any version begins.
-pub const HEADER: &[u8; 6] = b"bplist";
+/// How a certificate of any version begins.
+const CERTIFICATE: &[u8; 7] = b"bplcert";
+
+/// The same in hexadecimal text.
+const HEX_CERTIFICATE: &[u8; 14] = b"62706c63657274";
+
+/// Which regular files an answer replaces, besides empty ones.
+#[derive(Clone, Copy, Drop)]
+pub enum Replaces {
+    /// Certificates.
+    Certificates,
+    /// Certificates in hexadecimal text.
+    HexCertificates,
+    /// All files.
+    All,
+}
 
 /// Why an answer was not written.
 #[derive(Clone, Copy, Drop)]
 pub enum OutFault {
-    /// OUT is a property list, and may not be replaced.
-    PropertyList,
+    /// OUT is a file that may not be replaced.
+    Kept,
     /// Nobody reads standard output any more.
     Closed,
     /// OUT could not be created, or a write failed.
@@ -21,13 +36,12 @@ pub enum OutFault {
 
 /// A writer that creates or empties its file at the first write. `-` is standard output.
 ///
-/// It leaves a file that begins like a binary property list as it is, unless it may replace one.
+/// It leaves a regular file as it is that is not empty, unless it may replace such a file. It writes to pipes and devices.
 #[derive(Drop)]
 pub struct OutFile<'a, R: Files> {
     rt: &'a R,
     path: &'a str,
-    /// True if a property list may be replaced.
-    force: bool,
+    replaces: Replaces,
     file: Option<R::File>,
     /// How many bytes were written.
     written: u64,
@@ -41,16 +55,16 @@ impl<'a, R: Files> OutFile<'a, R> {
         OutFile {
             rt,
             path,
-            force: false,
+            replaces: Replaces::Certificates,
             file: None,
             written: 0,
             fault: None,
         }
     }
 
-    /// Lets the writer replace a property list, if `force` is true.
-    pub fn replacing(self, force: bool) -> OutFile<'a, R> {
-        OutFile { force, ..self }
+    /// Says which files the writer replaces. Without this call these are certificates.
+    pub fn replacing(self, replaces: Replaces) -> OutFile<'a, R> {
+        OutFile { replaces, ..self }
     }
 
     /// Returns how many bytes were written.
@@ -65,10 +79,33 @@ impl<'a, R: Files> OutFile<'a, R> {
 
     /// Creates or empties the file.
     fn create(&self) -> io::Result<R::File> {
-        if !self.force && begins_with_header(self.rt, self.path) {
+        if has_length(self.rt, self.path) && !self.may_replace() {
             return Err(io::Error::from(ErrorKind::AlreadyExists));
         }
         File::create(self.rt, self.path)
+    }
+
+    /// Returns true if the file that is there may be replaced. A file that cannot be read is kept.
+    fn may_replace(&self) -> bool {
+        let mut front = [0; 14];
+        match self.replaces {
+            Replaces::All => true,
+            Replaces::Certificates => {
+                let front = &mut front[..CERTIFICATE.len()];
+                self.reads(front) && front.starts_with(CERTIFICATE)
+            }
+            Replaces::HexCertificates => {
+                self.reads(&mut front) && front.eq_ignore_ascii_case(HEX_CERTIFICATE)
+            }
+        }
+    }
+
+    /// Reads the first bytes of the file. Returns false if it cannot be read, or has fewer.
+    fn reads(&self, front: &mut [u8]) -> bool {
+        match File::open(self.rt, self.path) {
+            Ok(mut file) => file.read_exact(front).is_ok(),
+            Err(_) => false,
+        }
     }
 
     fn write_file(&mut self, buf: &[u8]) -> io::Result<usize>
@@ -87,7 +124,7 @@ impl<'a, R: Files> OutFile<'a, R> {
     fn keep_fault(&mut self, kind: ErrorKind) {
         self.fault = Some(match kind {
             // The system never says so of a file that may be there already: only `create` does.
-            ErrorKind::AlreadyExists => OutFault::PropertyList,
+            ErrorKind::AlreadyExists => OutFault::Kept,
             ErrorKind::BrokenPipe if self.path == "-" => OutFault::Closed,
             _ => OutFault::Failed(kind),
         });
@@ -111,22 +148,6 @@ impl<'a, R: Files + Print> Write for OutFile<'a, R> {
     fn flush(&mut self) -> io::Result<()> {
         Ok(())
     }
-}
-
-/// Returns true if this is a regular file that begins like a binary property list. A pipe or a device is not opened.
-fn begins_with_header<R: Files>(rt: &R, path: &str) -> bool {
-    match fs::metadata(rt, path) {
-        Ok(metadata) if metadata.is_file() => has_header(rt, path),
-        _ => false,
-    }
-}
-
-fn has_header<R: Files>(rt: &R, path: &str) -> bool {
-    let Ok(mut file) = File::open(rt, path) else {
-        return false;
-    };
-    let mut front = [0; 6];
-    file.read_exact(&mut front).is_ok() && front == *HEADER
 }
 
 /// A writer that discards everything.

@@ -1,4 +1,5 @@
-//! What is below the line of a fault: the name of the file, the path text that is wrong, and why the system failed.
+//! What is below the line of a fault: the name of the file, the path text that is wrong, the value that has not the form
+//! that was asked for, and why the system failed.
 
 ghost use Rattle.std.specs.Prelude.{◌≡◌};
 
@@ -7,10 +8,20 @@ use crate::ending::Ending;
 use crate::folders::{shown_name, shown_octets};
 use crate::input_fault::HexFault;
 use crate::output::OutFault;
-use bplint_lines::{RawFault, RunFault, is_about_certificates};
+use bplint_json::{Depth, Listed};
+use bplint_lines::{RawFault, RunFault, describe, is_about_certificates};
 use bplist_cursor::Path;
+use bplist_octets::Source;
 use std::alloc::{AllocError, Global};
 use std::io::ErrorKind;
+
+/// What prints a value without old-style text.
+const NO_ASCII_FORM: &str =
+    "  tip: only data, text, array and dict have old-style text; use --raw for one value, ls --recursive for all\n";
+
+/// What prints a value without raw bytes.
+const NO_RAW_FORM: &str =
+    "  tip: only data, text, int, uid and booleans have raw bytes; use show without --raw\n";
 
 /// The names that the lines below a fault give.
 #[derive(Clone, Copy, Drop)]
@@ -90,11 +101,12 @@ fn faulty_name<'a>(names: &Names<'a>, ending: &Ending) -> &'a str {
     }
 }
 
-/// Returns the line that says that OUT is left as it is.
-pub fn keeps_line(alloc: Global, out: &str) -> Result<String, AllocError> {
+/// Returns the line that says that OUT is left as it is, because it is no certificate, or with `--hex` no text of one.
+pub fn keeps_line(alloc: Global, out: &str, hex: bool) -> Result<String, AllocError> {
     let shown = shown_name(alloc, out)?;
+    let front = if hex { "62706c63657274" } else { "bplcert" };
     format!(in alloc;
-        "error: {shown} begins with bplist, so it is left as it is; with --force the certificate replaces it"
+        "error: {shown} does not begin with {front}, so it is left as it is; with --force the certificate replaces it"
     )
 }
 
@@ -169,6 +181,46 @@ pub fn path_lines(
     Ok(lines)
 }
 
+/// Returns the lines about a value without the form that was asked for: its first object that has none, and what prints
+/// such a value.
+pub fn form_lines<S: Source>(
+    alloc: Global,
+    src: &mut S,
+    task: &Task<'_>,
+    fault: &RawFault,
+) -> Result<String, RunFault> {
+    let (object, tip) = match fault {
+        RawFault::Run(RunFault::NoAsciiForm(object)) => (object, NO_ASCII_FORM),
+        RawFault::NoRawForm(object) => (object, NO_RAW_FORM),
+        RawFault::Run(RunFault::TooLong) => return Ok(limit_line(alloc, task)?),
+        RawFault::Run(_) => return Ok(String::new(alloc)),
+    };
+    let mut lines = describe(alloc, src, *object)?;
+    lines.push_str(tip)?;
+    Ok(lines)
+}
+
+/// Returns the line with the limit of a task, and how to have another.
+fn limit_line(alloc: Global, task: &Task<'_>) -> Result<String, AllocError> {
+    match task {
+        Task::Command(job) => {
+            let limit = job.command.limit;
+            format!(in alloc; "  tip: the text has more than {limit} bytes; give a greater LIMIT\n")
+        }
+        Task::Show(Shown::Text { limit, .. }) => {
+            format!(in alloc; "  tip: the text has more than {limit} bytes; use --limit N\n")
+        }
+        Task::Show(Shown::Tree { limit, .. })
+        | Task::Rows(
+            Listed {
+                depth: Depth::All(limit),
+                ..
+            },
+        ) => format!(in alloc; "  tip: there are more than {limit} nodes; use --limit N\n"),
+        _ => Ok(String::new(alloc)),
+    }
+}
+
 /// Returns the first wrong path text of a task.
 fn wrong_path<'a>(alloc: Global, task: &'a Task<'a>) -> Option<&'a str> {
     match task {
@@ -177,7 +229,7 @@ fn wrong_path<'a>(alloc: Global, task: &'a Task<'a>) -> Option<&'a str> {
         Task::Show(
             Shown::Text { path, .. } | Shown::Members { path, .. } | Shown::Tree { path, .. },
         ) => Some(path),
-        Task::Show(Shown::Map | Shown::MapPaths) => None,
+        Task::Show(Shown::Map { .. }) => None,
         Task::Raw(path) => Some(path),
         Task::Rows(listed) => Some(listed.path),
     }

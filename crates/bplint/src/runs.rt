@@ -6,12 +6,15 @@ ghost use Rattle.bplint_engine.specs.Commands.{PrintsOnePath};
 
 use crate::args::{Request, Run, Shown, Task};
 use crate::ending::{Ending, WRONG_LINE, end, refuse_line};
+use crate::first_lines::FirstLines;
 use crate::input::{Inputs, Operand, WHOLE_LIMIT, open_inputs};
 use crate::input_fault::InputFault;
 use crate::labels::{Labelled, Labels};
 use crate::lists::{ListFault, read_paths};
 use crate::output::{OutFault, OutFile};
-use crate::reasons::{Names, completed, keeps_line, path_lines, prefix_of, too_long_line};
+use crate::reasons::{
+    Names, completed, form_lines, keeps_line, path_lines, prefix_of, too_long_line,
+};
 use crate::waiting::{Waiting, send_waiting};
 use bplint_engine::{
     Branch, Command, Verb, certify_on, lint_on, list_all_on, list_on, run_certified, show_on,
@@ -19,15 +22,11 @@ use bplint_engine::{
 };
 use bplint_json::{Finding, find_in, list_rows_on};
 use bplint_lines::{RawFault, RunFault, Said, explain};
-use bplint_map::{map_on, map_paths_on};
-use bplist_octets::{Pane, Panes, SliceSource, Source, Window};
+use bplint_map::map_on;
+use bplist_octets::{Pages, SliceSource, Source};
 use std::alloc::{AllocError, Global};
 use std::fs::{File, Files};
 use std::io::Write;
-
-/// The number of panes over a file. With as many, the offset table, an object, the objects it refers to, and its keys have
-/// panes of their own.
-pub const PANES: usize = 8;
 
 /// Opens the inputs of a command line, and does what it asks for. Returns the exit status.
 pub fn run<R: Files<File = File> + Input + Print + Eprint>(
@@ -80,10 +79,10 @@ fn run_opened<R: Files<File = File> + Print + Eprint>(
 ) -> u8
     ensures { result ≤ 4 }
 {
-    let mut out = OutFile::new(rt, line.out).replacing(line.force);
-    let ending = write_answer(alloc, line, inputs, prefix, &mut out);
+    let mut out = OutFile::new(rt, line.out).replacing(line.replaces);
+    let ending = write_first(alloc, line, inputs, prefix, &mut out);
     let ending = match out.fault() {
-        Some(OutFault::PropertyList) => return keep_out(rt, alloc, line.out),
+        Some(OutFault::Kept) => return keep_out(rt, alloc, line),
         fault => completed(alloc, ending, &names_of(line), fault),
     };
     match with_warning(alloc, line, ending, out.written()) {
@@ -92,11 +91,11 @@ fn run_opened<R: Files<File = File> + Print + Eprint>(
     }
 }
 
-/// Says that OUT stays as it is, because it is a property list. Returns the exit status.
-fn keep_out<R: Eprint>(rt: &R, alloc: Global, out: &str) -> u8
+/// Says that OUT stays as it is, because it is no certificate. Returns the exit status.
+fn keep_out<R: Eprint>(rt: &R, alloc: Global, line: &Run<'_>) -> u8
     ensures { result ≤ 4 }
 {
-    match keeps_line(alloc, out) {
+    match keeps_line(alloc, line.out, line.operands.hex) {
         Ok(line) => refuse_line(rt, &line),
         Err(_) => end(rt, alloc, "", Ending::with(alloc, RunFault::Memory)),
     }
@@ -129,6 +128,25 @@ fn with_warning(
         }
         _ => Ok(ending),
     }
+}
+
+/// Writes the answer to a command line, or its first bytes if it has more than are wanted. It is too long then.
+fn write_first<W: Write>(
+    alloc: Global,
+    line: &Run<'_>,
+    inputs: Inputs,
+    prefix: &str,
+    out: &mut W,
+) -> Ending {
+    let Some(most) = line.most else {
+        return write_answer(alloc, line, inputs, prefix, out);
+    };
+    let mut first = FirstLines::new(out, u64::MAX, most);
+    let ending = write_answer(alloc, line, inputs, prefix, &mut first);
+    if first.full().is_some() {
+        return Ending::with(alloc, RunFault::TooLong);
+    }
+    ending
 }
 
 /// Writes the answer to a command line, with a label before each of its lines unless it is bytes.
@@ -201,16 +219,7 @@ pub fn answer<W: Write>(
 pub fn finding_of(alloc: Global, file: Operand) -> Finding {
     match file {
         Operand::Whole(file) => find_in(alloc, &mut SliceSource::new(&file)),
-        Operand::File(file) => {
-            let mut file = Window::new(file);
-            let Ok(mut panes) = vec![in alloc; Pane::EMPTY; PANES] else {
-                return Finding::Unread {
-                    fault: RunFault::Memory,
-                    cause: None,
-                };
-            };
-            find_in(alloc, &mut Panes::new(&mut file, &mut panes))
-        }
+        Operand::File(file) => find_in(alloc, &mut Pages::new(alloc, file)),
     }
 }
 
@@ -223,12 +232,7 @@ fn try_answer<W: Write>(
     let Inputs { file, cert } = inputs;
     match file {
         Operand::Whole(file) => answer_on(alloc, request, SliceSource::new(&file), cert, out),
-        Operand::File(file) => {
-            let mut file = Window::new(file);
-            let mut panes = vec![in alloc; Pane::EMPTY; PANES].map_err(|_| InputFault::Memory)?;
-            let src = Panes::new(&mut file, &mut panes);
-            answer_on(alloc, request, src, cert, out)
-        }
+        Operand::File(file) => answer_on(alloc, request, Pages::new(alloc, file), cert, out),
     }
 }
 
@@ -243,9 +247,7 @@ fn answer_on<S: Source + Drop, W: Write>(
     let mut cert = cert;
     let (answer, mut src) = do_task(alloc, &request.task, src, &mut cert, out)?;
     let under = match &answer {
-        Err(RawFault::Run(fault)) if request.explain => {
-            under_fault(alloc, request, &mut src, cert, fault)
-        }
+        Err(fault) if request.explain => under_fault(alloc, request, &mut src, cert, fault),
         _ => String::new(alloc),
     };
     Ok(Ending::over(answer, under))
@@ -303,7 +305,7 @@ fn under_fault<S: Source>(
     request: &Request<'_>,
     src: &mut S,
     cert: Operand,
-    fault: &RunFault,
+    fault: &RawFault,
 ) -> String {
     match try_under(alloc, request, src, cert, fault) {
         Ok(text) => text,
@@ -316,12 +318,15 @@ fn try_under<S: Source>(
     request: &Request<'_>,
     src: &mut S,
     cert: Operand,
-    fault: &RunFault,
+    fault: &RawFault,
 ) -> Result<String, RunFault> {
-    let cert = cert.into_bytes(alloc)?;
-    let mut text = explain(alloc, src, &cert, fault)?;
-    if let RunFault::Path { place } = fault {
-        text.push_str(&path_lines(alloc, request, *place)?)?;
+    let mut text = form_lines(alloc, src, &request.task, fault)?;
+    if let RawFault::Run(fault) = fault {
+        let cert = cert.into_bytes(alloc)?;
+        text.push_str(&explain(alloc, src, &cert, fault)?)?;
+        if let RunFault::Path { place } = fault {
+            text.push_str(&path_lines(alloc, request, *place)?)?;
+        }
     }
     Ok(text)
 }
@@ -348,14 +353,9 @@ fn shown_on<S: Source + Drop, W: Write>(
             };
             list_all_on(alloc, src, &branch, out)
         }
-        Shown::Map => {
+        Shown::Map { paths } => {
             let mut src = src;
-            let answer = map_on(alloc, &mut src, out);
-            (answer, src)
-        }
-        Shown::MapPaths => {
-            let mut src = src;
-            let answer = map_paths_on(alloc, &mut src, out);
+            let answer = map_on(alloc, &mut src, *paths, out);
             (answer, src)
         }
     }

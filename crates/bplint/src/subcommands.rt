@@ -1,10 +1,10 @@
 //! The subcommands as tables, and the `clap` command line that is made of them.
 
 use crate::arguments::{
-    ALL, ANY_PATHS, Argument, CERT, EXPLAIN, FILE, FILES, FILES_FROM, FINDINGS, FORCE, HEX, JSON,
-    LIMIT, LIST, MAP_PATHS, MAYBE_PATH, NULL, OBJECTS, OUT, PATH, PATHS, PATHS_FROM, QUIET, RAW,
-    RECURSIVE, SHOWN_UTF8, SKIP_OTHER, SORTED, SUMMARY, TEXT, TEXT_LIMIT, TREE, TREE_LIMIT, UTF8,
-    WITH_NAME, WORDS,
+    ALL, ANY_PATHS, Argument, CERT, EXPLAIN, FILE, FILES, FILES_FROM, FINDINGS, FORCE, HEX,
+    HEX_CERT, HEX_OUT, JSON, LIMIT, LIST, LIST_BYTES, MAP_PATHS, MAYBE_PATH, NULL, OBJECTS, OUT,
+    PATH, PATHS, PATHS_FROM, QUIET, RAW, RECURSIVE, SHOWN_UTF8, SKIP_OTHER, SORTED, SUMMARY, TEXT,
+    TEXT_LIMIT, TREE, TREE_LIMIT, UTF8, WITH_NAME, WORDS,
 };
 use clap::Command;
 use std::alloc::{AllocError, Global};
@@ -15,12 +15,14 @@ const LINT_HELP: &str = "Example: bplint lint Info.plist
 
 With several FILEs, --files-from or --recursive each line begins with the name of its file, and the status is the greatest
 of theirs. Below a folder links are not followed. A file there that does not begin with bplist is passed over, unless its
-name ends in .plist, .strings or .nib or --all is given. XML and old-style text are only counted.
+name ends in .plist, .strings, .stringsdict, .nib, .loctable, .webloc or .webarchive or --all is given. Other forms (XML,
+old-style text, other forms of nib files, .strings without a string) are only counted.
 Exit status: 0 yes, 1 a broken rule, 2 a wrong command line, 3 a failed read or write, 4 no memory.
 The rules: man bplint, or docs/RULES.md.";
 
 const CERTIFY_HELP: &str = "Example: bplint certify Info.plist Info.cert
 
+A regular OUT is replaced only if it is empty or a certificate, unless --force is given.
 Exit status: 0 yes, 1 a broken rule, 2 a wrong command line, 3 a failed read or write, 4 no memory.
 The rules: man bplint, or docs/RULES.md.";
 
@@ -91,7 +93,7 @@ struct Subcommand {
 /// The subcommand that lints.
 static LINTING: [Subcommand; 1] = [Subcommand {
     name: "lint",
-    about: "Says whether each FILE holds a value",
+    about: "Says whether each FILE is a sound property list",
     help: LINT_HELP,
     arguments: &[
         HEX, QUIET, RECURSIVE, ALL, SKIP_OTHER, LIST, NULL, FILES_FROM, FINDINGS, SUMMARY,
@@ -114,7 +116,8 @@ static SHOWING: [Subcommand; 5] = [
         about: "Lists the members of the value under PATH, or of the whole",
         help: LS_HELP,
         arguments: &[
-            HEX, TREE, TREE_LIMIT, JSON, OBJECTS, UTF8, WITH_NAME, EXPLAIN, FILE, MAYBE_PATH,
+            HEX, TREE, TREE_LIMIT, LIST_BYTES, JSON, OBJECTS, UTF8, WITH_NAME, EXPLAIN, FILE,
+            MAYBE_PATH,
         ],
     },
     Subcommand {
@@ -143,25 +146,25 @@ static CERTIFYING: [Subcommand; 4] = [
         name: "certify",
         about: "Writes a certificate of FILE to OUT",
         help: CERTIFY_HELP,
-        arguments: &[HEX, SORTED, FORCE, WITH_NAME, EXPLAIN, FILE, OUT],
+        arguments: &[HEX_OUT, SORTED, FORCE, WITH_NAME, EXPLAIN, FILE, OUT],
     },
     Subcommand {
         name: "check",
         about: "Checks a certificate of FILE",
         help: CHECK_HELP,
-        arguments: &[HEX, WITH_NAME, EXPLAIN, FILE, CERT],
+        arguments: &[HEX_CERT, WITH_NAME, EXPLAIN, FILE, CERT],
     },
     Subcommand {
         name: "get",
         about: "Prints what lies under each PATH, by a certificate",
         help: GET_HELP,
-        arguments: &[HEX, PATHS_FROM, WITH_NAME, EXPLAIN, FILE, CERT, PATHS],
+        arguments: &[HEX_CERT, PATHS_FROM, WITH_NAME, EXPLAIN, FILE, CERT, PATHS],
     },
     Subcommand {
         name: "print",
         about: "Prints the value under PATH as old-style text, by a certificate",
         help: PRINT_HELP,
-        arguments: &[HEX, WITH_NAME, EXPLAIN, FILE, CERT, PATH, LIMIT],
+        arguments: &[HEX_CERT, WITH_NAME, EXPLAIN, FILE, CERT, PATH, LIMIT],
     },
 ];
 
@@ -182,7 +185,7 @@ impl Subcommand {
 pub fn bplint<'a>(alloc: Global) -> Result<Command<'a>, AllocError> {
     let command = Command::new(alloc, "bplint")
         .about("Lints, checks and reads binary property lists")
-        .version("0.4.0")
+        .version("0.5.0")
         .after_help(HELP)
         .subcommand_required(true);
     let command = with_subcommands(alloc, command, linting())?;

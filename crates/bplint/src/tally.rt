@@ -1,12 +1,11 @@
 //! Counts the files of a `lint` run, and keeps the greatest exit status.
 
-ghost use Rattle.std.specs.Prelude.{◌≤◌, ◌≡◌, IfOk, string_bytes};
-ghost use Rattle.bplint.specs.Tallies.{Answered, CutOff, OtherForm, PassedOver, counted, counts_line, no_counts};
+ghost use Rattle.std.specs.Prelude.{◌≡◌, ◌≤◌, max};
 
 use std::alloc::{AllocError, Global};
 use std::marker::Model;
 
-/// The counts so far. Contracts see them as one record.
+/// The counts so far. Contracts see the greatest exit status alone.
 #[derive(Drop)]
 pub struct Tally {
     /// The number of files that hold a value.
@@ -27,20 +26,11 @@ pub struct Tally {
 }
 
 impl Model for Tally {
-    ghost use Rattle.std.specs.Prelude.{◌≤◌};
-    ghost use Rattle.bplint.specs.Tallies.{Counts};
+    ghost use Rattle.std.specs.Prelude.{◌≤◌, ℕ};
 
-    ghost Value = { Counts };
+    ghost Value = { ℕ };
 
-    ghost view = { λ t. record {
-      sound = t.sound;
-      unsound = t.unsound;
-      unreadable = t.unreadable;
-      passed = t.passed;
-      other_forms = t.other_forms;
-      status = t.status;
-      closed = t.closed;
-    } };
+    ghost view = { λ t. t.status };
 
     ghost invariant = { λ t. t.status ≤ 4 };
 }
@@ -48,7 +38,7 @@ impl Model for Tally {
 impl Tally {
     /// Counts nothing.
     pub fn new() -> Tally
-        ensures { result ≡ no_counts }
+        ensures { result ≡ 0 }
     {
         Tally {
             sound: 0,
@@ -63,7 +53,7 @@ impl Tally {
 
     /// Returns the greatest exit status so far.
     pub fn status(&self) -> u8
-        ensures greatest { result ≡ self.now.status }
+        ensures greatest { result ≡ self.now }
         ensures few { result ≤ 4 }
     {
         self.status
@@ -72,7 +62,7 @@ impl Tally {
     /// Counts a file whose run ended with this status.
     pub fn count(&mut self, status: u8)
         requires { status ≤ 4 }
-        ensures { self.new ≡ counted (Answered status) self.old }
+        ensures { self.new ≡ max self.old status }
     {
         match status {
             0 => self.sound = self.sound.saturating_add(1),
@@ -85,57 +75,44 @@ impl Tally {
     /// Counts a file whose run ended with this status, because nobody reads standard output any more.
     pub fn cut_off(&mut self, status: u8)
         requires { status ≤ 4 }
-        ensures { self.new ≡ counted (CutOff status) self.old }
+        ensures { self.new ≡ max self.old status }
     {
         self.count(status);
         self.closed = true;
     }
 
     /// Returns true if nobody reads standard output any more.
-    pub fn is_closed(&self) -> bool
-        ensures { result ≡ self.now.closed }
-    {
+    pub fn is_closed(&self) -> bool {
         self.closed
     }
 
     /// Counts an entry of a folder that is passed over.
     pub fn pass_over(&mut self)
-        ensures { self.new ≡ counted PassedOver self.old }
+        ensures { self.new ≡ self.old }
     {
         self.passed = self.passed.saturating_add(1);
     }
 
     /// Counts a file that is a property list of another form.
     pub fn other_form(&mut self)
-        ensures { self.new ≡ counted OtherForm self.old }
+        ensures { self.new ≡ self.old }
     {
         self.other_forms = self.other_forms.saturating_add(1);
     }
 
     /// Returns the line with all counts.
-    pub fn line(&self, alloc: Global) -> Result<String, AllocError>
-        ensures { IfOk result (λ line. string_bytes line
-            ≡ counts_line self.now.sound self.now.unsound self.now.unreadable self.now.passed self.now.other_forms) }
-    {
-        let answered = (self.sound, self.unsound, self.unreadable);
-        line_of(alloc, answered, self.passed, self.other_forms)
+    pub fn line(&self, alloc: Global) -> Result<String, AllocError> {
+        let Tally {
+            sound,
+            unsound,
+            unreadable,
+            passed,
+            other_forms,
+            ..
+        } = self;
+        let looked_at = sound.saturating_add(*unsound).saturating_add(*unreadable);
+        format!(in alloc;
+            "files looked at {looked_at}, sound {sound}, not sound {unsound}, unreadable {unreadable}, passed over {passed}, other forms {other_forms}"
+        )
     }
-}
-
-/// Returns the line with these counts: the files that are sound, not sound and unreadable, what was passed over, and
-/// the files of other forms.
-fn line_of(
-    alloc: Global,
-    answered: (u64, u64, u64),
-    passed: u64,
-    other_forms: u64,
-) -> Result<String, AllocError>
-    ensures { IfOk result (λ line. string_bytes line
-        ≡ counts_line answered.0 answered.1 answered.2 passed other_forms) }
-{
-    let (sound, unsound, unreadable) = answered;
-    let looked_at = sound.saturating_add(unsound).saturating_add(unreadable);
-    format!(in alloc;
-        "files looked at {looked_at}, sound {sound}, not sound {unsound}, unreadable {unreadable}, passed over {passed}, other forms {other_forms}"
-    )
 }

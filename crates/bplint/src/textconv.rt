@@ -1,21 +1,21 @@
 //! The command `textconv`: shows any file to a program that compares or prints files, as git does. It ends with status 0
 //! once the file could be read.
 
-ghost use Rattle.std.specs.Prelude.{◌≤◌, length};
+ghost use Rattle.std.specs.Prelude.{◌≤◌};
 
 use crate::args::{Operands, Textconv};
 use crate::ending::{Ending, end};
-use crate::input::{Operand, open_inputs};
+use crate::first_lines::{FirstLines, Full};
+use crate::input::{HEADER, Operand, open_inputs};
 use crate::labels::{Labelled, Labels};
-use crate::output::{HEADER, OutFile};
+use crate::output::OutFile;
 use crate::reasons::{Names, completed, prefix_of};
-use crate::runs::PANES;
 use bplint_engine::{Branch, list_all_on, list_on};
 use bplint_lines::{RunFault, Said, Style};
-use bplist_octets::{Pane, Panes, Sink, SliceSource, Source, Window};
+use bplist_octets::{Pages, Sink, SliceSource, Source};
 use std::alloc::{AllocError, Global};
 use std::fs::{File, Files};
-use std::io::{self, Write};
+use std::io::Write;
 
 /// How many bytes of a file that is not sound are shown.
 const SHOWN: u64 = 4096;
@@ -28,6 +28,16 @@ const BLOCK: usize = 4096;
 
 /// How many lines are shown of a sound file.
 const LINES: u64 = 1_000_000;
+
+/// How many bytes of lines are shown for each byte of a sound file. Each line has its path, so that their length may grow
+/// with the square of that of the file.
+const TIMES: u64 = 64;
+
+/// As many bytes of lines are shown whatever the length of the file is.
+const LEAST: u64 = 1 << 20;
+
+/// The largest number of bytes of lines that are shown.
+const MOST: u64 = 1 << 26;
 
 /// Shows a file: the lines of `ls --recursive --utf8`; or, of a binary property list that is not sound, its fault and its first
 /// bytes; or the file itself, if it is no binary property list. Returns the exit status.
@@ -64,15 +74,7 @@ fn show_file<R: Files<File = File> + Print>(
     let mut out = OutFile::new(rt, "-");
     let answer = match file {
         Operand::Whole(file) => show_source(alloc, SliceSource::new(&file), prefix, &mut out),
-        Operand::File(file) => {
-            let mut file = Window::new(file);
-            match vec![in alloc; Pane::EMPTY; PANES] {
-                Ok(mut panes) => {
-                    show_source(alloc, Panes::new(&mut file, &mut panes), prefix, &mut out)
-                }
-                Err(_) => Err(RunFault::Memory),
-            }
-        }
+        Operand::File(file) => show_source(alloc, Pages::new(alloc, file), prefix, &mut out),
     };
     let names = Names {
         file: line.file,
@@ -84,78 +86,24 @@ fn show_file<R: Files<File = File> + Print>(
     completed(alloc, Ending::of(alloc, answer), &names, out.fault())
 }
 
-/// A writer that takes no more lines than are shown.
-#[derive(Drop)]
-struct FirstLines<'a, W> {
-    out: &'a mut W,
-    /// How many more lines it takes.
-    left: u64,
-    /// True if there were more.
-    full: bool,
-}
-
-impl<'a, W: Write> Write for FirstLines<'a, W> {
-    fn write(&mut self, buf: &[u8]) -> io::Result<usize> {
-        let taken = self.taken(buf);
-        self.out.write_all(&buf[..taken])?;
-        if taken < buf.len() {
-            self.full = true;
-            return Err(io::Error::from(io::ErrorKind::Other));
-        }
-        Ok(taken)
-    }
-
-    fn flush(&mut self) -> io::Result<()> {
-        Ok(())
-    }
-}
-
-impl<'a, W> FirstLines<'a, W> {
-    /// Counts the lines of these bytes. Returns how many of the bytes it takes.
-    fn taken(&mut self, buf: &[u8]) -> usize
-        ensures { result ≤ length buf.now }
-    {
-        for i in 0..buf.len() {
-            if self.left == 0 {
-                return i;
-            }
-            if buf[i] == b'\n' {
-                self.left -= 1;
-            }
-        }
-        buf.len()
-    }
-}
-
-/// Lists a binary property list. If there are more lines than are shown, a last one says so. If there are too many to be
-/// counted, only the members of the top have lines.
+/// Lists a binary property list. If there are too many lines to be counted, only the members of the top have lines, and a
+/// last line says so.
 fn list<S: Source + Drop, W: Write>(alloc: Global, src: S, out: &mut W) -> Result<Said, RunFault> {
-    let mut lines = FirstLines {
-        out,
-        left: LINES,
-        full: false,
-    };
     let whole = Branch {
         path: "",
         limit: u64::MAX,
         style: Style::Utf8,
     };
-    let (answer, src) = list_all_on(alloc, src, &whole, &mut lines);
-    let answer = match answer {
-        Err(RunFault::TooLong) => {
-            let members = list_on(alloc, src, "", Style::Utf8, &mut lines).0;
-            lines.full = lines.full || members.is_ok();
-            members
+    match list_all_on(alloc, src, &whole, out) {
+        (Err(RunFault::TooLong), src) => {
+            list_on(alloc, src, "", Style::Utf8, out).0?;
+            send(
+                out,
+                format!(in alloc; "more than {LINES} lines\n")?.as_bytes(),
+            )
         }
-        answer => answer,
-    };
-    if !lines.full {
-        return answer;
+        (answer, _) => answer,
     }
-    send(
-        out,
-        format!(in alloc; "more than {LINES} lines\n")?.as_bytes(),
-    )
 }
 
 /// Writes bytes.
@@ -166,7 +114,8 @@ fn send<W: Write>(out: &mut W, bytes: &[u8]) -> Result<Said, RunFault> {
     Ok(Said::All)
 }
 
-/// Shows a source. The prefix begins each line, but not those of a file that is written as it is.
+/// Shows a source. The prefix begins each line, but not those of a file that is written as it is. If there are more lines
+/// or bytes than are shown, a last line says so.
 fn show_source<S: Source + Drop, W: Write>(
     alloc: Global,
     src: S,
@@ -178,13 +127,23 @@ fn show_source<S: Source + Drop, W: Write>(
     if !front.starts_with(HEADER) {
         return copy_from(&mut src, out);
     }
+    let bytes = src.len().saturating_mul(TIMES).min(MOST).max(LEAST);
+    let mut first = FirstLines::new(out, LINES, bytes);
     let labels = Labels { prefix, paths: &[] };
-    let mut lines = Labelled::new(alloc, out, labels);
+    let mut lines = Labelled::new(alloc, &mut first, labels);
     let answer = show_lines(alloc, src, &front, &mut lines);
     if lines.is_refused() {
         return Err(RunFault::Memory);
     }
-    answer
+    let end = match first.full() {
+        Some(Full::Lines) => format!(in alloc; "{prefix}more than {LINES} lines\n")?,
+        Some(Full::Bytes) => format!(in alloc; "{prefix}more than {bytes} bytes\n")?,
+        None => return answer,
+    };
+    if first.is_inside_line() {
+        send(out, b"\n")?;
+    }
+    send(out, end.as_bytes())
 }
 
 /// Shows a source that begins as a binary property list does: its lines, or its fault and its first bytes.

@@ -45,6 +45,13 @@ excused_refused Says (faults.Read _) h = tt
 excused_refused Says faults.Memory h = tt
 excused_refused Says _ h = absurd h
 
+-- a file that suits, or a fault that excuses, answers for what was there before
+pub suited_or_refused : {T E : Type 0} (Says : Answer → Type 0) (P Q : T → Type 0) (R : (RunFault × E) → Type 0) (r : Result T (RunFault × E))
+    → ((suited : T) → P suited → Q suited) → MatchResult r P R → IfErr r (λ refused. IsExcused refused.0)
+    → MatchResult r Q (λ refused. IsRefusal Says refused.0)
+suited_or_refused Says P Q R (Ok suited) keeps handed excused = keeps suited handed
+suited_or_refused Says P Q R (Err refused) keeps handed excused = excused_refused Says refused.0 excused
+
 module _ (style : Style) where
   -- ---- replies to paths
   line_of_found : (found : Result Value (ℕ × Why)) → reply_line style (elim found [ Ok w ↦ Face (face w) | Err (k, why) ↦ Missing k why ]) ≡ found_line style found
@@ -106,14 +113,3 @@ certified_say f cert texts paths queries lists items (Ok replies) made are asked
 certified_say f cert texts paths queries lists items (Err fault) made are asked (is, spelled) there accepted refused lines =
     subst (λ x. ∥ Answers (LinesSay (found_line OldStyle) (CheckSays f cert) f texts) x ∥₁) (sym lines)
     (merely (file_refused (CheckSays f cert) f texts (AreLines (found_line OldStyle)) paths (answer_fault fault) are (answer_refused f cert lists fault is spelled refused)))
-
--- the same for the lines of `ls`
-pub list_says : (style : Style) (Says : Answer → Type 0) (f text : List ℕ) (steps : List (List ℕ)) (F : Frame) (made : Result Output RunFault)
-    → AllZip IsPathOf (text ∷ []) (steps ∷ []) → IsYes Says → IsThere f F
-    → ((v : Value) → Holds f F F.top.0 v → GivesOrIsExcused (λ output. (output.said ≡ said_of (look 0 v steps ∷ [])) × (output.bytes.items ≡ listed style text (look 0 v steps))) made)
-    → Answers (LinesSay (listed style text) Says f (text ∷ [])) made
-list_says style Says f text steps F (Ok output) are (said, bytes, says) (v, _, holds, held) told =
-    let t = told v held in
-    let same = same_gives output.said (said_of (look 0 v steps ∷ [])) output.bytes.items (listed style text (look 0 v steps) ++ []) t.0 (t.1 ∙ sym (append-nil (listed style text (look 0 v steps)))) in
-    inr (steps ∷ [], gives said bytes, are, says, (v, holds, same))
-list_says style Says f text steps F (Err fault) are sure (v, _, _, held) told = excused_refused (LinesSay (listed style text) Says f (text ∷ [])) fault (told v held)

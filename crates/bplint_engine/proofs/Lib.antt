@@ -5,17 +5,8 @@ mod LowerFaults
 mod GetAnswers
 mod HexAnswers
 mod LeftBytes
-mod LineLengths
 mod LintAnswers
 mod MemberLines
-mod OneAnswer
-mod OneCertify
-mod OneCheck
-mod OneKeyLists
-mod OneLint
-mod OneLocation
-mod OnePaths
-mod OnePrint
 mod PathAnswers
 mod PathQueries
 mod PrintAnswers
@@ -28,6 +19,5 @@ mod SinkLines
 mod ToldTexts
 mod ToldTrees
 mod ToldValues
-mod TreeAsks
 mod TreeLines
 mod TreeSteps

@@ -1,5 +1,6 @@
 -- The lines of the members of containers.
-use Rattle.std.proofs.Common.{◌≡◌, ◌<◌, ◌+◌, ◌-◌, ◌*◌, ◌++◌, [], ◌∙◌, ℕ, zero, suc, List, codes, length, slice_get, Option, Some, Ok, ap, append_assoc, append-nil, arith, refl, subst, sym}
+use Rattle.std.proofs.Common.{◌≡◌, ◌<◌, ◌≤◌, ◌+◌, ◌-◌, ◌*◌, ◌++◌, [], ◌∙◌, ℕ, zero, suc, List, codes, length, slice_get, Option, Some, Ok, inl, inr, ap, append_assoc, append-nil, arith, refl, subst, sym}
+use Rattle.std.proofs.lemmas.Bool.{cases_order}
 use Rattle.bplist_objects.specs.Value.{Value, leaf, array, set, dict, text, Values, no_values, value, Pairs, no_pairs, pair, keys}
 use Rattle.bplist_cursor.specs.declared.replies.Face.{Face}
 use Rattle.bplist_objects.specs.declared.head.Head.{Head}
@@ -187,3 +188,14 @@ module _ (style : Style) where
   pub leaf_listed : (path : List ℕ) (w : Value) → IsLeaf w → named_line style path w ≡ listed style path (Ok w)
   leaf_listed path (leaf x) is = refl
   leaf_listed path _ is = absurd is
+
+  -- the lines of the first n members begin with those of the first i
+  pub lines_behind : (path : List ℕ) (w : Value) (i n : ℕ) → i ≤ n → (rest : List ℕ) × (first_lines style path w n ≡ first_lines style path w i ++ rest)
+  lines_behind path w i zero few = let none : i ≡ 0 = omega (arith, few) in ([], ap (first_lines style path w) (sym none) ∙ sym (append-nil (first_lines style path w i)))
+  lines_behind path w i (suc n) few = elim (cases_order i (suc n)) [
+    | inl all ↦ ([], ap (first_lines style path w) (sym all) ∙ sym (append-nil (first_lines style path w i)))
+    | inr (inl less) ↦
+        let (rest, is) = lines_behind path w i n (omega (arith, less)) in
+        (rest ++ member_line style path w n, ap (λ l. l ++ member_line style path w n) is ∙ append_assoc (first_lines style path w i) rest (member_line style path w n))
+    | inr (inr more) ↦ absurd (omega (arith, more, few))
+  ]

@@ -1,5 +1,5 @@
 -- What a run leaves that sends its answer in parts.
-use Rattle.std.proofs.Common.{◌≡◌, ◌++◌, inl, inr, ℕ, List, [], ◌∷◌, Option, None, Result, Ok, Err, refl, subst, sym}
+use Rattle.std.proofs.Common.{◌≡◌, ◌∙◌, ◌++◌, ap, append-nil, inl, inr, ℕ, List, [], ◌∷◌, Option, None, Result, Ok, Err, refl, subst, sym}
 use Rattle.std.specs.Prelude.{IfOk, IfErr}
 use Rattle.std.specs.List.{AllZip}
 use Rattle.bplist_objects.specs.declared.frame.Frame.{Frame}
@@ -8,6 +8,7 @@ use Rattle.bplist_objects.specs.Value.{Value}
 use Rattle.bplist_cursor.specs.declared.faults.CursorFault.{CursorFault}
 use Rattle.bplist_cursor.specs.declared.node.Why.{Why}
 use Rattle.bplist_cursor.proofs.Causes.{IsExcused as IsCursorExcused}
+use Rattle.bplist_cursor.specs.Look.{look}
 use Rattle.bplist_cursor.specs.Path.{IsPathOf}
 use Rattle.bplint_lines.specs.declared.fault.RunFault.{RunFault}
 use Rattle.bplint_lines.specs.declared.fault.RunFault.TheVariants as faults
@@ -20,6 +21,8 @@ use Rattle.bplint_lines.specs.Faults.{IsExcused}
 use Rattle.bplint_lines.specs.declared.texts.Style.{Style}
 use Rattle.bplint_lines.specs.OutputLines.{missing_line}
 use Rattle.bplint_engine.specs.declared.output.Output.{Output}
+use Rattle.bplint_engine.specs.Get.{LinesSay, said_of}
+use Rattle.bplint_engine.specs.Ls.{PathListed, listed}
 use Rattle.bplint_engine.specs.Output.{Answers, IsRefusal}
 use Rattle.bplint_engine.specs.Raw.{IsRawless, LeadsToRawless, LeavesRawBy, PathShowsRaw, ShowsRaw}
 use Rattle.bplint_engine.specs.Streams.{Fails, begun}
@@ -84,3 +87,13 @@ pub lists_all : (style : Style) (limit : ℕ) (Says : Answer → Type 0) (f text
 lists_all style limit Says f text steps F old new result are (said, octets, says) (v, frame, holds, held) left =
     some_as (PathLists style limit text steps v) (ListsAll style limit Says f text) old new result
     (λ a h. inr (steps ∷ [], gives said octets, are, says, (v, holds, (steps, refl, h)))) (left v held)
+
+-- the same for the lines of `ls`
+pub path_listed : (style : Style) (Says : Answer → Type 0) (f text : List ℕ) (steps : List (List ℕ)) (F : Frame) (old new : Option (List ℕ)) (result : Result Said RunFault)
+    → AllZip IsPathOf (text ∷ []) (steps ∷ []) → IsYes Says → IsThere f F
+    → ((v : Value) → Holds f F F.top.0 v → LeavesSomeBy (PathListed style text steps v) old new result)
+    → LeavesSomeBy (LinesSay (listed style text) Says f (text ∷ [])) old new result
+path_listed style Says f text steps F old new result are (said, octets, says) (v, frame, holds, held) left =
+    some_as (PathListed style text steps v) (LinesSay (listed style text) Says f (text ∷ [])) old new result
+    (λ a h. inr (steps ∷ [], gives said octets, are, says, (v, holds, h ∙ ap (gives (said_of (look 0 v steps ∷ []))) (sym (append-nil (listed style text (look 0 v steps)))))))
+    (left v held)

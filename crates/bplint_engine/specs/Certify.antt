@@ -29,11 +29,6 @@ CertifySays sorted hex f (gives said bytes) = (F : Frame) × (lint : Lint) × (l
     × (said ≡ All) × (bytes ≡ written hex (octets_of lists))
 CertifySays sorted hex f (refuses fault) = LintSays f (refuses fault)
 
--- the certificate that `certify` writes, or why there is none
-abbrev pub Certifies : Bool → List ℕ → Result Lists RunFault → Type 0
-Certifies sorted f (Ok lists) = (hex : Bool) → IsCertificate lists → CertifySays sorted hex f (gives All (written hex (octets_of lists)))
-Certifies sorted f (Err fault) = (hex : Bool) → IsRefusal (CertifySays sorted hex f) fault
-
 -- the bytes of a certificate were sent, or a first part of them if a write failed; nothing if memory was refused
 abbrev pub SendsCertificate : Option (List ℕ) → Option (List ℕ) → Bool → Lists → Result Said RunFault → Type 0
 SendsCertificate old new hex lists (Ok said) = IsCertificate lists × (said ≡ All) × Appends old new (written hex (octets_of lists))

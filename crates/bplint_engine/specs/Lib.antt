@@ -5,7 +5,6 @@ pub mod Get
 pub mod Hexadecimal
 pub mod Least
 pub mod Lint
-pub mod ListAsks
 pub mod Ls
 pub mod Names
 pub mod Output

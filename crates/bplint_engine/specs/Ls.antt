@@ -1,5 +1,5 @@
 -- What `ls` says: the members of a value, one line each. Source: the path texts RFC 6901; the lines profile.
-use Rattle.std.specs.Prelude.{◌≡◌, ◌++◌, ℕ, zero, suc, ◌+◌, ◌*◌, length, List, [], codes, Option, None, Some, Result, Ok, Err, ⊤}
+use Rattle.std.specs.Prelude.{◌≡◌, ◌∷◌, ◌++◌, ℕ, zero, suc, ◌+◌, ◌*◌, length, List, [], codes, Option, None, Some, Result, Ok, Err, ⊤}
 use Rattle.std.specs.List.{enumerate_from, flat_map}
 use Rattle.bplist_objects.specs.declared.frame.Frame.{Frame}
 use Rattle.bplist_objects.specs.declared.head.Head.{Head}
@@ -9,12 +9,14 @@ use Rattle.bplist_objects.specs.Value.{Value, leaf, array, set, dict, text, keys
 use Rattle.bplist_cert.specs.CheckedFile.{CheckedFile}
 use Rattle.bplist_cert.specs.Valid.{IsVouchedBy}
 use Rattle.bplist_cursor.specs.declared.node.Why.{Why}
+use Rattle.bplist_cursor.specs.Look.{look}
 use Rattle.bplist_cursor.specs.Members.{entries, members, member_of}
 use Rattle.bplint_engine.specs.declared.members.Members.{Members}
 use Rattle.bplint_engine.specs.declared.members.Members.TheVariants.{Array, Set, Dict}
 use Rattle.bplint_lines.specs.MemberNames.{bracketed, index_name, key_name}
 use Rattle.bplint_lines.specs.declared.texts.Style.{Style}
-use Rattle.bplint_engine.specs.Get.{found_line}
+use Rattle.bplint_lines.specs.Answers.{Answer, gives}
+use Rattle.bplint_engine.specs.Get.{found_line, said_of}
 
 -- the value is a leaf
 abbrev pub IsLeaf : Value → Type 0
@@ -74,3 +76,7 @@ listed style path (Ok (array vs)) = flat_map (λ e. named_line style (index_name
 listed style path (Ok (set vs)) = flat_map (λ e. named_line style (bracketed e.0) e.1) (enumerate_from 0 (members vs))
 listed style path (Ok (dict ps)) = flat_map (λ e. named_line style (key_name style path e.0 e.1.0) e.1.1) (enumerate_from 0 (entries ps))
 listed style path (Err missing) = found_line style (Err missing)
+
+-- the answer is what `ls` says of what these steps, with this path text, lead to in the value
+abbrev pub PathListed : Style → List ℕ → List (List ℕ) → Value → Answer → Type 0
+PathListed style path steps v answer = answer ≡ gives (said_of (look 0 v steps ∷ [])) (listed style path (look 0 v steps))

@@ -9,6 +9,7 @@ pub use Rattle.bplist_cert.specs.Lists.{IsCertificate, Lists}
 pub use Rattle.bplist_cert.specs.Valid.{IsVouchedBy}
 pub use Rattle.bplist_lint.specs.Upgraded.{IsUpgraded}
 pub use Rattle.bplist_cursor.specs.Answered.{answer_read}
+pub use Rattle.bplist_cursor.specs.Causes.{GivesCursor, cursor_read}
 pub use Rattle.bplist_cursor.specs.Kept.{OnlyReadsFile}
 pub use Rattle.bplist_cursor.specs.Look.{look}
 pub use Rattle.bplist_cursor.specs.Members.{member_of}
@@ -19,7 +20,7 @@ pub use Rattle.bplist_octets.specs.Sending.{SendsPart, Takes, TakesPart}
 pub use Rattle.bplint_lines.specs.Answers.{Answer, Leaves, LeavesBy, read_failed}
 pub use Rattle.bplint_lines.specs.Faults.{GivesOrIsExcused}
 pub use Rattle.bplint_lines.specs.OutputLines.{check_line, face_line, lint_line, missing_line}
-pub use Rattle.bplint_engine.specs.Certify.{Certifies, CertifySays, SendsCertificate, written}
+pub use Rattle.bplint_engine.specs.Certify.{CertifySays, SendsCertificate, written}
 pub use Rattle.bplint_engine.specs.Check.{CheckSays, IsDecoded}
 pub use Rattle.bplint_engine.specs.Commands.{Asked, PrintsOnePath}
 pub use Rattle.bplint_engine.specs.Get.{LinesSay, answer_fault, found_line, reply_line, said_of}

@@ -6,7 +6,7 @@ ghost use Rattle.bplint_engine.specs.Prelude.{CheckSays, IsDecoded, LintSays, Is
 
 use bplint_lines::RunFault;
 use bplist_cert::{CertRefusal, Certificate, Checked, check};
-use bplist_lint::lint_checked;
+use bplist_lint::{Keys, lint_checked};
 use bplist_octets::Source;
 use std::alloc::Global;
 
@@ -44,8 +44,8 @@ pub fn checked_by_lint<S: Source>(alloc: Global, src: S) -> Result<Checked<S>, (
         (λ checked. IsLeastFor (S.means src).octets checked.frame checked.certificate)
         (λ refused. IsRefusal (LintSays (S.means src).octets) refused.0) }
 {
-    match lint_checked(alloc, src) {
-        Ok((checked, _counts)) => Ok(checked),
+    match lint_checked(alloc, src, Keys::Classes) {
+        Ok((checked, _tally)) => Ok(checked),
         Err((refusal, src)) => Err((RunFault::from(refusal), src)),
     }
 }

@@ -2,12 +2,12 @@
 
 ghost use Rattle.std.specs.Prelude.{◌≡◌, IfOk, IsTrue, true};
 ghost use Rattle.bplint_engine.specs.Prelude.{OnlyReads, octets_of, IsCertificate, read_failed};
-ghost use Rattle.bplint_engine.specs.Prelude.{Certifies, Leaves, CertifySays, SendsCertificate, written};
+ghost use Rattle.bplint_engine.specs.Prelude.{Leaves, CertifySays, SendsCertificate, written};
 
 use crate::output::send;
 use bplint_lines::{RunFault, Said};
 use bplist_cert::Certificate;
-use bplist_lint::{lint, lint_with_lists};
+use bplist_lint::{Keys, lint_checked};
 use bplist_octets::Source;
 use std::alloc::{AllocError, Global};
 use std::io::Write;
@@ -25,41 +25,13 @@ pub fn certify_on<S: Source, W: Write>(
     ensures exact { IsTrue (S.means src).honest → Leaves (CertifySays sorted hex (S.means src).octets) 0
         (W.contents out.old) (W.contents out.new) result.0 }
 {
-    let mut src = src;
-    let answer = certify(alloc, &mut src, sorted, hex, out);
-    (answer, src)
-}
-
-fn certify<S: Source, W: Write>(
-    alloc: Global,
-    src: &mut S,
-    sorted: bool,
-    hex: bool,
-    out: &mut W,
-) -> Result<Said, RunFault>
-    ensures reads { OnlyReads (read_failed result) (S.means src.old) (S.means src.new) }
-    ensures exact { IsTrue (S.means src.old).honest → Leaves (CertifySays sorted hex (S.means src.old).octets) 0
-        (W.contents out.old) (W.contents out.new) result }
-{
-    let certificate = certificate_of(alloc, src, sorted)?;
-    send_certificate(alloc, &certificate, hex, out)
-}
-
-/// Returns the certificate of the least heights, with `sorted` with key lists. The linter makes them itself, so there is
-/// nothing to check.
-fn certificate_of<S: Source>(
-    alloc: Global,
-    src: &mut S,
-    sorted: bool,
-) -> Result<Certificate, RunFault>
-    ensures reads { OnlyReads (read_failed result) (S.means src.old) (S.means src.new) }
-    ensures exact { IsTrue (S.means src.old).honest → Certifies sorted (S.means src.old).octets result }
-{
-    if sorted {
-        // The refusal of the linter, then that of the lists.
-        return Ok(lint_with_lists(alloc, src)??);
+    match lint_checked(alloc, src, Keys::for_certificate(sorted)) {
+        Ok((checked, _tally)) => {
+            let (src, certificate) = checked.into_parts();
+            (send_certificate(alloc, &certificate, hex, out), src)
+        }
+        Err((refusal, src)) => (Err(RunFault::from(refusal)), src),
     }
-    Ok(lint(alloc, src)?.certificate)
 }
 
 /// Writes the bytes of a certificate. With `hex` it writes their hexadecimal text and a line feed, which is made in memory

@@ -1,16 +1,18 @@
 //! The command `get`: one line for each path. Path texts become paths here, for this command and for all others that
 //! take them.
 
-ghost use Rattle.std.specs.Prelude.{◌≡◌, ◌++◌, ℕ, List, Err, IfOk, IsTrue, MatchResult, OnOk, map, string_bytes, ◌∷◌};
+ghost use Rattle.std.specs.Prelude.{◌≡◌, ◌++◌, ℕ, List, Err, IfOk, Ok, IsTrue, MatchResult, OnOk, map, string_bytes, ◌∷◌};
 ghost use Rattle.std.specs.Prelude.{[]};
 ghost use Rattle.std.specs.List.{flat_map, list_any, AllZip};
 ghost use Rattle.bplint_engine.specs.Prelude.{OnlyReads, Holds, Value, OnlyReadsFile, reply, answer_read, answer_fault};
 ghost use Rattle.bplint_engine.specs.Prelude.{read_failed, Answers, GivesOrIsExcused, CheckSays, IsDecoded};
-ghost use Rattle.bplint_engine.specs.Prelude.{LinesSay, found_line};
+ghost use Rattle.bplint_engine.specs.Prelude.{IsRefusal, IsVouchedFor, LinesSay, Lists, found_line, read_fault_of};
 ghost use Rattle.bplint_engine.specs.Prelude.{reply_line, IsPathOf, IsWrongAmong, OnPath};
 ghost use Rattle.bplint_engine.specs.Get as spec;
 
+use crate::accepted::check_decoded;
 use crate::output::Output;
+use crate::sorting::{MANY, suited_to};
 use bplint_lines::{RunFault, Said, Style, add_face, add_missing};
 use bplist_cert::{CertRefusal, Certificate, Checked};
 use bplist_cursor::{AnswerFault, Path, Query, Reply, answer_all, answer_certified};
@@ -37,8 +39,37 @@ pub(crate) fn get_output<S: Source>(
         Ok(certificate) => certificate,
         Err(refusal) => return (Err(RunFault::from(refusal)), src),
     };
-    let (told, src, _certificate) = answer_certified(alloc, src, certificate, &queries);
-    (lines_told(alloc, told), src)
+    if queries.len() < MANY || certificate.keys.is_some() {
+        let (told, src, _certificate) = answer_certified(alloc, src, certificate, &queries);
+        return (lines_told(alloc, told), src);
+    }
+    match checked_for(alloc, src, certificate, &queries) {
+        Ok(mut checked) => {
+            let made = lines_for(alloc, Style::OldStyle, &mut checked, &queries);
+            (made, checked.into_parts().0)
+        }
+        Err((fault, src)) => (Err(fault), src),
+    }
+}
+
+/// Checks the file against a certificate. Returns it with a certificate that suits these queries.
+fn checked_for<S: Source>(
+    alloc: Global,
+    src: S,
+    certificate: Certificate,
+    queries: &[Query],
+) -> Result<Checked<S>, (RunFault, S)>
+    ensures handed { MatchResult result
+        (λ checked. checked.source ≡ S.means src)
+        (λ refused. OnlyReads (read_fault_of refused.0) (S.means src) (S.means refused.1)) }
+    ensures exact { IsTrue (S.means src).honest → (cert : List ℕ) → IsDecoded cert (Ok certificate) → MatchResult result
+        (λ checked. (lists : Lists) × IsVouchedFor (S.means src).octets cert checked.frame lists)
+        (λ refused. IsRefusal (CheckSays (S.means src).octets cert) refused.0) }
+{
+    match check_decoded(alloc, src, Ok(certificate)) {
+        Ok(checked) => suited_to(alloc, checked, queries),
+        Err(refused) => Err(refused),
+    }
 }
 
 /// Turns the replies into lines, or the cursor's fault into that of the run.

@@ -1,27 +1,16 @@
 //! Laws about the definitions. Each law is the contract of a function with an empty body.
 
-ghost use Rattle.std.specs.Prelude.{◌≡◌, ◌∷◌, ℕ, List, Bool, Ok};
+ghost use Rattle.std.specs.Prelude.{◌≡◌, ◌∷◌, ℕ, List, Ok};
 ghost use Rattle.std.specs.List.{flat_map};
 ghost use Rattle.hex.specs.Hex.{IsBytes};
 ghost use Rattle.bplist_objects.specs.Frame.{IsFrame};
 ghost use Rattle.bplist_objects.specs.declared.frame.Frame.{Frame as frame};
 ghost use Rattle.bplint_lines.specs.declared.texts.Style.{Style};
 ghost use Rattle.bplint_engine.specs.Ls.{named_line};
-ghost use Rattle.bplint_engine.specs.Prelude.{Answer, Asked, Holds, IsLeaf, Says, SaysOver, Value, listed};
+ghost use Rattle.bplint_engine.specs.Prelude.{Holds, IsLeaf, Value, listed};
 ghost use Rattle.bplint_engine.specs.Told.{HasShownKeys};
 ghost use Rattle.bplint_engine.specs.Tree.{joined_lines, named_members, tree_lines};
 ghost use Rattle.bplint_lines.specs.declared.texts.Style.TheVariants.{Utf8};
-
-/// A command has only one answer for a file and the bytes of a certificate.
-pub fn one_answer()
-    ensures { (command : Asked) (f cert : List ℕ) (a b : Answer) → Says command f cert a → Says command f cert b → a ≡ b }
-{}
-
-/// A command has only one answer for its inputs, with `hex` and without.
-pub fn one_answer_over()
-    ensures { (hex : Bool) (command : Asked) (file cert : List ℕ) (a b : Answer) → SaysOver hex command file cert a
-        → SaysOver hex command file cert b → a ≡ b }
-{}
 
 /// A recursive listing consists of the lines of `ls` at each container. The value's own line comes first. Then each
 /// line of `ls` follows, together with the lines of everything inside that member. For a leaf both listings are the

@@ -20,9 +20,8 @@
 //! | list them | [`list_on`], [`list_all_on`] with a [`Branch`] |
 //!
 //! A call returns the `Said` or the `RunFault` of `bplint_lines`. The clause `exact` of each call says which bytes it
-//! wrote; specs/Said.antt defines what each command says. The laws `one_answer` and `one_answer_over` say that a
-//! command has only one answer, and `tree_of_ls` says that a recursive listing consists of the lines of `ls` at each
-//! container.
+//! wrote; specs/Said.antt defines what each command says. The law `tree_of_ls` says that a recursive listing
+//! consists of the lines of `ls` at each container.
 //!
 //! The modules, in reading order:
 //!
@@ -31,6 +30,7 @@
 //! - `accepted`: a file together with a checked certificate, or with the linter's own.
 //! - `get`: the command, and the paths and queries that path texts mean.
 //! - `show`, `ls`, `tree`, `raw`: the calls that need no certificate.
+//! - `sorting`: whether to sort the keys before many paths are followed.
 //! - `members`: the members of a container.
 //! - `tree_walk`, `names`: the recursive walk, and the names in it.
 //! - `raw_bytes`: which raw bytes a value has, and how they are sent in parts.
@@ -53,12 +53,13 @@ mod raw;
 mod raw_bytes;
 mod run;
 mod show;
+mod sorting;
 mod tree;
 mod tree_walk;
 
 pub use accepted::checked_by_lint;
 pub use certify::certify_on;
-pub use laws::{listings_tell_values, one_answer, one_answer_over, tree_of_ls};
+pub use laws::{listings_tell_values, tree_of_ls};
 pub use lint::lint_on;
 pub use ls::list_on;
 pub use raw::show_raw_on;

@@ -3,15 +3,17 @@
 
 ghost use Rattle.std.specs.Prelude.{◌≡◌, ◌∷◌, [], ◌*◌, ◌^◌, ◌<◌, ◌++◌, IfOk, IsTrue, Ok, OnOk, codes};
 ghost use Rattle.bplist_cursor.specs.Causes.{GivesCursor, cursor_read};
-ghost use Rattle.bplint_engine.specs.Prelude.{OnlyReads, Holds, Value, IsVouchedBy, OnlyReadsFile, look};
-ghost use Rattle.bplint_engine.specs.Prelude.{Leaves, read_failed, Answers, GivesOrIsExcused, IsSafeHead, said_of};
-ghost use Rattle.bplint_engine.specs.Prelude.{HasMembers, LinesSay, LintSays, listed};
+ghost use Rattle.bplint_lines.specs.Answers.{LeavesSomeBy};
+ghost use Rattle.bplint_engine.specs.Ls.{PathListed};
+ghost use Rattle.bplint_engine.specs.Prelude.{OnlyReads, Holds, Value, IsVouchedBy, OnlyReadsFile};
+ghost use Rattle.bplint_engine.specs.Prelude.{read_failed, IsSafeHead, HasMembers, LinesSay, LintSays, listed};
 ghost use Rattle.bplint_engine.specs.Prelude.{IsHeadFor, first_lines, item_name, member_line, face_line};
+ghost use Rattle.bplint_engine.specs.Streams.{Puts, SendsAll};
 
 use crate::accepted::checked_by_lint;
 use crate::get::path_in;
 use crate::members::{Members, member_face, member_text, members_of};
-use crate::output::{Output, send_made};
+use crate::output::{send, send_output};
 use crate::print::missing_output;
 use bplint_lines::{
     Pair, RunFault, Said, Style, add_face, add_index, add_index_name, add_key_name,
@@ -19,7 +21,7 @@ use bplint_lines::{
 use bplist_cert::Checked;
 use bplist_cursor::{CursorFault, Face, Found, Node, Path, face, locate, node_head};
 use bplist_objects::Head;
-use bplist_octets::Source;
+use bplist_octets::{Sink, Source};
 use std::alloc::{AllocError, Global};
 use std::io::Write;
 
@@ -53,8 +55,11 @@ pub(crate) struct Container<'a> {
 ///
 /// A path that leads nowhere gets the same line as with `Get`.
 ///
+/// Lines are written as they are made. Memory grows with the number of objects and the length of a line.
+///
 /// These errors come before anything is written, in this order: `Path` for a wrong path text, then `Fault` or `Circle`
-/// as `Lint` returns it. `Read`, `Memory`, `Write` and `Changed` mean the same as in [`crate::run_on`].
+/// as `Lint` returns it. `Write` and `Changed` mean the same as in [`crate::run_on`]. Before `Read` or `Memory`, a first
+/// part of the lines may have been written.
 pub fn list_on<S: Source, W: Write>(
     alloc: Global,
     src: S,
@@ -64,140 +69,138 @@ pub fn list_on<S: Source, W: Write>(
 ) -> (Result<Said, RunFault>, S)
     ensures source { OnlyReads (read_failed result.0) (S.means src) (S.means result.1) }
     ensures exact { IsTrue (S.means src).honest
-        → Leaves (LinesSay (listed style path.now) (LintSays (S.means src).octets) (S.means src).octets (path.now ∷ [])) 0
-        (W.contents out.old) (W.contents out.new) result.0 }
+        → ∥ LeavesSomeBy (LinesSay (listed style path.now) (LintSays (S.means src).octets) (S.means src).octets (path.now ∷ []))
+        (W.contents out.old) (W.contents out.new) result.0 ∥₁ }
 {
-    send_made(list_output(alloc, src, path, style), out)
-}
-
-/// Returns the lines of `ls`, and the source.
-fn list_output<S: Source>(
-    alloc: Global,
-    src: S,
-    text: &str,
-    style: Style,
-) -> (Result<Output, RunFault>, S)
-    ensures source { OnlyReads (read_failed result.0) (S.means src) (S.means result.1) }
-    ensures exact { IsTrue (S.means src).honest
-        → Answers (LinesSay (listed style text.now) (LintSays (S.means src).octets) (S.means src).octets (text.now ∷ [])) result.0 }
-{
-    let path = match path_in(alloc, text) {
-        Ok(path) => path,
+    let steps = match path_in(alloc, path) {
+        Ok(steps) => steps,
         Err(fault) => return (Err(fault), src),
     };
     match checked_by_lint(alloc, src) {
         Ok(mut checked) => {
-            let made = list_path(alloc, &mut checked, &path, text, style);
-            (made, checked.into_parts().0)
+            let title = Title { path, style };
+            let answer = list_path(alloc, &mut checked, &steps, title, out);
+            (answer, checked.into_parts().0)
         }
         Err((fault, src)) => (Err(fault), src),
     }
 }
 
-/// Returns the lines for what a checked file has under the path with this text.
-fn list_path<S: Source>(
+/// What begins the lines of a value, and how they write texts.
+#[derive(Clone, Copy, Drop)]
+struct Title<'a> {
+    /// The path text of the value.
+    path: &'a str,
+    style: Style,
+}
+
+/// Lists what a checked file has under a path.
+fn list_path<S: Source, W: Write>(
     alloc: Global,
     checked: &mut Checked<S>,
-    path: &Path,
-    text: &str,
-    style: Style,
-) -> Result<Output, RunFault>
+    steps: &Path,
+    title: Title<'_>,
+    out: &mut W,
+) -> Result<Said, RunFault>
     ensures reads { OnlyReadsFile (read_failed result) checked.old checked.new }
     ensures exact { IsTrue checked.old.source.honest → (v : Value)
         → Holds checked.old.source.octets checked.old.frame checked.old.frame.top.0 v
-        → GivesOrIsExcused (λ output. (output.said ≡ said_of (look 0 v path.now ∷ []))
-        × (output.bytes.items ≡ listed style text.now (look 0 v path.now))) result }
+        → LeavesSomeBy (PathListed title.entry.style title.entry.path.now steps.now v) (W.contents out.old) (W.contents out.new) result }
 {
-    match locate(checked, path)? {
+    match locate(checked, steps)? {
         Found::At(node) => {
-            let bytes = lines_at(alloc, checked, node, text, style)?;
-            Ok(Output {
-                said: Said::All,
-                bytes,
-            })
+            list_node(alloc, checked, node, title, out)?;
+            Ok(Said::All)
         }
-        Found::Missing { step, why } => missing_output(alloc, step, why),
+        Found::Missing { step, why } => send_output(missing_output(alloc, step, why), out),
     }
 }
 
-/// Returns the lines for the value of a node. `path` is the path text that leads to it.
-fn lines_at<S: Source>(
+/// Writes the lines for the value of a node.
+fn list_node<S: Source, W: Write>(
     alloc: Global,
     checked: &mut Checked<S>,
     node: Node,
-    path: &str,
-    style: Style,
-) -> Result<Vec<u8>, CursorFault>
-    ensures reads { OnlyReadsFile (cursor_read result) checked.old checked.new }
+    title: Title<'_>,
+    out: &mut W,
+) -> Result<(), RunFault>
+    ensures reads { OnlyReadsFile (read_failed result) checked.old checked.new }
     ensures exact { IsTrue checked.old.source.honest → IsVouchedBy checked.old.certificate.heights node.object.0 → (w : Value)
         → Holds checked.old.source.octets checked.old.frame node.object.0 w
-        → GivesCursor (λ lines. lines.items ≡ listed style path.now (Ok w)) result }
+        → SendsAll (W.contents out.old) (W.contents out.new) (listed title.entry.style title.entry.path.now (Ok w)) result }
 {
     let length = checked.len();
     let shown = face(alloc, checked, node)?;
-    let Some((members, count)) = members_of(&shown, length) else {
-        return Ok(line_of_leaf(alloc, style, path, &shown)?);
-    };
-    let head = node_head(checked, node)?;
-    let container = Container {
-        head,
-        members,
-        count,
-        path,
-        style,
-    };
-    lines_of_members(alloc, checked, &container)
+    match members_of(&shown, length) {
+        Some((members, count)) => {
+            let head = node_head(checked, node)?;
+            let container = Container {
+                head,
+                members,
+                count,
+                path: title.path,
+                style: title.style,
+            };
+            list_members(alloc, checked, &container, out)
+        }
+        None => {
+            let line = line_of_leaf(alloc, title, &shown)?;
+            Ok(send(out, &line)?)
+        }
+    }
 }
 
-/// Returns the line of a leaf with this path text and this face.
-fn line_of_leaf(
-    alloc: Global,
-    style: Style,
-    path: &str,
-    shown: &Face,
-) -> Result<Vec<u8>, AllocError>
-    ensures { IfOk result (λ line. line.items ≡ path.now ++ codes "\t" ++ face_line style shown.now ++ codes "\n") }
+/// Returns the line of a leaf with this face.
+fn line_of_leaf(alloc: Global, title: Title<'_>, shown: &Face) -> Result<Vec<u8>, AllocError>
+    ensures { IfOk result (λ line. line.items ≡ title.entry.path.now ++ codes "\t" ++ face_line title.entry.style shown.now ++ codes "\n") }
 {
     let mut line = Vec::new(alloc);
-    line.extend_from_slice(path.as_bytes())?;
-    add_value(alloc, style, shown, &mut line)?;
+    line.extend_from_slice(title.path.as_bytes())?;
+    add_value(alloc, title.style, shown, &mut line)?;
     Ok(line)
 }
 
-/// Returns the lines of all members of a container, in order.
-fn lines_of_members<S: Source>(
+/// Writes the lines of all members of a container, in order.
+fn list_members<S: Source, W: Write>(
     alloc: Global,
     checked: &mut Checked<S>,
     container: &Container<'_>,
-) -> Result<Vec<u8>, CursorFault>
+    out: &mut W,
+) -> Result<(), RunFault>
     requires head { IsSafeHead checked.old.frame container.now.head }
     requires few { container.now.members ≡ Members.Dict → 2 * container.now.count < 2 ^ 64 }
-    ensures reads { OnlyReadsFile (cursor_read result) checked.old checked.new }
+    ensures reads { OnlyReadsFile (read_failed result) checked.old checked.new }
     ensures exact { IsTrue checked.old.source.honest → (w : Value) → IsHeadFor checked.old container.now.head w
         → HasMembers container.now.members container.now.count w
-        → GivesCursor (λ lines. lines.items ≡ listed container.now.style container.now.path.now (Ok w)) result }
+        → SendsAll (W.contents out.old) (W.contents out.new) (listed container.now.style container.now.path.now (Ok w)) result }
 {
-    let mut lines = Vec::new(alloc);
-    add_members(alloc, checked, container, &mut lines)?;
-    Ok(lines)
+    let mut sink = Sink::new();
+    put_members(alloc, checked, container, &mut sink, out)?;
+    sink.flush(out)?;
+    Ok(())
 }
 
-/// Adds the lines of all members of a container, in order.
-pub(crate) fn add_members<S: Source>(
+/// Puts the lines of all members of a container into a sink, in order. Holds one line at a time.
+fn put_members<S: Source, W: Write>(
     alloc: Global,
     checked: &mut Checked<S>,
     container: &Container<'_>,
-    lines: &mut Vec<u8>,
-) -> Result<(), CursorFault>
+    sink: &mut Sink,
+    out: &mut W,
+) -> Result<(), RunFault>
     requires head { IsSafeHead checked.old.frame container.now.head }
     requires few { container.now.members ≡ Members.Dict → 2 * container.now.count < 2 ^ 64 }
-    ensures reads { OnlyReadsFile (cursor_read result) checked.old checked.new }
+    ensures reads { OnlyReadsFile (read_failed result) checked.old checked.new }
     ensures exact { IsTrue checked.old.source.honest → (w : Value) → IsHeadFor checked.old container.now.head w
         → HasMembers container.now.members container.now.count w
-        → GivesCursor (λ _. lines.new.items ≡ lines.old.items ++ first_lines container.now.style container.now.path.now w container.now.count) result }
+        → Puts (W.contents out.old) (W.contents out.new) sink.old sink.new
+        (first_lines container.now.style container.now.path.now w container.now.count) result }
 {
+    let mut line = Vec::new(alloc);
     for i in 0..container.count {
-        add_member(alloc, checked, container, i, lines)?;
+        line.clear();
+        add_member(alloc, checked, container, i, &mut line)?;
+        sink.put(out, &line)?;
     }
     Ok(())
 }

@@ -1,7 +1,6 @@
 //! The members of a container: how many there are and of what kind, and one of them as node, face or text.
 
-ghost use Rattle.std.specs.Prelude.{◌≡◌, ◌+◌, ◌*◌, ◌^◌, ◌<◌, ◌≤◌, IfSome, IsTrue, List, MatchOption, Some, ℕ, length};
-ghost use Rattle.bplist_cursor.specs.Asked.{face_bytes};
+ghost use Rattle.std.specs.Prelude.{◌≡◌, ◌*◌, ◌^◌, ◌<◌, IfSome, IsTrue, List, MatchOption, Some, ℕ};
 ghost use Rattle.bplist_cursor.specs.Causes.{GivesCursor, cursor_read};
 ghost use Rattle.bplist_cursor.specs.Found.{IsHeld};
 ghost use Rattle.bplint_engine.specs.Prelude.{HasRoom, HasMembers, IsHeadFor, IsLeaf, IsSafeHead, OnlyReadsFile, Value};
@@ -47,7 +46,6 @@ pub(crate) fn member_node<S: Source>(
 ) -> Result<Node, CursorFault>
     requires { IsSafeHead checked.old.frame head.now }
     ensures reads { OnlyReadsFile (cursor_read result) checked.old checked.new }
-    ensures asks { checked.new.asked ≤ checked.old.asked + 8 }
     ensures exact { IsTrue checked.old.source.honest → (w m : Value) → IsHeadFor checked.old head.now w
         → member_of w i ≡ Some m → GivesCursor (λ node. IsHeld checked.old node.object.0 m) result }
 {
@@ -66,8 +64,6 @@ pub(crate) fn member_face<S: Source>(
 ) -> Result<Face, CursorFault>
     requires { IsSafeHead checked.old.frame head.now }
     ensures reads { OnlyReadsFile (cursor_read result) checked.old checked.new }
-    ensures asks { IsTrue checked.old.source.honest → (w m : Value) → IsHeadFor checked.old head.now w → member_of w i ≡ Some m
-        → checked.new.asked ≤ checked.old.asked + (8 + face_bytes m) }
     ensures exact { IsTrue checked.old.source.honest → (w m : Value) → IsHeadFor checked.old head.now w → member_of w i ≡ Some m
         → GivesCursor (λ shown. shown ≡ face_of m) result }
 {
@@ -84,8 +80,6 @@ pub(crate) fn member_text<S: Source>(
 ) -> Result<bplist_cursor::List<u16>, CursorFault>
     requires { IsSafeHead checked.old.frame head.now }
     ensures reads { OnlyReadsFile (cursor_read result) checked.old checked.new }
-    ensures asks { IsTrue checked.old.source.honest → (w : Value) (u : List ℕ) → IsHeadFor checked.old head.now w
-        → member_of w i ≡ Some (leaf (text u)) → checked.new.asked ≤ checked.old.asked + (36 + 2 * length u) }
     ensures exact { IsTrue checked.old.source.honest → (w : Value) (u : List ℕ) → IsHeadFor checked.old head.now w
         → member_of w i ≡ Some (leaf (text u)) → GivesCursor (λ units. units ≡ u) result }
 {

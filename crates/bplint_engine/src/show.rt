@@ -1,23 +1,20 @@
 //! The calls of `show`: values under paths of a file that has no certificate.
 
-ghost use Rattle.std.specs.Prelude.{◌∷◌, ◌≡◌, [], IfErr, IsTrue, MatchResult, map, string_bytes};
+ghost use Rattle.std.specs.Prelude.{◌∷◌, ◌≡◌, [], IsTrue, MatchResult, map, string_bytes};
 ghost use Rattle.bplint_engine.specs.Prelude.{OnlyReads, Leaves, read_failed, Answers, LinesSay, LintSays, PrintSays};
 ghost use Rattle.bplint_engine.specs.Prelude.{found_line, IsLeastFor, IsRefusal, Lists, read_fault_of};
-ghost use Rattle.bplint_lines.specs.Faults.{IsExcused};
 
 use crate::accepted::checked_by_lint;
 use crate::get::{lines_for, path_in, queries_of};
 use crate::output::{Output, send_made};
 use crate::print::print_checked;
+use crate::sorting::suited_to;
 use bplint_lines::{RunFault, Said, Style};
 use bplist_cert::Checked;
-use bplist_lint::upgrade;
+use bplist_cursor::Query;
 use bplist_octets::Source;
 use std::alloc::Global;
 use std::io::Write;
-
-/// From so many paths on, the keys are sorted first. Then a path takes no time that grows with the number of keys.
-const MANY: usize = 16;
 
 /// Writes what `Get` writes for these path texts, with the certificate of the least heights, and with texts in this
 /// style. Returns the source too.
@@ -55,7 +52,7 @@ fn show_output<S: Source>(
         Ok(queries) => queries,
         Err(fault) => return (Err(fault), src),
     };
-    match checked_for(alloc, src, queries.len()) {
+    match checked_for(alloc, src, &queries) {
         Ok(mut checked) => {
             let made = lines_for(alloc, style, &mut checked, &queries);
             (made, checked.into_parts().0)
@@ -64,8 +61,12 @@ fn show_output<S: Source>(
     }
 }
 
-/// Lints the file. Returns it with a certificate that suits this number of paths: with key lists if there are many.
-fn checked_for<S: Source>(alloc: Global, src: S, count: usize) -> Result<Checked<S>, (RunFault, S)>
+/// Lints the file. Returns it with a certificate that suits these queries.
+fn checked_for<S: Source>(
+    alloc: Global,
+    src: S,
+    queries: &[Query],
+) -> Result<Checked<S>, (RunFault, S)>
     ensures handed { MatchResult result
         (λ checked. checked.source ≡ S.means src)
         (λ refused. OnlyReads (read_fault_of refused.0) (S.means src) (S.means refused.1)) }
@@ -74,28 +75,8 @@ fn checked_for<S: Source>(alloc: Global, src: S, count: usize) -> Result<Checked
         (λ refused. IsRefusal (LintSays (S.means src).octets) refused.0) }
 {
     match checked_by_lint(alloc, src) {
-        Ok(checked) if count >= MANY => with_key_lists(alloc, checked),
+        Ok(checked) => suited_to(alloc, checked, queries),
         other => other,
-    }
-}
-
-/// Returns a checked file with the key lists of its dictionaries, by which a key is found by halving.
-fn with_key_lists<S: Source>(
-    alloc: Global,
-    checked: Checked<S>,
-) -> Result<Checked<S>, (RunFault, S)>
-    ensures handed { MatchResult result
-        (λ listed. (listed.source ≡ checked.source) × (listed.frame ≡ checked.frame))
-        (λ refused. OnlyReads (read_fault_of refused.0) checked.source (S.means refused.1)) }
-    ensures excused { IsTrue checked.source.honest → IfErr result (λ refused. IsExcused refused.0) }
-{
-    let mut checked = checked;
-    let frame = checked.frame();
-    let made = upgrade(alloc, &mut checked);
-    let (src, _) = checked.into_parts();
-    match made {
-        Ok(certificate) => Ok(Checked::new(src, frame, certificate)),
-        Err(fault) => Err((RunFault::from(fault), src)),
     }
 }
 

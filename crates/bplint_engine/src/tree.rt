@@ -1,14 +1,10 @@
 //! The command `ls --recursive`: lists a value and everything inside it, in a file that has no certificate.
 
-ghost use Rattle.std.specs.Prelude.{◌≡◌, ◌+◌, ◌≤◌, Err, IsTrue, Ok, ℕ};
-ghost use Rattle.bplist_cert.specs.CheckedFile.{HonestlyChecked};
-ghost use Rattle.bplist_cursor.specs.Asked.{pass_bytes, path_bytes};
-ghost use Rattle.bplist_cursor.specs.declared.node.Why.{Why as why};
-ghost use Rattle.bplint_engine.specs.ListAsks.{list_bytes};
-ghost use Rattle.bplint_engine.specs.Prelude.{OnlyReads, Holds, Value, IsVouchedBy, OnlyReadsFile, LintSays, look};
+ghost use Rattle.std.specs.Prelude.{IsTrue};
+ghost use Rattle.bplint_engine.specs.Prelude.{OnlyReads, Holds, Value, IsVouchedBy, OnlyReadsFile, LintSays};
 ghost use Rattle.bplint_engine.specs.Prelude.{read_failed};
 ghost use Rattle.bplint_lines.specs.Answers.{LeavesSomeBy};
-ghost use Rattle.bplint_engine.specs.Tree.{HasNodes, ListsAll, NodeLists, PathLists};
+ghost use Rattle.bplint_engine.specs.Tree.{ListsAll, NodeLists, PathLists};
 
 use crate::accepted::checked_by_lint;
 use crate::get::path_in;
@@ -83,15 +79,6 @@ fn tree_path<S: Source, W: Write>(
     out: &mut W,
 ) -> Result<Said, RunFault>
     ensures reads { OnlyReadsFile (read_failed result) checked.old checked.new }
-    ensures asks { HonestlyChecked checked.old (λ f F. (v w : Value) → Holds f F F.top.0 v → look 0 v steps.now ≡ Ok w
-        → checked.new.asked ≤ checked.old.asked + (path_bytes checked.old.certificate.keys v steps.now
-        + (pass_bytes F + list_bytes branch.now.style branch.now.path.now w))) }
-    ensures asks_long { HonestlyChecked checked.old (λ f F. (v w : Value) → Holds f F F.top.0 v → look 0 v steps.now ≡ Ok w
-        → ¬ HasNodes w branch.now.limit
-        → checked.new.asked ≤ checked.old.asked + (path_bytes checked.old.certificate.keys v steps.now + pass_bytes F)) }
-    ensures asks_missing { HonestlyChecked checked.old (λ f F. (v : Value) (missing : ℕ × why) → Holds f F F.top.0 v
-        → look 0 v steps.now ≡ Err missing
-        → checked.new.asked ≤ checked.old.asked + path_bytes checked.old.certificate.keys v steps.now) }
     ensures exact { IsTrue checked.old.source.honest → (v : Value)
         → Holds checked.old.source.octets checked.old.frame checked.old.frame.top.0 v
         → LeavesSomeBy (PathLists branch.now.style branch.now.limit branch.now.path.now steps.now v)
@@ -112,12 +99,6 @@ fn tree_node<S: Source, W: Write>(
     out: &mut W,
 ) -> Result<Said, RunFault>
     ensures reads { OnlyReadsFile (read_failed result) checked.old checked.new }
-    ensures asks { HonestlyChecked checked.old (λ f F. IsVouchedBy checked.old.certificate.heights node.object.0
-        → (w : Value) → Holds f F node.object.0 w
-        → checked.new.asked ≤ checked.old.asked + (pass_bytes F + list_bytes branch.now.style branch.now.path.now w)) }
-    ensures asks_long { HonestlyChecked checked.old (λ f F. IsVouchedBy checked.old.certificate.heights node.object.0
-        → (w : Value) → Holds f F node.object.0 w → ¬ HasNodes w branch.now.limit
-        → checked.new.asked ≤ checked.old.asked + pass_bytes F) }
     ensures exact { IsTrue checked.old.source.honest → IsVouchedBy checked.old.certificate.heights node.object.0
         → (w : Value) → Holds checked.old.source.octets checked.old.frame node.object.0 w
         → LeavesSomeBy (NodeLists branch.now.style branch.now.limit branch.now.path.now w) (W.contents out.old) (W.contents out.new) result }

@@ -4,10 +4,8 @@
 ghost use Rattle.std.specs.Prelude.{ℕ, List, ◌≡◌, ◌↔◌, ◌∷◌, ◌++◌, ◌*◌, ◌+◌, ◌^◌, ◌<◌, ◌≤◌, [], IfOk, IfSome, IsTrue};
 ghost use Rattle.std.specs.Prelude.{OnOk, Some, MatchOption, MatchResult, codes, length, reverse};
 ghost use Rattle.bplist_octets.specs.Sending.{Takes};
-ghost use Rattle.bplist_cursor.specs.Asked.{face_bytes};
 ghost use Rattle.bplist_cursor.specs.Causes.{GivesCursor, cursor_read};
 ghost use Rattle.bplist_cursor.specs.Found.{IsHeld};
-ghost use Rattle.bplint_engine.specs.ListAsks.{AllBytesLeftIn, AsksOn, list_bytes, name_bytes, walk_bytes};
 ghost use Rattle.bplint_engine.specs.Ls.{named_line};
 ghost use Rattle.bplint_engine.specs.Names.{Extends, IsNameIn, name_in};
 ghost use Rattle.bplint_engine.specs.Prelude.{HasMembers, IsHeadFor, IsLeaf, OnlyReadsFile, Value};
@@ -78,8 +76,6 @@ pub(crate) fn write_tree<S: Source, W: Write>(
 ) -> Result<(), RunFault>
     requires { listing.stack.items ≡ [] }
     ensures reads { OnlyReadsFile (read_failed result) checked.old checked.new }
-    ensures asks { IsTrue checked.old.source.honest → (w : Value) → IsHeld checked.old node.object.0 w
-        → checked.new.asked ≤ checked.old.asked + list_bytes style listing.names w }
     ensures exact { IsTrue checked.old.source.honest → (w : Value) → IsHeld checked.old node.object.0 w
         → length (tree_lines style listing.names w) ≤ listing.room → listing.sink ≡ begun
         → SendsAll (W.contents out.old) (W.contents out.new) (joined_lines (tree_lines style listing.names w)) result }
@@ -105,8 +101,6 @@ fn list<S: Source, W: Write>(
     requires begins { listing.old.stack.items ≡ [] }
     requires name { IsNameIn listing.old.names top.name × (top.name.«end» ≡ length listing.old.names) }
     ensures reads { OnlyReadsFile (read_failed result) checked.old checked.new }
-    ensures asks { IsTrue checked.old.source.honest → (w : Value) → IsHeld checked.old top.node.object.0 w
-        → checked.new.asked ≤ checked.old.asked + walk_bytes w }
     ensures exact { IsTrue checked.old.source.honest → (w : Value) → IsHeld checked.old top.node.object.0 w
         → length (tree_lines style (name_in listing.old.names top.name) w) ≤ listing.old.room
         → Puts (W.contents out.old) (W.contents out.new) listing.old.sink listing.new.sink
@@ -130,11 +124,6 @@ fn begin<S: Source, W: Write>(
     requires stack { AreOpen checked.old.frame listing.old.names (reverse listing.old.stack.items) }
     requires name { IsNameIn listing.old.names at.name × (at.name.«end» ≡ length listing.old.names) }
     ensures reads { OnlyReadsFile (read_failed result) checked.old checked.new }
-    ensures asks { IsTrue checked.old.source.honest → (w : Value) → IsHeld checked.old at.node.object.0 w
-        → checked.new.asked ≤ checked.old.asked + walk_bytes w }
-    ensures asks_on { OnOk result (IsTrue checked.old.source.honest → (w : Value) → IsHeld checked.old at.node.object.0 w
-        → (left : ℕ) → AllBytesLeftIn checked.old (reverse listing.old.stack.items) left
-        → AsksOn checked.old checked.new.asked (reverse listing.new.stack.items) (walk_bytes w + left)) }
     ensures stack { OnOk result (AreOpen checked.old.frame listing.new.names (reverse listing.new.stack.items)) }
     ensures falls { OnOk result (2 * listing.new.room + length listing.new.stack.items
         < 2 * listing.old.room + length listing.old.stack.items) }
@@ -171,8 +160,6 @@ fn write_line<S: Source, W: Write>(
 ) -> Result<Option<(Members, u64)>, RunFault>
     requires { IsNameIn listing.old.names at.name }
     ensures reads { OnlyReadsFile (read_failed result) checked.old checked.new }
-    ensures asks { IsTrue checked.old.source.honest → (w : Value) → IsHeld checked.old at.node.object.0 w
-        → checked.new.asked ≤ checked.old.asked + face_bytes w }
     ensures names { listing.new.names ≡ listing.old.names }
     ensures stack { listing.new.stack.items ≡ listing.old.stack.items }
     ensures room { OnOk result (listing.new.room + 1 ≡ listing.old.room) }
@@ -206,11 +193,6 @@ fn step<S: Source, W: Write>(
 ) -> Result<(), RunFault>
     requires stack { AreOpen checked.old.frame listing.old.names (opened ∷ reverse listing.old.stack.items) }
     ensures reads { OnlyReadsFile (read_failed result) checked.old checked.new }
-    ensures asks { IsTrue checked.old.source.honest → (left : ℕ)
-        → AllBytesLeftIn checked.old (opened ∷ reverse listing.old.stack.items) left → checked.new.asked ≤ checked.old.asked + left }
-    ensures asks_on { OnOk result (IsTrue checked.old.source.honest → (left : ℕ)
-        → AllBytesLeftIn checked.old (opened ∷ reverse listing.old.stack.items) left
-        → AsksOn checked.old checked.new.asked (reverse listing.new.stack.items) left) }
     ensures stack { OnOk result (AreOpen checked.old.frame listing.new.names (reverse listing.new.stack.items)) }
     ensures falls { OnOk result (2 * listing.new.room + length listing.new.stack.items
         ≤ 2 * listing.old.room + length listing.old.stack.items) }
@@ -241,8 +223,6 @@ fn name_member<S: Source>(
     requires stack { IsOpen checked.old.frame listing.old.names opened.now }
     requires within { opened.now.next < opened.now.count }
     ensures reads { OnlyReadsFile (cursor_read result) checked.old checked.new }
-    ensures asks { IsTrue checked.old.source.honest → (w : Value) → IsHeadFor checked.old opened.now.head w
-        → HasMembers opened.now.members opened.now.count w → checked.new.asked ≤ checked.old.asked + name_bytes w opened.now.next }
     ensures rest { IsKept listing.old listing.new }
     ensures name { IfOk result (λ at. Extends listing.old.names listing.new.names opened.now.name at.name) }
     ensures exact { IsTrue checked.old.source.honest → (w : Value) → IsHeadFor checked.old opened.now.head w
@@ -280,8 +260,6 @@ fn name_value<S: Source>(
     requires within { opened.now.next < opened.now.count }
     requires dict { opened.now.members ≡ Members.Dict }
     ensures reads { OnlyReadsFile (cursor_read result) checked.old checked.new }
-    ensures asks { IsTrue checked.old.source.honest → (w : Value) → IsHeadFor checked.old opened.now.head w
-        → HasMembers opened.now.members opened.now.count w → checked.new.asked ≤ checked.old.asked + name_bytes w opened.now.next }
     ensures rest { IsKept listing.old listing.new }
     ensures name { IfOk result (λ at. Extends listing.old.names listing.new.names opened.now.name at.name) }
     ensures exact { IsTrue checked.old.source.honest → (w : Value) → IsHeadFor checked.old opened.now.head w

@@ -2,11 +2,37 @@
 
 ghost use Rattle.std.specs.Prelude.{◌≤◌};
 
-use bplint_lines::{ObjectPath, RunFault, path_to};
-use bplist_lint::{LintRefusal, ObjectNos, lint_with_kind};
-use bplist_objects::{Failure, Fault, Kind, ObjectFault, ObjectNo, trailer_of};
+use bplint_lines::{Naming, ObjectPath, RunFault, path_to};
+use bplist_hints::hint_of;
+use bplist_lint::{LintRefusal, ObjectNos, lint};
+use bplist_objects::{Failure, Fault, Kind, ObjectFault, ObjectNo, shape_of, trailer_of};
 use bplist_octets::Source;
 use std::alloc::Global;
+
+/// The shortest path from the top to an object, or why it is not given.
+#[derive(Drop)]
+pub struct Way {
+    /// The text of the path. With `index`, that of its last part.
+    pub path: Option<String>,
+    /// The index of the last member on the way that has no path, if there is one. Its key is no text, has half of a
+    /// surrogate pair, or has more than 4,096 units.
+    pub index: Option<u64>,
+    /// Why there is no path though the fault has an object: `unreached` if none leads to it, `overlap` if the search gave
+    /// up because objects overlap, `long` if the path has more than 256 steps or some 5,000 bytes, `memory` if memory for
+    /// the search was refused.
+    pub missing: Option<&'static str>,
+}
+
+impl Way {
+    /// No path, for this reason.
+    fn missing(why: &'static str) -> Way {
+        Way {
+            path: None,
+            index: None,
+            missing: Some(why),
+        }
+    }
+}
 
 /// What `lint` finds out about a file.
 #[derive(Drop)]
@@ -24,15 +50,17 @@ pub enum Finding {
     Broken {
         /// The first fault of the file.
         fault: Fault,
-        /// The text of the shortest path to the object that breaks the rule, if there is a path.
-        path: Option<String>,
+        /// The way to the object that breaks the rule.
+        way: Way,
+        /// What the file looks like, if that is known.
+        looks_like: Option<String>,
     },
     /// References form a circle.
     Circle {
         /// The objects of the circle.
         objects: ObjectNos,
-        /// The text of the shortest path to the first of them, if there is a path.
-        path: Option<String>,
+        /// The way to the first of them.
+        way: Way,
     },
     /// The file could not be read, or memory was refused.
     Unread {
@@ -57,8 +85,8 @@ impl Finding {
     }
 }
 
-/// Lints a source. If a read fails or memory is refused, also while the path is searched, the finding is `Unread`
-/// without a cause.
+/// Lints a source. If a read fails or memory is refused, the finding is `Unread` without a cause. Once a broken rule is
+/// known, refused memory only leaves out the path, or what the file looks like.
 pub fn find_in<S: Source>(alloc: Global, src: &mut S) -> Finding {
     match try_find(alloc, src) {
         Ok(finding) => finding,
@@ -67,41 +95,76 @@ pub fn find_in<S: Source>(alloc: Global, src: &mut S) -> Finding {
 }
 
 fn try_find<S: Source>(alloc: Global, src: &mut S) -> Result<Finding, RunFault> {
-    match lint_with_kind(alloc, src) {
-        Ok((lint, top)) => Ok(Finding::Sound {
-            reached: lint.reached,
-            height: lint.height,
-            top,
-        }),
+    match lint(alloc, src) {
+        Ok(found) => match kind_of_top(src) {
+            Ok(top) => Ok(Finding::Sound {
+                reached: found.reached,
+                height: found.height,
+                top,
+            }),
+            Err(ObjectFault::Fault(_)) => Err(RunFault::Changed),
+            Err(ObjectFault::Read(fault)) => Err(RunFault::Read(fault)),
+        },
         Err(LintRefusal::Fault(fault)) => {
-            let path = path_in(alloc, src, fault.object)?;
-            Ok(Finding::Broken { fault, path })
+            let way = way_to(alloc, src, fault.object)?;
+            let looks_like = looks_of(alloc, src)?;
+            Ok(Finding::Broken {
+                fault,
+                way,
+                looks_like,
+            })
         }
         Err(LintRefusal::Circle(objects)) => {
             let first = objects.as_slice().first().copied();
-            let path = path_in(alloc, src, first)?;
-            Ok(Finding::Circle { objects, path })
+            let way = way_to(alloc, src, first)?;
+            Ok(Finding::Circle { objects, way })
         }
         Err(refusal) => Err(RunFault::from(refusal)),
     }
 }
 
-/// Returns the text of the shortest path to an object, or `None` if there is no path or the search gave up.
-fn path_in<S: Source>(
-    alloc: Global,
-    src: &mut S,
-    object: Option<ObjectNo>,
-) -> Result<Option<String>, Failure> {
+fn kind_of_top<S: Source>(src: &mut S) -> Result<Kind, ObjectFault> {
+    let frame = trailer_of(src)?;
+    Ok(shape_of(src, &frame, frame.top)?.kind)
+}
+
+/// Returns what a file that is not sound looks like, if that is known and memory for the words is not refused.
+fn looks_of<S: Source>(alloc: Global, src: &mut S) -> Result<Option<String>, Failure> {
+    match hint_of(src)? {
+        Some(hint) => Ok(hint.words(alloc).ok()),
+        None => Ok(None),
+    }
+}
+
+/// Returns the way to an object.
+fn way_to<S: Source>(alloc: Global, src: &mut S, object: Option<ObjectNo>) -> Result<Way, Failure> {
     let Some(object) = object else {
-        return Ok(None);
+        return Ok(Way {
+            path: None,
+            index: None,
+            missing: None,
+        });
     };
+    match search_way(alloc, src, object) {
+        Err(Failure::Memory) => Ok(Way::missing("memory")),
+        found => found,
+    }
+}
+
+fn search_way<S: Source>(alloc: Global, src: &mut S, object: ObjectNo) -> Result<Way, Failure> {
     let frame = match trailer_of(src) {
         Ok(frame) => frame,
-        Err(ObjectFault::Fault(_)) => return Ok(None),
+        Err(ObjectFault::Fault(_)) => return Ok(Way::missing("unreached")),
         Err(ObjectFault::Read(fault)) => return Err(Failure::Read(fault)),
     };
-    match path_to(alloc, src, &frame, object)? {
-        ObjectPath::Path(path) => Ok(Some(String::from_utf8_lossy(alloc, &path)?)),
-        ObjectPath::None | ObjectPath::Unknown => Ok(None),
+    match path_to(alloc, src, &frame, object, Naming::Whole)? {
+        ObjectPath::Path(path) if path.more > 0 => Ok(Way::missing("long")),
+        ObjectPath::Path(path) => Ok(Way {
+            path: Some(String::from_utf8_lossy(alloc, &path.text)?),
+            index: path.index,
+            missing: None,
+        }),
+        ObjectPath::None => Ok(Way::missing("unreached")),
+        ObjectPath::Unknown => Ok(Way::missing("overlap")),
     }
 }

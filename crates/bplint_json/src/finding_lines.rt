@@ -1,9 +1,9 @@
 //! The JSON line of a finding.
 
-use crate::finding::Finding;
+use crate::finding::{Finding, Way};
 use crate::json_of;
-use bplint_lines::kind_name;
-use bplist_objects::{ObjectNo, Rule, rule_name, rule_number, texts_of};
+use crate::rows::Named;
+use bplist_objects::{ObjectNo, Rule, kind_name, rule_name, rule_number, texts_of};
 use serde::Serialize;
 use std::alloc::{AllocError, Global};
 
@@ -36,12 +36,19 @@ struct BrokenLine<'a> {
     ok: bool,
     rule: &'a str,
     number: u32,
+    basis: &'a str,
     object: Option<u32>,
     place: Option<u64>,
     sentence: &'a str,
-    path: Option<&'a str>,
+    #[serde(flatten)]
+    way: Named<'a>,
+    /// Why there is no path, if the rule is broken by an object.
+    #[serde(skip_serializing_if = "Option::is_none")]
+    no_path: Option<&'a str>,
     #[serde(skip_serializing_if = "Option::is_none")]
     circle: Option<Vec<u32>>,
+    #[serde(skip_serializing_if = "Option::is_none")]
+    looks_like: Option<&'a str>,
 }
 
 /// The line for a file that could not be read.
@@ -86,20 +93,25 @@ impl Finding {
                     top: kind_name(*top),
                 },
             ),
-            Finding::Broken { fault, path } => {
-                let line = broken_line(name, fault.rule, path.as_ref());
+            Finding::Broken {
+                fault,
+                way,
+                looks_like,
+            } => {
+                let line = broken_line(name, fault.rule, way);
                 json_of(
                     alloc,
                     &BrokenLine {
                         object: fault.object.map(|object| object.0),
                         place: Some(fault.place),
+                        looks_like: looks_like.as_ref().map(|words| words.as_str()),
                         ..line
                     },
                 )
             }
-            Finding::Circle { objects, path } => {
+            Finding::Circle { objects, way } => {
                 let circle = numbers_of(alloc, objects.as_slice())?;
-                let line = broken_line(name, Rule::Circle, path.as_ref());
+                let line = broken_line(name, Rule::Circle, way);
                 json_of(
                     alloc,
                     &BrokenLine {
@@ -126,18 +138,26 @@ impl Finding {
 }
 
 /// Returns the line for a file that breaks this rule, without the object and place.
-fn broken_line<'a>(name: Name<'a>, rule: Rule, path: Option<&'a String>) -> BrokenLine<'a> {
+fn broken_line<'a>(name: Name<'a>, rule: Rule, way: &'a Way) -> BrokenLine<'a> {
     let (sentence, _) = texts_of(rule);
+    let text = way.path.as_ref().map(|path| path.as_str());
     BrokenLine {
         name,
         ok: false,
         rule: rule_name(rule),
         number: rule_number(rule),
+        basis: if bplint_lines::is_profile(rule) {
+            "profile"
+        } else {
+            "format"
+        },
         object: None,
         place: None,
         sentence,
-        path: path.map(|path| path.as_str()),
+        way: Named::new(text, way.index),
+        no_path: way.missing,
         circle: None,
+        looks_like: None,
     }
 }
 

@@ -32,12 +32,33 @@ mod listing;
 mod names;
 mod rows;
 
-pub use finding::{Finding, find_in};
+use bplint_lines::is_unshown;
+pub use finding::{Finding, Way, find_in};
 pub use listing::{Depth, Form, Listed, list_rows_on};
 use serde::Serialize;
 use std::alloc::{AllocError, Global};
 
-/// Returns a value as JSON. The only error is refused memory, since each key is a text.
+/// Returns a value as JSON, in which each character that a line may not show is `\u` and four digits. The only error is
+/// refused memory, since each key is a text.
 fn json_of<T: Serialize>(alloc: Global, value: &T) -> Result<Vec<u8>, AllocError> {
-    serde_json::to_vec(alloc, value).map_err(|_| AllocError)
+    let json = serde_json::to_vec(alloc, value).map_err(|_| AllocError)?;
+    if json.iter().all(|octet| *octet < 0x7F) {
+        return Ok(json);
+    }
+    match std::str::from_utf8(&json) {
+        Ok(text) => escaped(alloc, text),
+        Err(_) => Err(AllocError),
+    }
+}
+
+/// Returns a JSON text without the characters that a line may not show. They stand between quotes.
+fn escaped(alloc: Global, json: &str) -> Result<Vec<u8>, AllocError> {
+    let mut text = String::new(alloc);
+    for c in json.chars() {
+        match u16::try_from(c as u32) {
+            Ok(unit) if is_unshown(unit) => write!(text, "\\u{unit:04x}")?,
+            _ => text.push(c)?,
+        }
+    }
+    Ok(text.into_bytes())
 }

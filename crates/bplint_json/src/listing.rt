@@ -3,14 +3,14 @@
 
 use crate::columns::{columns_of, missing_columns};
 use crate::names::{Name, Names};
-use crate::rows::{Named, Site, missing_row, row_of};
+use crate::rows::{Named, Site, missing_row, row_of, with_key};
 use bplint_engine::checked_by_lint;
 use bplint_lines::{Pair, RunFault, Said, Style};
 use bplist_cert::Checked;
 use bplist_cursor::{CursorFault, Face, Found, Node, Path, count_nodes, face, locate, member};
 use bplist_objects::offset_of;
 use bplist_octets::{Sink, Source};
-use std::alloc::Global;
+use std::alloc::{AllocError, Global};
 use std::io::Write;
 
 /// What to list of a value.
@@ -254,12 +254,22 @@ impl<'a, W: Write> Listing<'a, W> {
     ) -> Result<(), RunFault> {
         let site = site_of(checked, node)?;
         let row = match self.form {
-            Form::Json => row_of(self.alloc, self.named(name), shown, site)?,
+            Form::Json => self.json_row(name, shown, site)?,
             Form::Columns(style) => {
                 columns_of(self.alloc, style, self.names.get(name), shown, site)?
             }
         };
         self.put(row)
+    }
+
+    /// Returns the JSON line of a value with this name and face.
+    fn json_row(&self, name: Name, shown: &Face, site: Site) -> Result<Vec<u8>, AllocError> {
+        let named = Named::new(Some(self.names.get(name)), name.index);
+        let row = row_of(self.alloc, named, shown, site)?;
+        match (name.index, self.names.key_of(name)) {
+            (Some(index), Some(key)) => with_key(self.alloc, &row, index, key),
+            _ => Ok(row),
+        }
     }
 
     /// Writes what the sink holds.
@@ -274,23 +284,6 @@ impl<'a, W: Write> Listing<'a, W> {
         row.push(b'\n')?;
         self.sink.put(self.out, &row)?;
         Ok(())
-    }
-
-    /// Returns a name as it stands in a JSON line.
-    fn named(&self, name: Name) -> Named<'_> {
-        let text = self.names.get(name);
-        match name.index {
-            None => Named {
-                path: Some(text),
-                index: None,
-                below: None,
-            },
-            Some(_) => Named {
-                path: None,
-                index: name.index,
-                below: if text.is_empty() { None } else { Some(text) },
-            },
-        }
     }
 }
 

@@ -2,7 +2,8 @@
 //! it if the member has no path.
 
 use crate::listing::Form;
-use bplint_lines::{Pair, Style, add_index, add_key_name};
+use crate::rows::add_broken_text;
+use bplint_lines::{Pair, Style, add_index, add_key_name, add_whole_key_name};
 use std::alloc::{AllocError, Global};
 
 /// The name of a node.
@@ -15,6 +16,8 @@ pub(crate) struct Name {
     /// The index of the innermost member around the node that has no path. If there is one, the text is the path from
     /// that member to the node, in columns behind the member's own name; otherwise it is the path of the node.
     pub index: Option<u64>,
+    /// In JSON, if that member has a key: where the key begins, which ends where the text begins.
+    key: Option<usize>,
 }
 
 /// The names of a node and of the containers that it is in, the outermost first.
@@ -41,13 +44,22 @@ impl Names {
             start: 0,
             end: self.text.len(),
             index: None,
+            key: None,
         }
     }
 
     /// Returns the text of a name.
     pub(crate) fn get(&self, name: Name) -> &str {
-        let text = self.text.get(name.start..name.end).unwrap_or(&[]);
-        std::str::from_utf8(text).unwrap_or("")
+        self.part(name.start, name.end)
+    }
+
+    /// Returns the key of the innermost member around the node that has no path, as it stands in a JSON text.
+    pub(crate) fn key_of(&self, name: Name) -> Option<&str> {
+        name.key.map(|begin| self.part(begin, name.start))
+    }
+
+    fn part(&self, begin: usize, end: usize) -> &str {
+        std::str::from_utf8(self.text.get(begin..end).unwrap_or(&[])).unwrap_or("")
     }
 
     /// Returns the name of member `i` of an array. Drops what followed the array's name.
@@ -64,7 +76,7 @@ impl Names {
         if let Form::Columns(_) = self.form {
             add_index(self.alloc, i, &mut self.text)?;
         }
-        Ok(self.beginning(container, i))
+        Ok(self.beginning(container.end, i))
     }
 
     /// Returns the name of the value of a pair of a dictionary. Drops what followed the dictionary's name.
@@ -75,17 +87,18 @@ impl Names {
         }
     }
 
-    /// Returns the name of a pair's value in JSON. It has no path if the key has half of a surrogate pair.
+    /// Returns the name of a pair's value in JSON. It has no path if the key has half of a surrogate pair: then the key
+    /// stands before it.
     fn push_whole_key(&mut self, dict: Name, pair: &Pair<'_>) -> Result<Name, AllocError> {
-        let Ok(key) = String::from_utf16(self.alloc, pair.key)? else {
-            return self.push_place(dict, pair.number);
-        };
         self.text.truncate(dict.end);
-        self.text.push(b'/')?;
-        for byte in key.as_bytes() {
-            self.add_escaped(*byte)?;
+        if add_whole_key_name(self.alloc, pair.key, &mut self.text)? {
+            return Ok(self.extended(dict));
         }
-        Ok(self.extended(dict))
+        add_broken_text(self.alloc, pair.key, &mut self.text)?;
+        Ok(Name {
+            key: Some(dict.end),
+            ..self.beginning(self.text.len(), pair.number)
+        })
     }
 
     /// Returns the name of a pair's value in columns. It has no path if the key cannot be shown in one.
@@ -98,17 +111,18 @@ impl Names {
         self.text.truncate(dict.end);
         add_key_name(self.alloc, style, "", pair, &mut self.text)?;
         match self.text.get(dict.end) {
-            Some(b'[') => Ok(self.beginning(dict, pair.number)),
+            Some(b'[') => Ok(self.beginning(dict.end, pair.number)),
             _ => Ok(self.extended(dict)),
         }
     }
 
-    /// Returns the name that begins behind the name of this container, as that of its member `i`.
-    fn beginning(&self, container: Name, i: u64) -> Name {
+    /// Returns the name that begins at this place, as that of member `i` of its container.
+    fn beginning(&self, start: usize, i: u64) -> Name {
         Name {
-            start: container.end,
+            start,
             end: self.text.len(),
             index: Some(i),
+            key: None,
         }
     }
 
@@ -117,15 +131,6 @@ impl Names {
         Name {
             end: self.text.len(),
             ..container
-        }
-    }
-
-    /// Adds a byte of a token.
-    fn add_escaped(&mut self, byte: u8) -> Result<(), AllocError> {
-        match byte {
-            b'~' => self.text.extend_from_slice(b"~0"),
-            b'/' => self.text.extend_from_slice(b"~1"),
-            _ => Ok(self.text.push(byte)?),
         }
     }
 }

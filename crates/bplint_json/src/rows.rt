@@ -19,6 +19,29 @@ pub(crate) struct Named<'a> {
     pub below: Option<&'a str>,
 }
 
+impl<'a> Named<'a> {
+    /// The name with this text, which is a path, or the path from the member with this index on.
+    pub(crate) fn new(text: Option<&'a str>, index: Option<u64>) -> Named<'a> {
+        match (text, index) {
+            (Some(""), Some(_)) | (None, _) => Named {
+                path: None,
+                index,
+                below: None,
+            },
+            (_, Some(_)) => Named {
+                path: None,
+                index,
+                below: text,
+            },
+            (_, None) => Named {
+                path: text,
+                index,
+                below: None,
+            },
+        }
+    }
+}
+
 /// Where a value is.
 #[derive(Clone, Copy, Drop, Serialize)]
 pub(crate) struct Site {
@@ -156,8 +179,30 @@ fn broken_text_row(
     Ok(row)
 }
 
+/// Adds the key of the innermost member that has no path to a line that begins with its index. The key is given as it
+/// stands in a JSON text.
+pub(crate) fn with_key(
+    alloc: Global,
+    row: &[u8],
+    index: u64,
+    key: &str,
+) -> Result<Vec<u8>, AllocError> {
+    let front = format!(in alloc; "{{\"path\":null,\"index\":{index},")?;
+    let mut line = Vec::new(alloc);
+    line.extend_from_slice(front.as_bytes())?;
+    line.extend_from_slice(b"\"key\":\"")?;
+    line.extend_from_slice(key.as_bytes())?;
+    line.extend_from_slice(b"\",")?;
+    line.extend_from_slice(row.get(front.len()..).unwrap_or(&[]))?;
+    Ok(line)
+}
+
 /// Adds these units as they stand in a JSON text. A half of a surrogate pair becomes `\u` and its digits.
-fn add_broken_text(alloc: Global, units: &[u16], row: &mut Vec<u8>) -> Result<(), AllocError> {
+pub(crate) fn add_broken_text(
+    alloc: Global,
+    units: &[u16],
+    row: &mut Vec<u8>,
+) -> Result<(), AllocError> {
     let mut part = String::new(alloc);
     for found in char::decode_utf16(units.iter().copied()) {
         match found {

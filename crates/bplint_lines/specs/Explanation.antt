@@ -1,5 +1,5 @@
 -- What the explanation of a fault says of the rule. Source: profile.
-use Rattle.std.specs.Prelude.{ℕ, Bool, true, false, List, ◌++◌, codes, Option, None, Some}
+use Rattle.std.specs.Prelude.{ℕ, Bool, true, false, if◌then◌else◌, List, ◌++◌, codes, Option, None, Some}
 use Rattle.std.specs.Fmt.{decimal}
 use Rattle.bplist_objects.specs.declared.rule.Rule.{Rule}
 use Rattle.bplist_objects.specs.declared.rule.Rule.TheVariants as rules
@@ -26,3 +26,22 @@ is_about_certificates rule = elim rule [
   | rules.KeyOrder ↦ true
   | _ ↦ false
 ]
+
+-- true if this project asks for what the rule requires, and the published format does not
+abbrev pub is_profile : Rule → Bool
+is_profile rule = elim rule [
+  | rules.TooLarge ↦ true
+  | rules.NotAscii ↦ true
+  | rules.KeyKind ↦ true
+  | rules.KeyTwice ↦ true
+  | rules.Overfull ↦ true
+  | rules.PathText ↦ true
+  | rules.ChildNotVouched ↦ true
+  | rules.HeightNotLess ↦ true
+  | other ↦ is_about_certificates other
+]
+
+-- the basis of a rule in words
+abbrev pub basis_words : Rule → List ℕ
+basis_words rule = if is_profile rule then codes "profile. This project asks for it, and the format does not."
+    else codes "format. The published format asks for it."

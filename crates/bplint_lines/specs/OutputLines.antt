@@ -1,9 +1,8 @@
 -- The lines of answers, without line feeds. Source: profile.
-use Rattle.std.specs.Prelude.{ℕ, List, [], ◌∷◌, ◌++◌, codes, get_or, if◌then◌else◌}
-use denote.Enum.Declared.{tag_of}
+use Rattle.std.specs.Prelude.{ℕ, List, ◌++◌, codes, if◌then◌else◌}
 use Rattle.std.specs.Fmt.{decimal, signed_decimal}
 use Rattle.hex.specs.Hex.{encode_lower}
-use Rattle.bplist_objects.specs.contracts.head.Kind.{the_type as kinds}
+use Rattle.bplist_objects.specs.Words.{kind_word}
 use Rattle.bplist_objects.specs.declared.head.Kind.{Kind}
 use Rattle.bplist_cursor.specs.declared.replies.Face.{Face}
 use Rattle.bplist_cursor.specs.declared.replies.Face.TheVariants as faces
@@ -12,11 +11,6 @@ use Rattle.bplist_cursor.specs.declared.node.Why.TheVariants.{NoKey, NoIndex, No
 use Rattle.bplist_cursor.specs.Texts.{text_of_bytes}
 use Rattle.bplint_lines.specs.declared.texts.Style.{Style}
 use Rattle.bplint_lines.specs.Texts.{text_in}
-
--- the words for the kinds, in the order of their declaration
-abbrev pub kind_word : Kind → List ℕ
-kind_word kind = codes (get_or ("null" ∷ "false" ∷ "true" ∷ "int" ∷ "real" ∷ "date" ∷ "data" ∷ "text" ∷ "text"
-    ∷ "uid" ∷ "array" ∷ "set" ∷ "dict" ∷ []) (tag_of kinds kind) "")
 
 -- the line of `lint`
 abbrev pub lint_line : ℕ → ℕ → Kind → List ℕ

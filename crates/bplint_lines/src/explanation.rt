@@ -1,6 +1,6 @@
 //! Explains rules in plain words. Below the line of a fault there are the rule, the numbers of the file, the path to
 //! the object, and the bytes around the place. The page of a rule says what the rule requires, with an example that
-//! breaks it.
+//! breaks it, and who asks for it.
 
 ghost use Rattle.std.specs.Prelude.{◌≡◌, ℕ, List, [], ◌<◌, ◌++◌, IfOk, IfSome, MatchOption, length, string_bytes};
 ghost use Rattle.std.specs.Prelude.{codes};
@@ -8,20 +8,18 @@ ghost use Rattle.bplist_octets.specs.Meaning.{OnlyReads};
 ghost use Rattle.bplist_objects.specs.Failures.{failed_to_read};
 ghost use Rattle.bplist_objects.specs.Safe.{IsSafeFrame};
 ghost use Rattle.bplint_lines.specs.Answers.{read_failed};
-ghost use Rattle.bplint_lines.specs.Explanation.{is_about_certificates, rule_line, rule_of_fault};
+ghost use Rattle.bplint_lines.specs.Explanation.{basis_words, is_about_certificates, is_profile, rule_line, rule_of_fault};
 ghost use Rattle.std.specs.Fmt.{decimal};
 ghost use Rattle.bplist_objects.specs.Words.{number_of, word_of};
-ghost use Rattle.bplist_objects.specs.declared.rule.Rule.{Rule};
 ghost use Rattle.bplist_objects.specs.RuleTexts.{text_of};
 
 use crate::fault::RunFault;
 use crate::file_lines::file_lines;
-use crate::object_path::{KeyFront, ObjectPath, head_in, key_front, path_to};
-use crate::output_lines::kind_name;
+use crate::object_path::{KeyFront, Naming, ObjectPath, WrittenPath, head_in, key_front, path_to};
 use bplist_ascii::text_of_units;
 use bplist_objects::{
     Failure, Fault, Frame, Head, Kind, ObjectFault, ObjectNo, Rule, offset_of, rule_name,
-    rule_number, rule_of_number, texts_of, trailer_of,
+    rule_number, texts_of, trailer_of,
 };
 use bplist_octets::{SliceSource, Source};
 use std::alloc::{AllocError, Global};
@@ -37,7 +35,8 @@ const CONTEXT: u64 = 8;
 /// - its length and trailer, or what a file without the header looks like;
 /// - number, kind, count and place of the object;
 /// - number and text of a wrong key;
-/// - the path that leads to the object, or to the first object of a circle;
+/// - the path that leads to the object, or to the first object of a circle: at most 256 steps of it, and how many more
+///   there are;
 /// - the bytes around the place, with the place in brackets. These are bytes of the certificate `cert` if the rule
 ///   counts places there.
 pub fn explain<S: Source>(
@@ -143,6 +142,20 @@ fn circle_lines<S: Source>(alloc: Global, src: &mut S, first: ObjectNo) -> Resul
     }
 }
 
+/// Returns the lines about an object: what it is, and the path to it. There are none if the file has no such object.
+pub fn describe<S: Source>(alloc: Global, src: &mut S, object: ObjectNo) -> Result<String, Failure>
+    ensures reads { OnlyReads (failed_to_read result) (S.means src.old) (S.means src.new) }
+{
+    match frame_in(src)? {
+        Some(frame) if object.0 < frame.objects => {
+            let mut text = object_line(alloc, src, &frame, object)?;
+            text.push_str(&path_line(alloc, src, &frame, object)?)?;
+            Ok(text)
+        }
+        _ => Ok(String::new(alloc)),
+    }
+}
+
 /// Returns the frame of a file if it keeps the rules of frames.
 fn frame_in<S: Source>(src: &mut S) -> Result<Option<Frame>, Failure>
     ensures reads { OnlyReads (failed_to_read result) (S.means src.old) (S.means src.new) }
@@ -202,7 +215,7 @@ fn head_line(
     let number = object.0;
     match head {
         Some(head) => {
-            let (kind, count) = (kind_name(head.kind), head.count);
+            let (kind, count) = (head.kind, head.count);
             format!(in alloc; "  object {number}: {kind}, count {count}, place {place}\n")
         }
         None => format!(in alloc; "  object {number}: place {place}\n"),
@@ -246,7 +259,8 @@ fn key_text(alloc: Global, index: u64, key: Option<&KeyFront>) -> Result<String,
     Ok(line)
 }
 
-/// Returns the line with the path to an object.
+/// Returns the line with the path to an object. Finding the path takes more memory than `lint`: if memory is refused, the
+/// line says so.
 fn path_line<S: Source>(
     alloc: Global,
     src: &mut S,
@@ -256,19 +270,32 @@ fn path_line<S: Source>(
     requires { IsSafeFrame (length (S.means src.old).octets) frame.now }
     ensures reads { OnlyReads (failed_to_read result) (S.means src.old) (S.means src.new) }
 {
-    let path = path_to(alloc, src, frame, object)?;
-    Ok(path_text(alloc, &path)?)
+    match path_to(alloc, src, frame, object, Naming::Shown) {
+        Ok(path) => Ok(path_text(alloc, &path)?),
+        Err(Failure::Memory) => {
+            Ok(String::from_str(alloc, "  path: not found, memory was refused\n")?)
+        }
+        Err(fault) => Err(fault),
+    }
 }
 
 fn path_text(alloc: Global, path: &ObjectPath) -> Result<String, AllocError> {
     match path {
-        ObjectPath::Path(path) if path.is_empty() => String::from_str(alloc, "  path: the top\n"),
-        ObjectPath::Path(path) => {
-            let text = String::from_utf8_lossy(alloc, path)?;
-            format!(in alloc; "  path: {text}\n")
+        ObjectPath::Path(path) if path.text.is_empty() => {
+            String::from_str(alloc, "  path: the top\n")
         }
+        ObjectPath::Path(path) => written_path(alloc, path),
         ObjectPath::None => String::from_str(alloc, "  path: none\n"),
         ObjectPath::Unknown => String::from_str(alloc, "  path: not found, objects overlap\n"),
+    }
+}
+
+fn written_path(alloc: Global, path: &WrittenPath) -> Result<String, AllocError> {
+    let text = String::from_utf8_lossy(alloc, &path.text)?;
+    match path.more {
+        0 => format!(in alloc; "  path: {text}\n"),
+        1 => format!(in alloc; "  path: {text} .. and 1 more step\n"),
+        more => format!(in alloc; "  path: {text} .. and {more} more steps\n"),
     }
 }
 
@@ -306,25 +333,45 @@ fn add_octet(octet: u8, is_marked: bool, line: &mut String) -> Result<(), AllocE
     }
 }
 
-/// Returns two lines: number, word and requirement of a rule, and an example that breaks it.
+/// Returns three lines: number, word and requirement of a rule; an example that breaks it; and whether the format asks
+/// for it or this project.
 pub fn rule_text(alloc: Global, rule: Rule) -> Result<String, AllocError>
     ensures { IfOk result (λ text. string_bytes text ≡ codes "rule " ++ decimal (number_of rule) ++ codes " " ++ word_of rule
-        ++ codes ": " ++ (text_of rule).0 ++ codes "\nbroken by: " ++ (text_of rule).1 ++ codes "\n") }
+        ++ codes ": " ++ (text_of rule).0 ++ codes "\nbroken by: " ++ (text_of rule).1
+        ++ codes "\nbasis: " ++ basis_words rule ++ codes "\n") }
 {
-    let (number, word) = (rule_number(rule), rule_name(rule));
+    let (number, word, basis) = (rule_number(rule), rule_name(rule), basis_words(rule));
     let (demand, breach) = texts_of(rule);
-    format!(in alloc; "rule {number} {word}: {demand}\nbroken by: {breach}\n")
+    format!(in alloc; "rule {number} {word}: {demand}\nbroken by: {breach}\nbasis: {basis}\n")
 }
 
-/// Returns the rule that has this word in fault lines, or `None` if no rule has it.
-pub fn rule_of_word(word: &str) -> Option<Rule>
-    ensures { MatchOption result ((rule : Rule) → ¬ (word_of rule ≡ word.now)) (λ rule. word_of rule ≡ word.now) }
+/// Returns the basis of a rule in words.
+fn basis_words(rule: Rule) -> &'static str
+    ensures { result.now ≡ basis_words rule }
 {
-    for number in 1..u32::MAX {
-        let rule = rule_of_number(number)?;
-        if rule_name(rule) == word {
-            return Some(rule);
-        }
+    if is_profile(rule) {
+        "profile. This project asks for it, and the format does not."
+    } else {
+        "format. The published format asks for it."
     }
-    None
+}
+
+/// Returns true if this project asks for what the rule requires, and false if the published format does. The format's
+/// rules have limits of this project: 8 bytes for sizes, and 16 bytes for integers and counts.
+///
+/// The source of the rules of the format is the comment of Apple's CFBinaryPList.c.
+pub fn is_profile(rule: Rule) -> bool
+    ensures { result ≡ is_profile rule }
+{
+    match rule {
+        Rule::TooLarge
+        | Rule::NotAscii
+        | Rule::KeyKind
+        | Rule::KeyTwice
+        | Rule::Overfull
+        | Rule::PathText
+        | Rule::ChildNotVouched
+        | Rule::HeightNotLess => true,
+        _ => is_about_certificates(rule),
+    }
 }

@@ -1,7 +1,7 @@
 //! How a run ends: whether each path led to a value, or why the run has no answer. Each error has its line and its exit
 //! status. All faults of the libraries turn into errors of a run, so `?` passes them on.
 
-ghost use Rattle.std.specs.Prelude.{◌≡◌, IfOk, string_bytes};
+ghost use Rattle.std.specs.Prelude.{◌≡◌, IfOk, Some, string_bytes};
 ghost use Rattle.bplint_lines.specs.declared.fault.RunFault.TheVariants.{Changed, Circle, Fault, Memory, NoAsciiForm};
 ghost use Rattle.bplint_lines.specs.declared.fault.RunFault.TheVariants.{Path, Read, TooLong, Write};
 ghost use Rattle.bplist_ascii.specs.declared.printer.PrintFault.TheVariants as print;
@@ -14,15 +14,16 @@ ghost use Rattle.bplist_cursor.specs.declared.path.PathFault.TheVariants as path
 ghost use Rattle.bplist_lint.specs.declared.answer.LintRefusal.TheVariants as lint;
 ghost use Rattle.bplist_lint.specs.declared.answer.UpgradeFault.TheVariants as upgrade;
 ghost use Rattle.bplist_objects.specs.declared.fault.Failure.TheVariants as failed;
-ghost use Rattle.bplint_lines.specs.FaultLines.{fault_line, report_of};
+ghost use Rattle.bplint_lines.specs.FaultLines.{report_of};
 
 use bplist_ascii::PrintFault;
 use bplist_cert::{CertRefusal, Refusal};
 use bplist_cursor::{AnswerFault, CursorFault, PathFault, Unread};
 use bplist_lint::{LintRefusal, ObjectNos, UpgradeFault};
-use bplist_objects::{Failure, Fault, ObjectNo, Rule, rule_name};
+use bplist_objects::{Failure, Fault, ObjectNo, Rule};
 use bplist_octets::{ReadFault, WriteFault};
 use std::alloc::{AllocError, AllocFailed, Global};
+use std::fmt;
 
 /// Whether each path led to a value, of a run that wrote its whole answer.
 #[derive(Clone, Copy, Drop)]
@@ -90,64 +91,33 @@ impl RunFault {
         }
     }
 
-    /// Returns the line to print, without a line feed. The only error is refused memory.
+    /// Returns the line to print, without a line feed: what `Display` prints. The only error is refused memory.
     pub fn line(&self, alloc: Global) -> Result<String, AllocError>
         ensures { IfOk result (λ text. string_bytes text ≡ (report_of self.now).0) }
     {
+        self.to_string(alloc)
+    }
+}
+
+impl fmt::Display for RunFault {
+    ghost output = { λ fault. Some (report_of fault).0 };
+
+    fn fmt<W: fmt::Write>(&self, f: &mut fmt::Formatter<W>) -> fmt::Result {
         match self {
-            RunFault::Fault(fault) => line_of_rule(alloc, fault.rule, fault.object, fault.place),
-            RunFault::Circle(objects) => line_of_circle(alloc, objects.as_slice()),
-            RunFault::Path { place } => line_of_rule(alloc, Rule::PathText, None, *place as u64),
-            RunFault::NoAsciiForm(object) => {
-                let number = object.0;
-                format!(in alloc; "form NoAsciiForm object {number}")
-            }
-            RunFault::TooLong => String::from_str(alloc, "form TooLong"),
-            RunFault::Read(fault) => String::from_str(alloc, line_of_read(*fault)),
-            RunFault::Hex => String::from_str(alloc, "read Hex"),
-            RunFault::Changed => String::from_str(alloc, "changed"),
-            RunFault::Write { sent } => format!(in alloc; "write {sent}"),
-            RunFault::Memory => String::from_str(alloc, "memory"),
-            RunFault::Open => String::from_str(alloc, "read Open"),
-            RunFault::InputTooLong => String::from_str(alloc, "read TooLong"),
+            RunFault::Fault(fault) => write!(f, "{fault}"),
+            RunFault::Circle(objects) => write!(f, "circle{objects}"),
+            RunFault::Path { place } => write!(f, "{}", PathFault::Text { place: *place }),
+            RunFault::NoAsciiForm(object) => write!(f, "{}", PrintFault::NoAsciiForm(*object)),
+            RunFault::TooLong => write!(f, "{}", PrintFault::TooLong),
+            RunFault::Read(fault) => write!(f, "{fault}"),
+            RunFault::Hex => f.write_str("read Hex"),
+            RunFault::Changed => f.write_str("changed"),
+            RunFault::Write { sent } => write!(f, "{}", WriteFault { sent: *sent }),
+            RunFault::Memory => f.write_str("memory"),
+            RunFault::Open => f.write_str("read Open"),
+            RunFault::InputTooLong => f.write_str("read TooLong"),
         }
     }
-}
-
-fn line_of_read(fault: ReadFault) -> &'static str
-    ensures { result.now ≡ (report_of (Read fault)).0 }
-{
-    match fault {
-        ReadFault::Device => "read Device",
-        ReadFault::Ended => "read Ended",
-        ReadFault::TooManyTurns => "read TooManyTurns",
-    }
-}
-
-fn line_of_rule(
-    alloc: Global,
-    rule: Rule,
-    object: Option<ObjectNo>,
-    place: u64,
-) -> Result<String, AllocError>
-    ensures { IfOk result (λ text. string_bytes text ≡ fault_line rule object place) }
-{
-    let word = rule_name(rule);
-    match object {
-        Some(ObjectNo(number)) => format!(in alloc; "fault {word} object {number} place {place}"),
-        None => format!(in alloc; "fault {word} object none place {place}"),
-    }
-}
-
-fn line_of_circle(alloc: Global, objects: &[ObjectNo]) -> Result<String, AllocError>
-    ensures { IfOk result (λ text. string_bytes text ≡ (report_of (Circle objects.now)).0) }
-{
-    let mut line = String::from_str(alloc, "circle")?;
-    for object in objects {
-        let number = object.0;
-        write!(line, " {number}")?;
-    }
-    Ok(line)
 }
 
 impl From<ReadFault> for RunFault {

@@ -3,7 +3,7 @@
 ghost use Rattle.bplist_octets.specs.Meaning.{OnlyReads};
 ghost use Rattle.bplist_objects.specs.Failures.{failed_to_read};
 
-use bplist_hints::hint_of;
+use bplist_hints::{Hint, hint_of};
 use bplist_objects::Failure;
 use bplist_octets::{Source, sized};
 use std::alloc::{AllocError, Global};
@@ -13,16 +13,22 @@ const TRAILER: u64 = 32;
 
 /// Returns the line with the length of a file. If the file begins with `bplist00` and has room for a trailer, the line
 /// also gives the numbers of the trailer. A second line says what the file looks like, if it is no sound one and this
-/// is known.
+/// is known. If memory for that line is refused, it is left out.
 pub(crate) fn file_lines<S: Source>(alloc: Global, src: &mut S) -> Result<String, Failure>
     ensures reads { OnlyReads (failed_to_read result) (S.means src.old) (S.means src.new) }
 {
     let mut lines = file_line(alloc, src)?;
     if let Some(hint) = hint_of(src)? {
-        let words = hint.words(alloc)?;
-        write!(lines, "  looks like: {words}\n")?;
+        if let Ok(line) = hint_line(alloc, hint) {
+            lines.push_str(&line)?;
+        }
     }
     Ok(lines)
+}
+
+fn hint_line(alloc: Global, hint: Hint) -> Result<String, AllocError> {
+    let words = hint.words(alloc)?;
+    format!(in alloc; "  looks like: {words}\n")
 }
 
 /// Returns the line with the length of a file, and the numbers of its trailer if it has one.
@@ -44,7 +50,8 @@ fn file_line<S: Source>(alloc: Global, src: &mut S) -> Result<String, Failure>
 }
 
 fn length_line(alloc: Global, length: u64) -> Result<String, AllocError> {
-    format!(in alloc; "  file: {length} bytes\n")
+    let ending = if length == 1 { "" } else { "s" };
+    format!(in alloc; "  file: {length} byte{ending}\n")
 }
 
 fn numbers_line(alloc: Global, length: u64, trailer: &[u8; 32]) -> Result<String, AllocError> {

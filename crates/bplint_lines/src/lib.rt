@@ -13,11 +13,12 @@
 //! |---|---|
 //! | write the line of a fault, get its exit status | [`RunFault`]: `line`, `status` |
 //! | the same for raw bytes | [`RawFault`] |
-//! | explain a fault | [`explain`] |
-//! | explain a rule, find the rule of a word | [`rule_text`], [`rule_of_word`] |
+//! | explain a fault, describe an object | [`explain`], [`describe`] |
+//! | explain a rule, tell who asks for it | [`rule_text`], [`is_profile`] |
 //! | write the line of an answer | [`add_lint`], [`add_check`], [`add_face`], [`add_missing`] |
-//! | get a word of such a line | [`kind_name`], [`reason_of`] |
-//! | write the name of a member | [`add_index_name`], [`add_key_name`], [`add_index`] |
+//! | get a word of such a line | [`reason_of`] |
+//! | write the name of a member | [`add_index_name`], [`add_key_name`], [`add_whole_key_name`], [`add_index`] |
+//! | tell whether a line can show a character | [`is_unshown`] |
 //! | tell whether each path led to a value | [`Said`] |
 //! | find the path to an object, or to all | [`path_to`], [`paths_in`] |
 //!
@@ -41,10 +42,10 @@ mod output_lines;
 mod raw_fault;
 mod texts;
 
-pub use explanation::{explain, is_about_certificates, rule_of_word, rule_text};
+pub use explanation::{describe, explain, is_about_certificates, is_profile, rule_text};
 pub use fault::{RunFault, Said};
-pub use member_names::{Pair, add_index, add_index_name, add_key_name};
-pub use object_path::{ObjectPath, ObjectPaths, path_to, paths_in};
-pub use output_lines::{add_check, add_face, add_lint, add_missing, kind_name, reason_of};
+pub use member_names::{Pair, add_index, add_index_name, add_key_name, add_whole_key_name};
+pub use object_path::{Naming, ObjectPath, ObjectPaths, WrittenPath, path_to, paths_in};
+pub use output_lines::{add_check, add_face, add_lint, add_missing, reason_of};
 pub use raw_fault::RawFault;
-pub use texts::Style;
+pub use texts::{Style, is_unshown};

@@ -65,6 +65,22 @@ pub fn add_key_name(
     }
 }
 
+/// Adds `/` and the token of a key, whatever its characters are. Returns false, and adds nothing, if the key has half of
+/// a surrogate pair, which no path text can have.
+pub fn add_whole_key_name(
+    alloc: Global,
+    key: &[u16],
+    lines: &mut Vec<u8>,
+) -> Result<bool, AllocError> {
+    match String::from_utf16(alloc, key)? {
+        Ok(key) => {
+            add_path("", key.as_bytes(), lines)?;
+            Ok(true)
+        }
+        Err(_) => Ok(false),
+    }
+}
+
 /// Adds the name of the value of a pair whose key cannot be shown.
 fn add_unshown(
     alloc: Global,

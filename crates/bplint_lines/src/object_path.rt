@@ -1,14 +1,15 @@
 //! Finds the path from the top to an object, or to all objects, in any file.
 //!
 //! The search follows members of arrays and values of dictionaries, as paths do. It does not go on from an object that
-//! breaks a rule about markers or counts.
+//! breaks a rule about markers or counts. A path that is written has at most 256 steps, and no step is added to one of
+//! more than 5,000 bytes. So no file has a path that is much longer than one step.
 
 ghost use Rattle.std.specs.Prelude.{◌<◌, IfOk, IfSome, length};
 ghost use Rattle.bplist_octets.specs.Meaning.{OnlyReads};
 ghost use Rattle.bplist_objects.specs.Safe.{IsSafe, IsSafeFrame, IsSafeHead, ref_count};
 ghost use Rattle.bplist_objects.specs.Failures.{failed_to_read};
 
-use crate::member_names::{Pair, add_index, add_index_name, add_key_name};
+use crate::member_names::{Pair, add_index, add_index_name, add_key_name, add_whole_key_name};
 use crate::texts::Style;
 use bplist_objects::{
     Failure, Frame, Head, Kind, ObjectFault, ObjectNo, read_units, ref_at, shape_of,
@@ -18,6 +19,12 @@ use std::alloc::{AllocError, Global};
 
 /// The largest number of units of a key that is read.
 const KEY_UNITS: u64 = 4096;
+
+/// The largest number of steps of a path that are written.
+const MOST_STEPS: usize = 256;
+
+/// No step is added to a path of more bytes than this.
+const MOST_BYTES: usize = 5000;
 
 /// The start of a key.
 #[derive(Drop)]
@@ -35,6 +42,15 @@ struct Step {
     index: u32,
 }
 
+/// How a path names the value of a pair.
+#[derive(Clone, Copy, Drop)]
+pub enum Naming {
+    /// As lines do: by the key, or if it cannot be shown by the index in brackets.
+    Shown,
+    /// As JSON does: by the key, whatever its characters are. If it has no path, what is behind it begins a new one.
+    Whole,
+}
+
 /// The steps to the objects that a search found. Takes 8 bytes for each object.
 #[derive(Drop)]
 pub struct ObjectPaths {
@@ -46,36 +62,78 @@ pub struct ObjectPaths {
     longest: usize,
     /// How many more references may be read. If no objects overlap, a file has fewer references than bytes.
     budget: u64,
+    naming: Naming,
+    /// The container whose member was asked for last, and its path. Its other members have the same one.
+    kept: Option<(u32, WrittenPath)>,
+}
+
+/// The path from the top to an object, as far as it is written.
+#[derive(Drop)]
+pub struct WrittenPath {
+    /// Its text. If `index` is given, the text of the path from that member on.
+    pub text: Vec<u8>,
+    /// With [`Naming::Whole`]: the index of the last member on the way that has no path, if there is one.
+    pub index: Option<u64>,
+    /// How many more steps lead to the object. It is 0 if the path is whole.
+    pub more: usize,
+    /// How many steps are written.
+    steps: usize,
+}
+
+impl WrittenPath {
+    /// The path to the top.
+    fn new(alloc: Global) -> WrittenPath {
+        WrittenPath {
+            text: Vec::new(alloc),
+            index: None,
+            more: 0,
+            steps: 0,
+        }
+    }
+
+    fn copy(&self, alloc: Global) -> Result<WrittenPath, AllocError> {
+        Ok(WrittenPath {
+            text: Vec::from_slice(alloc, &self.text)?,
+            ..*self
+        })
+    }
+
+    /// Returns true if no more steps are written.
+    fn is_full(&self) -> bool {
+        self.more > 0 || self.steps >= MOST_STEPS || self.text.len() > MOST_BYTES
+    }
 }
 
 /// The path from the top to an object.
 #[derive(Drop)]
 pub enum ObjectPath {
-    /// This path text leads to the object.
-    Path(Vec<u8>),
+    /// This path leads to the object.
+    Path(WrittenPath),
     /// No path leads to the object.
     None,
     /// The objects overlap, and the search gave up.
     Unknown,
 }
 
-/// Returns the text of the first path from the top to an object.
+/// Returns the first path from the top to an object.
 pub fn path_to<S: Source>(
     alloc: Global,
     src: &mut S,
     frame: &Frame,
     target: ObjectNo,
+    naming: Naming,
 ) -> Result<ObjectPath, Failure>
     requires { IsSafeFrame (length (S.means src.old).octets) frame.now }
     ensures reads { OnlyReads (failed_to_read result) (S.means src.old) (S.means src.new) }
 {
-    let mut paths = ObjectPaths::new(alloc, frame, usize::MAX)?;
+    let mut paths = ObjectPaths::new(alloc, frame, usize::MAX, naming)?;
     paths.search(alloc, src, frame, Some(target))?;
     paths.path_to(alloc, src, frame, target)
 }
 
-/// Searches from the top for all objects, breadth first, so that the path to each is a shortest one. An object counts as
-/// not found if its path has more than `longest` steps. Takes 12 bytes of memory for each object, of which 8 stay.
+/// Searches from the top for all objects, breadth first, so that the path to each is a shortest one, named as in lines. An
+/// object counts as not found if its path has more than `longest` steps, and one step more. Takes 12 bytes of memory for
+/// each object, of which 8 stay.
 pub fn paths_in<S: Source>(
     alloc: Global,
     src: &mut S,
@@ -85,20 +143,27 @@ pub fn paths_in<S: Source>(
     requires { IsSafeFrame (length (S.means src.old).octets) frame.now }
     ensures reads { OnlyReads (failed_to_read result) (S.means src.old) (S.means src.new) }
 {
-    let mut paths = ObjectPaths::new(alloc, frame, longest)?;
+    let mut paths = ObjectPaths::new(alloc, frame, longest, Naming::Shown)?;
     paths.search(alloc, src, frame, None)?;
     Ok(paths)
 }
 
 impl ObjectPaths {
     /// The start of a search: only the top was found.
-    fn new(alloc: Global, frame: &Frame, longest: usize) -> Result<ObjectPaths, AllocError> {
+    fn new(
+        alloc: Global,
+        frame: &Frame,
+        longest: usize,
+        naming: Naming,
+    ) -> Result<ObjectPaths, AllocError> {
         let steps = (0..frame.objects).map(|from| Step { from, index: 0 });
         Ok(ObjectPaths {
             top: frame.top.0,
             steps: steps.collect(alloc)?,
             longest,
             budget: frame.table,
+            naming,
+            kept: None,
         })
     }
 
@@ -182,9 +247,10 @@ impl ObjectPaths {
         Ok(())
     }
 
-    /// Returns the path to an object.
+    /// Returns the path to an object. Keeps that of the container before the last step, so that the next call for a
+    /// member of the same container reads one key only.
     pub fn path_to<S: Source>(
-        &self,
+        &mut self,
         alloc: Global,
         src: &mut S,
         frame: &Frame,
@@ -193,10 +259,39 @@ impl ObjectPaths {
         requires { IsSafeFrame (length (S.means src.old).octets) frame.now }
         ensures reads { OnlyReads (failed_to_read result) (S.means src.old) (S.means src.new) }
     {
-        match self.steps_back(alloc, object.0)? {
-            Some(steps) => Ok(ObjectPath::Path(path_of(alloc, src, frame, &steps)?)),
-            None if self.budget == 0 => Ok(ObjectPath::Unknown),
-            None => Ok(ObjectPath::None),
+        if object.0 == self.top {
+            return Ok(ObjectPath::Path(WrittenPath::new(alloc)));
+        }
+        let Some(step) = self.step_to(object.0) else {
+            return Ok(self.without_path());
+        };
+        let kept = match self.kept.take() {
+            Some((container, path)) if container == step.from => path,
+            _ => match self.steps_back(alloc, step.from)? {
+                Some(steps) => path_of(alloc, src, frame, &steps, self.naming)?,
+                None => return Ok(self.without_path()),
+            },
+        };
+        let mut path = kept.copy(alloc)?;
+        self.kept = Some((step.from, kept));
+        add_step(alloc, src, frame, step, self.naming, &mut path)?;
+        Ok(ObjectPath::Path(path))
+    }
+
+    /// Returns what is said of an object that was not found.
+    fn without_path(&self) -> ObjectPath {
+        if self.budget == 0 {
+            ObjectPath::Unknown
+        } else {
+            ObjectPath::None
+        }
+    }
+
+    /// Returns the last step to an object that was found and is not the top.
+    fn step_to(&self, object: u32) -> Option<Step> {
+        match self.steps.get(object as usize) {
+            Some(step) if step.from != object => Some(*step),
+            _ => None,
         }
     }
 
@@ -209,9 +304,9 @@ impl ObjectPaths {
             if n == self.top {
                 return Ok(Some(steps));
             }
-            match self.steps.get(n as usize) {
-                Some(step) if step.from != n && steps.len() < self.longest => {
-                    steps.push(*step)?;
+            match self.step_to(n) {
+                Some(step) if steps.len() < self.longest => {
+                    steps.push(step)?;
                     n = step.from;
                 }
                 _ => return Ok(None),
@@ -221,35 +316,42 @@ impl ObjectPaths {
     }
 }
 
-/// Returns the path text of these steps, of which the last comes first.
+/// Returns the path of these steps, of which the last comes first.
 fn path_of<S: Source>(
     alloc: Global,
     src: &mut S,
     frame: &Frame,
     steps: &[Step],
-) -> Result<Vec<u8>, Failure>
+    naming: Naming,
+) -> Result<WrittenPath, Failure>
     requires { IsSafe (length (S.means src.old).octets) frame.now }
     ensures reads { OnlyReads (failed_to_read result) (S.means src.old) (S.means src.new) }
 {
-    let mut path = Vec::new(alloc);
+    let mut path = WrittenPath::new(alloc);
     for k in 0..steps.len() {
         let step = steps[steps.len() - 1 - k];
-        add_step(alloc, src, frame, step, &mut path)?;
+        add_step(alloc, src, frame, step, naming, &mut path)?;
     }
     Ok(path)
 }
 
-/// Adds the token of a step to a path text.
+/// Adds a step to a path, or counts it if the path is full.
 fn add_step<S: Source>(
     alloc: Global,
     src: &mut S,
     frame: &Frame,
     step: Step,
-    path: &mut Vec<u8>,
+    naming: Naming,
+    path: &mut WrittenPath,
 ) -> Result<(), Failure>
     requires { IsSafe (length (S.means src.old).octets) frame.now }
     ensures reads { OnlyReads (failed_to_read result) (S.means src.old) (S.means src.new) }
 {
+    if path.is_full() {
+        path.more = path.more.saturating_add(1);
+        return Ok(());
+    }
+    path.steps = path.steps.saturating_add(1);
     if step.from >= frame.objects {
         return Ok(());
     }
@@ -259,28 +361,36 @@ fn add_step<S: Source>(
     let index = step.index as u64;
     if head.kind == Kind::Dict && index < head.count {
         let key = key_front(alloc, src, frame, &head, index)?;
-        return Ok(add_key(alloc, index, key.as_ref(), path)?);
+        return Ok(add_key(alloc, naming, index, key.as_ref(), path)?);
     }
-    Ok(add_index_name(alloc, "", index, path)?)
+    Ok(add_index_name(alloc, "", index, &mut path.text)?)
 }
 
-/// Adds the token of a pair with this key. A key that was cut is given by its index, because its start could be the
-/// token of another key.
+/// Adds the step to the value of a pair with this key. A key that was cut is given by its index, because its start could be
+/// another key.
 fn add_key(
     alloc: Global,
+    naming: Naming,
     index: u64,
     key: Option<&KeyFront>,
-    path: &mut Vec<u8>,
+    path: &mut WrittenPath,
 ) -> Result<(), AllocError> {
-    match key {
-        Some(key) if !key.is_cut => {
-            let pair = Pair {
-                number: index,
-                key: &key.units,
-            };
-            add_key_name(alloc, Style::OldStyle, "", &pair, path)
+    let units = match key {
+        Some(key) if !key.is_cut => Some(key.units.as_slice()),
+        _ => None,
+    };
+    match (naming, units) {
+        (Naming::Shown, Some(key)) => {
+            let pair = Pair { number: index, key };
+            add_key_name(alloc, Style::OldStyle, "", &pair, &mut path.text)
         }
-        _ => add_index(alloc, index, path),
+        (Naming::Shown, None) => add_index(alloc, index, &mut path.text),
+        (Naming::Whole, Some(key)) if add_whole_key_name(alloc, key, &mut path.text)? => Ok(()),
+        (Naming::Whole, _) => {
+            path.text.clear();
+            path.index = Some(index);
+            Ok(())
+        }
     }
 }
 

@@ -5,7 +5,7 @@
 ghost use Rattle.std.specs.Prelude.{◌≡◌, ℕ, ◌++◌, OnOk, codes};
 ghost use Rattle.std.specs.Fmt.{decimal, signed_decimal};
 ghost use Rattle.hex.specs.Hex.{encode_lower};
-ghost use Rattle.bplint_lines.specs.OutputLines.{kind_word, lint_line, check_line, face_line, missing_line};
+ghost use Rattle.bplint_lines.specs.OutputLines.{lint_line, check_line, face_line, missing_line};
 
 use crate::texts::{Style, add_text};
 use bplist_ascii::add_text_of_bytes;
@@ -23,8 +23,7 @@ pub fn add_lint(
 ) -> Result<(), AllocError>
     ensures { OnOk result (lines.new.items ≡ lines.old.items ++ lint_line reached height top) }
 {
-    let word = kind_name(top);
-    let line = format!(in alloc; "ok reached {reached} height {height} top {word}")?;
+    let line = format!(in alloc; "ok reached {reached} height {height} top {top}")?;
     lines.extend_from_slice(line.as_bytes())
 }
 
@@ -118,26 +117,6 @@ pub(crate) fn add_hexadecimal(
     lines.extend_from_slice(word)?;
     let digits = hex::encode(alloc, bytes)?;
     lines.extend_from_slice(digits.as_bytes())
-}
-
-/// Returns the word for a kind.
-pub fn kind_name(kind: Kind) -> &'static str
-    ensures { result.now ≡ kind_word kind }
-{
-    match kind {
-        Kind::Null => "null",
-        Kind::False => "false",
-        Kind::True => "true",
-        Kind::Int => "int",
-        Kind::Real => "real",
-        Kind::Date => "date",
-        Kind::Bytes => "data",
-        Kind::Ascii | Kind::Wide => "text",
-        Kind::Uid => "uid",
-        Kind::Array => "array",
-        Kind::Set => "set",
-        Kind::Dict => "dict",
-    }
 }
 
 /// Returns the word that ends the line for a path that leads nowhere.

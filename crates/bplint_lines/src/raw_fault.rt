@@ -1,6 +1,6 @@
 //! The errors of `show --raw`, with the line and the exit status of each.
 
-ghost use Rattle.std.specs.Prelude.{◌≡◌, IfOk, string_bytes};
+ghost use Rattle.std.specs.Prelude.{◌≡◌, IfOk, Some, string_bytes};
 ghost use Rattle.bplist_cursor.specs.declared.faults.CursorFault.TheVariants as cursor;
 ghost use Rattle.bplint_lines.specs.declared.fault.RunFault.TheVariants.{Changed, Memory, Read};
 ghost use Rattle.bplint_lines.specs.declared.raw_fault.RawFault.TheVariants.{Run};
@@ -10,6 +10,7 @@ use crate::fault::RunFault;
 use bplist_cursor::CursorFault;
 use bplist_objects::ObjectNo;
 use std::alloc::{AllocError, Global};
+use std::fmt;
 
 /// Why the raw bytes of a value are not shown.
 #[derive(Drop)]
@@ -51,16 +52,21 @@ impl RawFault {
         }
     }
 
-    /// Returns the line to print, without a line feed. The only error is refused memory.
+    /// Returns the line to print, without a line feed: what `Display` prints. The only error is refused memory.
     pub fn line(&self, alloc: Global) -> Result<String, AllocError>
         ensures { IfOk result (λ text. string_bytes text ≡ (raw_report_of self.now).0) }
     {
+        self.to_string(alloc)
+    }
+}
+
+impl fmt::Display for RawFault {
+    ghost output = { λ fault. Some (raw_report_of fault).0 };
+
+    fn fmt<W: fmt::Write>(&self, f: &mut fmt::Formatter<W>) -> fmt::Result {
         match self {
-            RawFault::Run(fault) => fault.line(alloc),
-            RawFault::NoRawForm(object) => {
-                let number = object.0;
-                format!(in alloc; "form NoRawForm object {number}")
-            }
+            RawFault::Run(fault) => write!(f, "{fault}"),
+            RawFault::NoRawForm(object) => write!(f, "form NoRawForm object {object}"),
         }
     }
 }

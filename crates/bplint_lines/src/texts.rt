@@ -148,8 +148,9 @@ pub(crate) fn have_unshown(units: &[u16]) -> bool
 }
 
 /// Returns true for a control character, a line or paragraph separator, and a control of text direction. These could
-/// begin a new line, give a command to the terminal, or change the order in which a line is displayed.
-fn is_unshown(unit: u16) -> bool
+/// begin a new line, give a command to the terminal, or change the order in which a line is displayed. No character beyond
+/// U+FFFF is one of them.
+pub fn is_unshown(unit: u16) -> bool
     ensures { result ≡ spec.is_unshown unit }
 {
     matches!(

@@ -1,95 +1,123 @@
-//! The lines of a map.
-//!
-//! Each call adds lines to the text. The only error is refused memory.
+//! The lines of a map, on their way to a writer.
 
-ghost use Rattle.std.specs.Prelude.{◌≡◌, ◌++◌, List, ℕ, OnOk, codes, string_bytes};
-ghost use Rattle.bplist_objects.specs.Words.{word_of as word_of_rule};
-ghost use Rattle.bplint_map.specs.Layout.{object, row_end};
-ghost use Rattle.bplint_map.specs.Lines.{head_line, note, part_line, region_line, row_lines};
+ghost use Rattle.std.specs.Prelude.{◌≡◌, None};
+ghost use Rattle.bplint_lines.specs.Answers.{read_failed};
 
 use crate::rows::{Finding, Row, Verdict};
-use bplint_lines::kind_name;
+use bplint_lines::RunFault;
 use bplist_objects::{Head, rule_name};
-use std::alloc::AllocError;
+use bplist_octets::Sink;
+use std::alloc::{AllocError, Global};
+use std::io::Write;
 
-/// Adds the line of a region that is no object, unless it is empty: the header, a gap, an overlap, the table or the
-/// trailer.
-pub(crate) fn add_region(
-    line: &mut String,
-    from: u64,
-    to: u64,
-    word: &str,
-) -> Result<(), AllocError>
-    ensures { OnOk result (string_bytes line.new ≡ string_bytes line.old ++ region_line from to word.now) }
-{
-    if from < to {
-        write!(line, "{from}\t{to}\t-\t{word}\t-\t-\n")?;
+/// Lines of six columns, or of seven with that of paths.
+#[derive(Drop)]
+pub(crate) struct MapLines<'a, W> {
+    /// The line that is being made, without the column of paths.
+    line: String,
+    has_paths: bool,
+    sink: Sink,
+    out: &'a mut W,
+}
+
+impl<'a, W: Write> MapLines<'a, W> {
+    pub(crate) fn new(alloc: Global, has_paths: bool, out: &'a mut W) -> MapLines<'a, W> {
+        MapLines {
+            line: String::new(alloc),
+            has_paths,
+            sink: Sink::new(),
+            out,
+        }
     }
-    Ok(())
-}
 
-/// Adds the line of the gap or the overlap before an object, and the line of the object. The objects before it end at
-/// `reached`.
-pub(crate) fn add_row(
-    line: &mut String,
-    reached: u64,
-    row: &Row,
-    verdict: &Verdict,
-) -> Result<(), AllocError>
-    ensures { OnOk result (string_bytes line.new ≡ string_bytes line.old ++ row_lines verdict.now reached row.now) }
-{
-    add_region(line, reached, row.place, "gap")?;
-    add_region(line, row.place, reached.min(end_of(row)), "overlap")?;
-    add_object(line, row, verdict)
-}
+    /// Puts the line with the names of the columns.
+    pub(crate) fn put_title(&mut self) -> Result<(), RunFault>
+        ensures { read_failed result ≡ None }
+    {
+        self.line
+            .push_str("place\tend\tobject\tkind\tcount\theight")?;
+        self.put("path")
+    }
 
-/// Returns the place at which the object of a row ends.
-pub(crate) fn end_of(row: &Row) -> u64
-    ensures { result ≡ row_end row.now }
-{
-    match &row.finding {
-        Finding::Whole(head) | Finding::Wrong(head, _) => head.end,
-        Finding::Lost(_) => row.place,
+    /// Puts the line of a region that is no object, unless it is empty: the header, a gap, an overlap, the table or the
+    /// trailer.
+    pub(crate) fn put_region(&mut self, from: u64, to: u64, word: &str) -> Result<(), RunFault>
+        ensures { read_failed result ≡ None }
+    {
+        if from >= to {
+            return Ok(());
+        }
+        write!(self.line, "{from}\t{to}\t-\t{word}\t-\t-")?;
+        self.put("-")
+    }
+
+    /// Puts the line of the gap or the overlap before an object, and the line of the object. The objects before it end
+    /// at `reached`.
+    pub(crate) fn put_row(
+        &mut self,
+        reached: u64,
+        row: &Row,
+        verdict: &Verdict,
+        path: &str,
+    ) -> Result<(), RunFault>
+        ensures { read_failed result ≡ None }
+    {
+        self.put_region(reached, row.place, "gap")?;
+        self.put_region(row.place, reached.min(row.end()), "overlap")?;
+        add_object(&mut self.line, row, verdict)?;
+        self.put(path)
+    }
+
+    /// Writes what the sink holds.
+    pub(crate) fn finish(&mut self) -> Result<(), RunFault>
+        ensures { read_failed result ≡ None }
+    {
+        self.sink.flush(self.out)?;
+        Ok(())
+    }
+
+    /// Puts the line into the sink, with this last column if there are seven.
+    fn put(&mut self, path: &str) -> Result<(), RunFault>
+        ensures { read_failed result ≡ None }
+    {
+        if self.has_paths {
+            write!(self.line, "\t{path}")?;
+        }
+        self.line.push('\n')?;
+        self.sink.put(self.out, self.line.as_bytes())?;
+        self.line.clear();
+        Ok(())
     }
 }
 
-/// Adds the line of an object.
-pub(crate) fn add_object(line: &mut String, row: &Row, verdict: &Verdict) -> Result<(), AllocError>
-    ensures { OnOk result (string_bytes line.new ≡ string_bytes line.old ++ part_line verdict.now (object row.now)) }
-{
+/// Adds the six columns of an object.
+fn add_object(line: &mut String, row: &Row, verdict: &Verdict) -> Result<(), AllocError> {
     let (place, number) = (row.place, row.number);
     match &row.finding {
         Finding::Whole(head) => {
             add_head(line, row, head)?;
-            add_note(line, verdict, number)?;
-            line.push('\n')
+            add_note(line, verdict, number)
         }
         Finding::Wrong(head, fault) => {
             add_head(line, row, head)?;
-            line.push_str(rule_name(fault.rule))?;
-            line.push('\n')
+            line.push_str(rule_name(fault.rule))
         }
         Finding::Lost(fault) => {
             let word = rule_name(fault.rule);
-            write!(line, "{place}\t-\t{number}\t-\t-\t{word}\n")
+            write!(line, "{place}\t-\t{number}\t-\t-\t{word}")
         }
     }
 }
 
-/// Adds the columns of an object with this head, except the last one.
-fn add_head(line: &mut String, row: &Row, head: &Head) -> Result<(), AllocError>
-    ensures { OnOk result ((last : List ℕ)
-        → string_bytes line.new ++ last ++ codes "\n" ≡ string_bytes line.old ++ head_line row.now head.now last) }
-{
+/// Adds the first five columns of an object with this head.
+fn add_head(line: &mut String, row: &Row, head: &Head) -> Result<(), AllocError> {
     let (place, number) = (row.place, row.number);
-    let (end, kind, count) = (head.end, kind_name(head.kind), head.count);
+    let (end, kind, count) = (head.end, head.kind, head.count);
     write!(line, "{place}\t{end}\t{number}\t{kind}\t{count}\t")
 }
 
-/// Adds the last column of an object that breaks no rule by itself.
-fn add_note(line: &mut String, verdict: &Verdict, number: u32) -> Result<(), AllocError>
-    ensures { OnOk result (string_bytes line.new ≡ string_bytes line.old ++ note verdict.now number) }
-{
+/// Adds the sixth column of an object that breaks no rule by itself.
+fn add_note(line: &mut String, verdict: &Verdict, number: u32) -> Result<(), AllocError> {
     match verdict {
         Verdict::Heights(heights) => match heights.get(number as usize) {
             Some(height) if *height > 0 => {

@@ -1,22 +1,17 @@
-//! What the map says of the objects of a file: what the linter says of all of them, and what each object breaks by
-//! itself. The linter stops at the first fault, so the map also checks the objects one by one.
+//! The objects of a file in byte order, what the linter says of all of them, and what each object breaks by itself. The
+//! linter stops at the first fault, so the map also checks the objects one by one.
 
-ghost use Rattle.std.specs.Prelude.{IsTrue, ◌≡◌, ℕ, List, ◌∷◌, ◌<◌, IfOk};
+ghost use Rattle.std.specs.Prelude.{◌<◌, All, IfOk};
 ghost use Rattle.std.specs.Result.{result_err};
 ghost use Rattle.bplist_octets.specs.Meaning.{OnlyReads};
-ghost use Rattle.bplint_map.specs.Map.{IsVerdict};
 ghost use Rattle.bplist_objects.specs.Failures.{failed_to_read};
-ghost use Rattle.bplist_objects.specs.Frame.{off};
-ghost use Rattle.bplist_objects.specs.Framed.{HonestlyIn, frame_in};
-ghost use Rattle.bplist_objects.specs.Heads.{HasShape};
-ghost use Rattle.bplist_objects.specs.ObjectRules.{KeepsByObject, shape_rules};
-ghost use Rattle.bplist_objects.specs.Rules.{KeepsAll};
+ghost use Rattle.bplist_objects.specs.Framed.{frame_in};
 ghost use Rattle.bplist_objects.specs.Safe.{IsSafeHead};
-ghost use Rattle.bplint_map.specs.Rows.{AreFindings, IsFinding, placed, rows};
 
-use crate::object_order::ObjectOffset;
 use bplist_lint::{LintRefusal, lint};
-use bplist_objects::{Failure, Fault, Framed, Head, ObjectFault, ObjectNo, check_body, shape_in};
+use bplist_objects::{
+    Failure, Fault, Framed, Head, ObjectFault, ObjectNo, Offsets, check_body, shape_in,
+};
 use bplist_octets::{ReadFault, Source};
 use std::alloc::Global;
 
@@ -31,18 +26,13 @@ pub(crate) enum Verdict {
     Circle,
 }
 
-/// Lints a file. Returns what the linter says of its objects.
-pub(crate) fn verdict_of<S: Source>(alloc: Global, src: &mut S) -> Result<Verdict, Failure>
-    ensures reads { OnlyReads (failed_to_read result) (S.means src.old) (S.means src.new) }
-    ensures exact { IsTrue (S.means src.old).honest → IfOk result (IsVerdict (S.means src.old).octets) }
-{
-    match lint(alloc, src) {
-        Ok(found) => Ok(Verdict::Heights(found.certificate.heights)),
-        Err(LintRefusal::Fault(fault)) => Ok(Verdict::Fault(fault)),
-        Err(LintRefusal::Circle(_)) => Ok(Verdict::Circle),
-        Err(LintRefusal::Read(fault)) => Err(Failure::Read(fault)),
-        Err(LintRefusal::Memory) => Err(Failure::Memory),
-    }
+/// An object and its place.
+#[derive(Clone, Copy, PartialEq, Eq, PartialOrd, Ord, Drop)]
+pub(crate) struct ObjectOffset {
+    /// Where it begins.
+    pub place: u64,
+    /// Its number.
+    pub number: u32,
 }
 
 /// What rules 14 to 20 say of one object.
@@ -67,6 +57,57 @@ pub(crate) struct Row {
     pub finding: Finding,
 }
 
+impl Row {
+    /// The place at which the object ends. An object without a head takes no bytes.
+    pub(crate) fn end(&self) -> u64 {
+        match &self.finding {
+            Finding::Whole(head) | Finding::Wrong(head, _) => head.end,
+            Finding::Lost(_) => self.place,
+        }
+    }
+}
+
+/// Lints a file.
+pub(crate) fn verdict_of<S: Source>(alloc: Global, src: &mut S) -> Result<Verdict, Failure>
+    ensures { OnlyReads (failed_to_read result) (S.means src.old) (S.means src.new) }
+{
+    match lint(alloc, src) {
+        Ok(found) => Ok(Verdict::Heights(found.certificate.heights)),
+        Err(LintRefusal::Fault(fault)) => Ok(Verdict::Fault(fault)),
+        Err(LintRefusal::Circle(_)) => Ok(Verdict::Circle),
+        Err(LintRefusal::Read(fault)) => Err(Failure::Read(fault)),
+        Err(LintRefusal::Memory) => Err(Failure::Memory),
+    }
+}
+
+/// Returns the objects of a file, sorted by place and then by number.
+pub(crate) fn objects_in_order<P: Offsets>(
+    alloc: Global,
+    src: &mut P,
+) -> Result<Vec<ObjectOffset>, Failure>
+    ensures reads { OnlyReads (failed_to_read result) (P.means src.old) (P.means src.new) }
+    ensures within { IfOk result (λ objects.
+        All (λ object. object.number < (frame_in (P.means src.old)).objects) objects.items) }
+{
+    let mut objects = objects_by_number(alloc, src)?;
+    objects.sort_unstable();
+    Ok(objects)
+}
+
+fn objects_by_number<P: Offsets>(alloc: Global, src: &mut P) -> Result<Vec<ObjectOffset>, Failure>
+    ensures reads { OnlyReads (failed_to_read result) (P.means src.old) (P.means src.new) }
+    ensures within { IfOk result (λ objects.
+        All (λ object. object.number < (frame_in (P.means src.old)).objects) objects.items) }
+{
+    let count = src.frame().objects;
+    let mut objects = Vec::with_capacity(alloc, count as usize)?;
+    for number in 0..count {
+        let place = src.offset(number)?;
+        objects.push(ObjectOffset { place, number })?;
+    }
+    Ok(objects)
+}
+
 /// Returns the row of an object. Reads its body only if the object has at most `left` bytes, and subtracts them from
 /// `left`.
 pub(crate) fn row_of<P: Framed>(
@@ -75,13 +116,9 @@ pub(crate) fn row_of<P: Framed>(
     left: &mut u64,
 ) -> Result<Row, ReadFault>
     requires { object.number < (frame_in (P.means src.old)).objects }
-    ensures reads { OnlyReads (result_err result) (P.means src.old) (P.means src.new) }
-    ensures exact { HonestlyIn (P.means src.old) (λ f F. object ≡ placed f F object.number
-        → (findings : ℕ → Finding) → AreFindings f F findings → IfOk result (λ row. (behind : List ℕ)
-        → rows f F findings left.old (object.number ∷ behind) ≡ row ∷ rows f F findings left.new behind)) }
+    ensures { OnlyReads (result_err result) (P.means src.old) (P.means src.new) }
 {
-    let n = ObjectNo(object.number);
-    let finding = match shape_in(src, n, object.place) {
+    let finding = match shape_in(src, ObjectNo(object.number), object.place) {
         Ok(head) => {
             let taken = head.end - object.place;
             if taken <= *left {
@@ -108,10 +145,7 @@ fn finding_of<P: Framed>(
     head: Head,
 ) -> Result<Finding, ReadFault>
     requires { IsSafeHead (frame_in (P.means src.old)) head }
-    ensures reads { OnlyReads (result_err result) (P.means src.old) (P.means src.new) }
-    ensures exact { HonestlyIn (P.means src.old) (λ f F. object.place ≡ off f F object.number
-        → HasShape f F object.number head → KeepsAll (KeepsByObject f F object.number) shape_rules
-        → IfOk result (IsFinding f F object.number)) }
+    ensures { OnlyReads (result_err result) (P.means src.old) (P.means src.new) }
 {
     let frame = src.frame();
     match check_body(src, &frame, ObjectNo(object.number), object.place, &head) {

@@ -112,9 +112,9 @@ fn lists(rt: HostRuntime) -> Result<(), Fail> {
     Ok(())
 }
 
-/// The largest number of comparisons, and of bytes asked for: what `path_bytes` is for a step of 4 units into 1,000
-/// keys.
-const MOST: (u64, u64) = (10, 476);
+/// The largest number of comparisons, of bytes asked for (what `path_bytes` is for a step of 4 units into 1,000 keys), and
+/// of reads.
+const MOST: (u64, u64, u64) = (10, 476, 400);
 
 /// The look-up of this key finds what it should, within `MOST`.
 fn is_by_halving(
@@ -123,12 +123,13 @@ fn is_by_halving(
     checked: &mut Checked<CountingSource<SliceSource<'_>>>,
     key: u32,
 ) -> Result<(), Fail> {
-    let before = checked.source().asked;
+    let (asked_before, reads_before) = (checked.source().asked, checked.source().reads);
     let (found, compared) = locate_counted(
         checked,
         &Path::parse(alloc, &format!(in alloc; "/{key:04}")?)?,
     )?;
-    let asked = checked.source().asked.saturating_sub(before);
+    let asked = checked.source().asked.saturating_sub(asked_before);
+    let reads = checked.source().reads.saturating_sub(reads_before);
     let want = if key < 1000 {
         Found::At(Node {
             object: ObjectNo(1001),
@@ -145,6 +146,10 @@ fn is_by_halving(
         "key {key} takes {compared}"
     );
     assert!(rt; asked >= 1 && asked <= MOST.1, "key {key} asks for {asked}");
+    assert!(rt;
+        reads >= 1 && reads <= MOST.2,
+        "key {key} takes {reads} reads"
+    );
     Ok(())
 }
 

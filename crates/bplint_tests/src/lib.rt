@@ -1,5 +1,5 @@
-//! The tests of all crates, by subject. Not here: what the bytes of a file and a run of the program can show, which is in
-//! the tables of tests/vectors.
+//! The tests of all crates, by subject. Not here: what the bytes of a file and a run of the program can show, which is
+//! in the tables of tests/vectors.
 //!
 //! The tests are a crate of their own so that checking the other crates does not prove them again.
 #![tactic(auto)]

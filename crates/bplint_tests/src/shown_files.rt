@@ -1,12 +1,12 @@
 //! The calls that show a file without a certificate: over a file that changes while it is read, and with one failing
-//! read; and how many bytes a recursive listing asks for.
+//! read; and how many bytes a recursive listing and many paths ask for.
 
 use crate::failing_calls::MOST_READS;
 use crate::runs::{line_of_read, outcome};
 use bplint_engine::{Branch, list_all_on, list_on, show_on, show_raw_on, show_text_on};
 use bplint_lines::{RawFault, Style};
 use bplint_map::map_on;
-use bplist_lint::lint_checked;
+use bplist_lint::{Keys, lint_checked};
 use bplist_octets::{CountingSource, ReadFault, ShiftingSource, SliceSource, Source};
 use bplist_samples::{
     FailingRead, FailingSource, Parts, READ_FAULTS, Row, TWO_TRUES, small, tested_rows,
@@ -71,7 +71,7 @@ fn shown<S: Source + Drop>(
         }
         Show::Map => {
             let mut source = source;
-            map_on(alloc, &mut source, &mut out)
+            map_on(alloc, &mut source, false, &mut out)
         }
     };
     outcome(alloc, answer, &out)
@@ -190,7 +190,7 @@ fn raw_text_that_changes(rt: HostRuntime) -> Result<(), Fail> {
 /// `pass_bytes`.
 fn before_the_lines(alloc: Global, row: &Row) -> Result<(u64, u64), Fail> {
     let source = CountingSource::new(SliceSource::new(&row.octets));
-    let Ok((checked, _counts)) = lint_checked(alloc, source) else {
+    let Ok((checked, _tally)) = lint_checked(alloc, source, Keys::Classes) else {
         return Err(Fail::new(row.name));
     };
     let frame = checked.frame();
@@ -225,5 +225,38 @@ fn listings_ask_for_few_bytes(rt: HostRuntime) -> Result<(), Fail> {
             "{name}: {asked} bytes, not {most}"
         );
     }
+    Ok(())
+}
+
+/// Returns how many bytes `show` of a hundred times this path asks for.
+fn asked_by_show(alloc: Global, row: &Row, path: &str) -> Result<u64, Fail> {
+    let mut paths = Vec::new(alloc);
+    for _ in 0..100u8 {
+        paths.push(String::from_str(alloc, path)?)?;
+    }
+    let source = CountingSource::new(SliceSource::new(&row.octets));
+    let mut out = Vec::new(alloc);
+    let (answer, source) = show_on(alloc, source, &paths, Style::Utf8, &mut out);
+    match answer {
+        Ok(_) => Ok(source.asked),
+        Err(_) => Err(Fail::new(row.name)),
+    }
+}
+
+/// `show` sorts keys only if its paths compare many. A hundred paths to the first of a thousand keys compare a hundred, so
+/// after the linter they ask for less than a byte of the file for each byte. A hundred paths to the last key would compare
+/// a hundred thousand, of some twenty bytes each.
+#[test]
+fn keys_are_sorted_for_many_comparisons(rt: HostRuntime) -> Result<(), Fail> {
+    let alloc = rt.alloc();
+    let row = thousand_keys(alloc)?;
+    let length = row.octets.len() as u64;
+    let (linted, _pass) = before_the_lines(alloc, &row)?;
+    let few = asked_by_show(alloc, &row, "/0000")?.saturating_sub(linted);
+    let many = asked_by_show(alloc, &row, "/0999")?.saturating_sub(linted);
+    assert!(rt;
+        few < length && many / 20 < length,
+        "{few}, {many} of {length}"
+    );
     Ok(())
 }

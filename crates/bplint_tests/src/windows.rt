@@ -1,7 +1,12 @@
-//! What windows and panes give, and what they ask of their source.
+//! What windows and pages give, and what they ask of their source.
+
+ghost use Rattle.bplist_octets.specs.Meaning.{borrowed};
 
 use crate::octets::{Read, all_answer, answers};
-use bplist_octets::{FaultySource, Pane, Panes, ReadFault, SliceSource, Window};
+use bplist_octets::{CountingSource, FaultySource, Pages, ReadFault, SliceSource, Source, Window};
+use std::alloc::{AllocError, Global};
+use std::process::Abort;
+use std::test::Fail;
 
 /// Bytes from which their place can be told.
 fn numbered() -> [u8; 70_000] {
@@ -69,16 +74,16 @@ fn one_window(rt: HostRuntime) {
     }
 }
 
-/// The number of panes, which read of the source fails, and the reads.
-const PANES: &[(usize, u64, &[Read])] = &[
+/// Which read of the source fails, and the reads of pages.
+const PAGES: &[(u64, &[Read])] = &[
     (
-        2,
         NONE,
         &[
             (0, 1, Ok(())),
             (8_191, 1, Ok(())),
             (8_191, 2, Ok(())),
             (8_192, 8_192, Ok(())),
+            (12_288, 8_192, Ok(())),
             (33_000, 8_192, Ok(())),
             (232, 3, Ok(())),
             (33_000, 8_193, Ok(())),
@@ -87,24 +92,8 @@ const PANES: &[(usize, u64, &[Read])] = &[
             (70_000, 0, Ok(())),
         ],
     ),
-    // The pane that was used longest ago moves.
+    // A page is empty after a failed read, and the others stay.
     (
-        3,
-        4,
-        &[
-            (0, 1, Ok(())),
-            (30_000, 1, Ok(())),
-            (50_000, 1, Ok(())),
-            (1, 1, Ok(())),
-            (42_000, 1, Ok(())),
-            (2, 1, Ok(())),
-            (50_001, 1, Ok(())),
-            (30_001, 1, Err(ReadFault::Device)),
-        ],
-    ),
-    // A pane is empty after a failed read.
-    (
-        1,
         1,
         &[
             (1, 2, Ok(())),
@@ -113,51 +102,141 @@ const PANES: &[(usize, u64, &[Read])] = &[
             (32_769, 2, Ok(())),
         ],
     ),
+    // The second part of a request over two pages fails.
+    (
+        1,
+        &[
+            (16_380, 2, Ok(())),
+            (16_380, 8, Err(ReadFault::Device)),
+            (16_380, 4, Ok(())),
+            (16_380, 8, Ok(())),
+        ],
+    ),
 ];
 
 #[test]
-fn panes(rt: HostRuntime) {
+fn pages(rt: HostRuntime) {
     let bytes = numbered();
-    let mut panes = [Pane::EMPTY; 3];
-    for (count, fails, reads) in PANES {
-        let mut source = FaultySource::new(&bytes, *fails);
-        assert!(rt; 0 < *count && *count <= 3);
-        let mut windows = Panes::new(&mut source, &mut panes[..*count]);
-        all_answer(&rt, &mut windows, &bytes, reads);
+    for (fails, reads) in PAGES {
+        let mut pages = Pages::new(rt.alloc(), FaultySource::new(&bytes, *fails));
+        all_answer(&rt, &mut pages, &bytes, reads);
     }
 }
 
-/// Reads 1,024 bytes, then 4,096, then 16,384 five times. The eighth read of the source would fail.
+/// Reads 4,096 bytes, and then each of the five pages. The seventh read of the source would fail.
 #[test]
-fn forward_in_whole_panes(rt: HostRuntime) {
+fn forward_in_whole_pages(rt: HostRuntime) {
     let bytes = numbered();
-    let mut source = FaultySource::new(&bytes, 7);
-    let mut panes = [Pane::EMPTY; 2];
-    let mut windows = Panes::new(&mut source, &mut panes);
+    let mut pages = Pages::new(rt.alloc(), FaultySource::new(&bytes, 6));
     for k in 0..700 {
-        answers(&rt, &mut windows, &bytes, (k * 100, 100, Ok(())));
+        answers(&rt, &mut pages, &bytes, (k * 100, 100, Ok(())));
     }
 }
 
-/// The same backward: reads the last 368 bytes, then four times as many twice, then 15,360 five times. The ninth read
-/// would fail.
+/// The same backward: reads the last 368 bytes, and then each page.
 #[test]
-fn backward_in_large_parts(rt: HostRuntime) {
+fn backward_in_whole_pages(rt: HostRuntime) {
     let bytes = numbered();
-    let mut source = FaultySource::new(&bytes, 8);
-    let mut panes = [Pane::EMPTY; 2];
-    let mut windows = Panes::new(&mut source, &mut panes);
+    let mut pages = Pages::new(rt.alloc(), FaultySource::new(&bytes, 6));
     for k in 1..701 {
-        answers(&rt, &mut windows, &bytes, (70_000 - k * 100, 100, Ok(())));
+        answers(&rt, &mut pages, &bytes, (70_000 - k * 100, 100, Ok(())));
     }
 }
 
-#[test]
-fn panes_that_held_another_source(rt: HostRuntime) {
-    let mut panes = [Pane::EMPTY; 1];
-    for bytes in [b"abc", b"xyz"] {
-        let mut source = SliceSource::new(bytes);
-        let mut windows = Panes::new(&mut source, &mut panes);
-        answers(&rt, &mut windows, bytes, (0, 3, Ok(())));
+/// A source that is read through a borrow, so that its counts are there afterwards.
+#[derive(Drop)]
+struct Borrowed<'a, S: Source> {
+    source: &'a mut S,
+}
+
+impl<S: Source> Source for Borrowed<'_, S> {
+    ghost means = { λ b. borrowed b.source.ghost_name (S.means b.source.now) };
+
+    ghost asked = { λ b. S.asked b.source.now };
+
+    fn len(&self) -> u64 {
+        self.source.len()
     }
+
+    fn read_at(&mut self, at: u64, into: &mut [u8]) -> Result<(), ReadFault> {
+        self.source.read_at(at, into)
+    }
+}
+
+/// The length of a source of 60 pages.
+const LENGTH: usize = 983_040;
+
+/// The places at which a test reads: how many, and how one follows from the one before.
+#[derive(Drop)]
+struct Places {
+    count: usize,
+    factor: u64,
+    step: u64,
+}
+
+/// Reads four bytes at each of these places. Returns how many bytes the source is asked for, and with how many reads.
+fn asked_by(rt: &impl Abort, alloc: Global, places: &Places) -> Result<(u64, u64), AllocError> {
+    let bytes = vec![in alloc; 7u8; LENGTH]?;
+    let mut counting = CountingSource::new(SliceSource::new(&bytes));
+    {
+        let borrowed = Borrowed {
+            source: &mut counting,
+        };
+        let mut pages = Pages::new(alloc, borrowed);
+        let mut state = 0u64;
+        for _ in 0..places.count {
+            let at = (state >> 32) % (LENGTH as u64 - 4);
+            answers(rt, &mut pages, &bytes, (at, 4, Ok(())));
+            state = state.wrapping_mul(places.factor).wrapping_add(places.step);
+        }
+    }
+    Ok((counting.asked, counting.reads))
+}
+
+/// Each page is read twice: the block of the first jump, and then all of it. Few are read over.
+#[test]
+fn in_no_order(rt: HostRuntime) -> Result<(), Fail> {
+    let places = Places {
+        count: 2000,
+        factor: 6_364_136_223_846_793_005,
+        step: 1_442_695_040_888_963_407,
+    };
+    let (asked, reads) = asked_by(&rt, rt.alloc(), &places)?;
+    assert!(rt;
+        asked <= 1_500_000 && reads <= 200,
+        "{asked} bytes, {reads} reads"
+    );
+    Ok(())
+}
+
+/// No reader makes the source be read again and again. This one always comes to a page beside one that it used lately.
+#[test]
+fn in_a_bad_order(rt: HostRuntime) -> Result<(), Fail> {
+    let places = Places {
+        count: 2000,
+        factor: 1,
+        step: 650_011 << 32,
+    };
+    let (asked, reads) = asked_by(&rt, rt.alloc(), &places)?;
+    assert!(rt;
+        asked <= 5_200_000 && reads <= 600,
+        "{asked} bytes, {reads} reads"
+    );
+    Ok(())
+}
+
+/// A reader that goes on keeps few pages. So it reads the source again when it begins anew.
+#[test]
+fn forward_twice(rt: HostRuntime) -> Result<(), Fail> {
+    let places = Places {
+        count: 2048,
+        factor: 1,
+        step: 960 << 32,
+    };
+    let (asked, reads) = asked_by(&rt, rt.alloc(), &places)?;
+    assert!(rt;
+        asked >= 1_800_000 && asked <= 2_000_000 && reads <= 130,
+        "{asked} bytes, {reads} reads"
+    );
+    Ok(())
 }

@@ -1,6 +1,4 @@
 pub mod WriteSteps
 pub mod WalkSteps
-mod AskSteps
-mod SearchAsks
 mod SearchSteps
 mod PrintSteps

@@ -18,7 +18,6 @@ pub use Rattle.bplist_cursor.specs.Texts.{quoted, text_of_bytes, text_of_units}
 pub use Rattle.bplist_cursor.specs.Vouched.{HonestlyAt, VouchesFor}
 pub use Rattle.bplist_cursor.specs.declared.faults.Unread.TheVariants.{Read}
 pub use Rattle.bplist_cursor.specs.declared.sizes.Form.TheVariants.{NoForm}
-pub use Rattle.bplist_ascii.specs.Asked.{print_bytes, search_bytes}
 pub use Rattle.bplist_ascii.specs.BoundedWrites.{AddFails, Adds, AddsSome, AddsText, FailsWithin, StaysWithin, TakesWithin, fits, hex_digits, is_unquoted_text, print_read, styled}
 pub use Rattle.bplist_ascii.specs.FormlessSearch.{HasSameFormless}
 pub use Rattle.bplist_ascii.specs.Printed.{IsPrinted, IsPut}

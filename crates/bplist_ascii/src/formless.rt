@@ -1,10 +1,8 @@
 //! Finds the first object that keeps a value from having a text.
 
-ghost use Rattle.std.specs.Prelude.{◌≡◌, ◌↔◌, ◌<◌, ◌≤◌, ◌+◌, ◌*◌, ℕ, Some, None, slice_index, IfOk, IfSome, IsTrue, MatchOption};
-ghost use Rattle.bplist_ascii.specs.Prelude.{HonestlyChecked, Value, Content, Spells, content_at, Holds, IsSafeHead};
+ghost use Rattle.std.specs.Prelude.{◌≡◌, ◌↔◌, ◌<◌, ◌+◌, ℕ, Some, None, slice_index, IfOk, IfSome, IsTrue, MatchOption};
+ghost use Rattle.bplist_ascii.specs.Prelude.{HonestlyChecked, Value, Content, Spells, content_at, IsSafeHead};
 ghost use Rattle.bplist_ascii.specs.Prelude.{GivesRead, read_failed, OnlyReadsFile, AreMeasures, form_in};
-ghost use Rattle.bplist_objects.specs.Extents.{Takes as takes};
-ghost use Rattle.bplist_ascii.specs.Prelude.{IsValid, ref_count, search_bytes};
 ghost use Rattle.bplist_ascii.specs.Prelude.{NoForm, value_text, IsFormless, IsHeld, IsContainer, HasSameFormless};
 
 use bplist_cert::Checked;
@@ -12,14 +10,12 @@ use bplist_cursor::{Form, Measures, Node, Unread, member_by_head, node_head};
 use bplist_objects::{Head, Kind, ObjectNo};
 use bplist_octets::Source;
 
-/// Returns true if the value of object `n` has no text.
 fn has_no_form(measures: &Measures, n: ObjectNo) -> bool
     ensures { IsTrue result ↔ (form_in measures.now n.0 ≡ Some NoForm) }
 {
     matches!(measures.form(n), Some(Form::NoForm))
 }
 
-/// Returns the first member of a container whose value has no text.
 fn first_without_text<S: Source>(
     checked: &mut Checked<S>,
     measures: &Measures,
@@ -30,7 +26,6 @@ fn first_without_text<S: Source>(
     requires measured { HonestlyChecked checked.old
         (λ f F. AreMeasures f F checked.old.certificate.heights measures.now) }
     ensures reads { OnlyReadsFile (read_failed result) checked.old checked.new }
-    ensures asks { checked.new.asked ≤ checked.old.asked + 8 * (ref_count head.now.kind head.now.count + 1) }
     ensures exact { HonestlyChecked checked.old (λ f F. (n : ℕ) (v : Value) → IsHeld checked.old n v → value_text v ≡ None
         → ((c : Content) → Spells f F n c → c ≡ content_at f F head.now)
         → GivesRead (λ node. HasSameFormless checked.old n v node.object.0 × (slice_index checked.old.certificate.heights node.object.0
@@ -57,8 +52,6 @@ fn next_formless<S: Source>(
     requires measured { HonestlyChecked checked.old
         (λ f F. AreMeasures f F checked.old.certificate.heights measures.now) }
     ensures reads { OnlyReadsFile (read_failed result) checked.old checked.new }
-    ensures asks { HonestlyChecked checked.old (λ f F. (e : ℕ) → takes f F node.object.0 e
-        → checked.new.asked ≤ checked.old.asked + (36 + 8 * e)) }
     ensures exact { HonestlyChecked checked.old (λ f F. (v : Value) → IsHeld checked.old node.object.0 v → value_text v ≡ None
         → GivesRead (λ next. MatchOption next (IsFormless f F node.object.0 v node.object.0)
         (λ m. HasSameFormless checked.old node.object.0 v m.object.0)) result) }
@@ -88,8 +81,6 @@ pub(crate) fn first_formless<S: Source>(
     requires measured { HonestlyChecked checked.old
         (λ f F. AreMeasures f F checked.old.certificate.heights measures.now) }
     ensures reads { OnlyReadsFile (read_failed result) checked.old checked.new }
-    ensures asks { HonestlyChecked checked.old (λ f F. IsValid f F checked.old.certificate.heights → (v : Value)
-        → IsHeld checked.old node.object.0 v → value_text v ≡ None → checked.new.asked ≤ checked.old.asked + search_bytes F) }
     ensures exact { HonestlyChecked checked.old (λ f F. (v : Value) → IsHeld checked.old node.object.0 v → value_text v ≡ None
         → GivesRead (λ m. IsFormless f F node.object.0 v m.0) result) }
 {

@@ -18,11 +18,9 @@ use std::io::Write;
 /// The largest number of bytes that one read takes.
 const PART: usize = 128;
 
-/// Returns true if a text is not empty and consists of ASCII letters and digits.
 fn is_unquoted<S: Source>(checked: &mut Checked<S>, head: &Head) -> Result<bool, Unread>
     requires text { IsSafeText (length checked.old.source.octets) head.now }
     ensures reads { OnlyReadsFile (read_failed result) checked.old checked.new }
-    ensures asks { checked.new.asked ≤ checked.old.asked + 2 * head.now.count }
     ensures exact { GivesRead (λ unquoted. HonestlyChecked checked.old
         (λ f _. unquoted ≡ is_unquoted_text (units_of f head.now))) result }
     ensures some { IfOk result (λ unquoted. unquoted ≡ true → 0 < head.now.count) }
@@ -39,7 +37,6 @@ fn is_unquoted<S: Source>(checked: &mut Checked<S>, head: &Head) -> Result<bool,
     Ok(true)
 }
 
-/// Writes the units of a text in its style.
 fn write_text_body<S: Source, W: Write>(
     checked: &mut Checked<S>,
     text: &Styled,
@@ -49,7 +46,6 @@ fn write_text_body<S: Source, W: Write>(
 ) -> Result<(), PrintFault>
     requires text { IsSafeText (length checked.old.source.octets) text.now.head }
     ensures reads { OnlyReadsFile (print_read result) checked.old checked.new }
-    ensures asks { checked.new.asked ≤ checked.old.asked + 2 * text.now.head.count }
     ensures adds { OnOk result (AddsText (W.contents out.old) (W.contents out.new) sink.old sink.new room.old room.new
         (IsTrue checked.old.source.honest) (flat_map (styled text.now.style)
         (units_of checked.old.source.octets text.now.head))) }
@@ -68,7 +64,6 @@ fn write_text_body<S: Source, W: Write>(
     Ok(())
 }
 
-/// Writes two hexadecimal digits for each byte of data.
 fn write_data_body<S: Source, W: Write>(
     checked: &mut Checked<S>,
     head: &Head,
@@ -79,7 +74,6 @@ fn write_data_body<S: Source, W: Write>(
     requires kind { head.now.kind ≡ Bytes }
     requires head { IsSafeBody (length checked.old.source.octets) head.now }
     ensures reads { OnlyReadsFile (print_read result) checked.old checked.new }
-    ensures asks { checked.new.asked ≤ checked.old.asked + head.now.count }
     ensures adds { OnOk result (AddsText (W.contents out.old) (W.contents out.new) sink.old sink.new room.old room.new
         (IsTrue checked.old.source.honest) (flat_map hex_digits (part checked.old.source.octets head.now.body head.now.count))) }
     ensures fails { IfErr result (λ e. HonestlyChecked checked.old
@@ -99,7 +93,6 @@ fn write_data_body<S: Source, W: Write>(
     Ok(())
 }
 
-/// Writes the text of data.
 pub(crate) fn write_data<S: Source, W: Write>(
     checked: &mut Checked<S>,
     head: &Head,
@@ -110,7 +103,6 @@ pub(crate) fn write_data<S: Source, W: Write>(
     requires kind { head.now.kind ≡ Bytes }
     requires head { IsSafeBody (length checked.old.source.octets) head.now }
     ensures reads { OnlyReadsFile (print_read result) checked.old checked.new }
-    ensures asks { checked.new.asked ≤ checked.old.asked + head.now.count }
     ensures adds { OnOk result (AddsText (W.contents out.old) (W.contents out.new) sink.old sink.new room.old room.new
         (IsTrue checked.old.source.honest) (text_of_bytes (part checked.old.source.octets head.now.body head.now.count))) }
     ensures fails { IfErr result (λ e. HonestlyChecked checked.old
@@ -124,7 +116,6 @@ pub(crate) fn write_data<S: Source, W: Write>(
     write(sink, out, room, b">")
 }
 
-/// Writes a text in quotes.
 fn write_quoted<S: Source, W: Write>(
     checked: &mut Checked<S>,
     head: &Head,
@@ -134,7 +125,6 @@ fn write_quoted<S: Source, W: Write>(
 ) -> Result<(), PrintFault>
     requires text { IsSafeText (length checked.old.source.octets) head.now }
     ensures reads { OnlyReadsFile (print_read result) checked.old checked.new }
-    ensures asks { checked.new.asked ≤ checked.old.asked + 2 * head.now.count }
     ensures adds { OnOk result (AddsText (W.contents out.old) (W.contents out.new) sink.old sink.new room.old room.new
         (IsTrue checked.old.source.honest) (quoted (units_of checked.old.source.octets head.now))) }
     ensures fails { IfErr result (λ e. HonestlyChecked checked.old
@@ -161,7 +151,6 @@ pub(crate) fn write_text<S: Source, W: Write>(
 ) -> Result<(), PrintFault>
     requires text { IsSafeText (length checked.old.source.octets) head.now }
     ensures reads { OnlyReadsFile (print_read result) checked.old checked.new }
-    ensures asks { checked.new.asked ≤ checked.old.asked + 4 * head.now.count }
     ensures adds { OnOk result (AddsText (W.contents out.old) (W.contents out.new) sink.old sink.new room.old room.new
         (IsTrue checked.old.source.honest) (text_of_units (units_of checked.old.source.octets head.now))) }
     ensures fails { IfErr result (λ e. HonestlyChecked checked.old

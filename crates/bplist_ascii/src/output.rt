@@ -58,7 +58,6 @@ fn write_unit<W: Write>(
     }
 }
 
-/// Puts units into the sink in this style.
 pub(crate) fn write_units<W: Write>(
     sink: &mut Sink,
     out: &mut W,
@@ -79,7 +78,6 @@ pub(crate) fn write_units<W: Write>(
     Ok(())
 }
 
-/// Puts two hexadecimal digits for each byte into the sink.
 pub(crate) fn write_digits<W: Write>(
     sink: &mut Sink,
     out: &mut W,

@@ -4,10 +4,13 @@
 //! or if the text is too long.
 
 ghost use Rattle.std.specs.Prelude.{◌≡◌, ℕ, ◌+◌, ◌≤◌, List, Some, None, length, Err, OnOk, OnErr};
+ghost use Rattle.bplist_octets.specs.FaultLines.{read_line, write_line};
+ghost use Rattle.bplist_objects.specs.FaultLines.{changed_line, memory_line};
 ghost use Rattle.bplist_cursor.specs.declared.faults.Unread.TheVariants.{Changed as unread_changed};
+ghost use Rattle.bplist_ascii.specs.FormLines.{no_form_line, too_long_line};
 ghost use Rattle.bplist_ascii.specs.Prelude.{Read as unread_read, PrintFault as print_fault, HonestlyChecked, Value};
 ghost use Rattle.bplist_ascii.specs.Prelude.{Holds, HonestlyAt, VouchesFor, OnlyReadsFile, AreMeasures, AtMost, Takes, print_read};
-ghost use Rattle.bplist_ascii.specs.Prelude.{IsPut, IsPrinted, print_bytes, search_bytes, value_text};
+ghost use Rattle.bplist_ascii.specs.Prelude.{IsPut, IsPrinted};
 ghost use Rattle.bplist_ascii.specs.declared.printer.PrintFault.TheVariants as print_faults;
 ghost use Rattle.bplist_ascii.specs.declared.printer.PrintFault.TheVariants.{Changed};
 
@@ -18,6 +21,8 @@ use bplist_cursor::{Form, Measures, Node, Unread};
 use bplist_objects::{Head, ObjectNo};
 use bplist_octets::{ReadFault, Sink, Source, WriteFault};
 use std::alloc::{AllocFailed, Global};
+use std::error::Error;
+use std::fmt;
 use std::io::Write;
 
 /// Why a value was not printed as a whole.
@@ -39,6 +44,30 @@ pub enum PrintFault {
     /// Memory was refused.
     Memory,
 }
+
+impl fmt::Display for PrintFault {
+    ghost output = { λ fault. Some (elim fault [
+      | print_faults.NoAsciiForm object ↦ no_form_line object
+      | print_faults.TooLong ↦ too_long_line
+      | print_faults.Write sent ↦ write_line sent
+      | print_faults.Read error ↦ read_line error
+      | print_faults.Changed ↦ changed_line
+      | print_faults.Memory ↦ memory_line
+    ]) };
+
+    fn fmt<W: fmt::Write>(&self, f: &mut fmt::Formatter<W>) -> fmt::Result {
+        match self {
+            PrintFault::NoAsciiForm(object) => write!(f, "form NoAsciiForm object {object}"),
+            PrintFault::TooLong => f.write_str("form TooLong"),
+            PrintFault::Write { sent } => write!(f, "write {sent}"),
+            PrintFault::Read(error) => write!(f, "{error}"),
+            PrintFault::Changed => f.write_str("changed"),
+            PrintFault::Memory => f.write_str("memory"),
+        }
+    }
+}
+
+impl Error for PrintFault {}
 
 impl From<WriteFault> for PrintFault {
     ghost from_gives = { λ fault e. e ≡ print_faults.Write fault.sent };
@@ -110,11 +139,6 @@ pub fn print_into<S: Source, W: Write>(
     requires measured { HonestlyChecked checked.old
         (λ f F. AreMeasures f F checked.old.certificate.heights measures.now) }
     ensures reads { OnlyReadsFile (print_read result) checked.old checked.new }
-    ensures asks { HonestlyAt checked.old node.object.0 (λ f F n. (v : Value) → Holds f F n v
-        → (text : List ℕ) → value_text v ≡ Some text
-        → checked.new.asked ≤ checked.old.asked + print_bytes limit (length text)) }
-    ensures asks_search { HonestlyAt checked.old node.object.0 (λ f F n. (v : Value) → Holds f F n v → value_text v ≡ None
-        → checked.new.asked ≤ checked.old.asked + search_bytes F) }
     ensures exact { HonestlyAt checked.old node.object.0 (λ f F n. (v : Value) → Holds f F n v
         → IsPut (W.contents out.old) (W.contents out.new) sink.old sink.new f F n v limit result) }
     ensures unvouched { (VouchesFor checked.old node.object.0 → ⊥) → result ≡ Err Changed }
@@ -167,11 +191,6 @@ pub fn print<S: Source, W: Write>(
     requires measured { HonestlyChecked checked.old
         (λ f F. AreMeasures f F checked.old.certificate.heights measures.now) }
     ensures reads { OnlyReadsFile (print_read result) checked.old checked.new }
-    ensures asks { HonestlyAt checked.old node.object.0 (λ f F n. (v : Value) → Holds f F n v
-        → (text : List ℕ) → value_text v ≡ Some text
-        → checked.new.asked ≤ checked.old.asked + print_bytes limit (length text)) }
-    ensures asks_search { HonestlyAt checked.old node.object.0 (λ f F n. (v : Value) → Holds f F n v → value_text v ≡ None
-        → checked.new.asked ≤ checked.old.asked + search_bytes F) }
     ensures exact { HonestlyAt checked.old node.object.0 (λ f F n. (v : Value) → Holds f F n v
         → IsPrinted (W.contents out.old) (W.contents out.new) f F n v limit result) }
     ensures unvouched { (VouchesFor checked.old node.object.0 → ⊥) → result ≡ Err Changed }

@@ -64,7 +64,6 @@ pub fn add_text_of_bytes(bytes: &[u8], text: &mut Vec<u8>) -> Result<(), AllocEr
     Ok(text.push(b'>')?)
 }
 
-/// Adds units as they stand between quotes.
 fn add_quoted(units: &[u16], text: &mut Vec<u8>) -> Result<(), AllocError>
     ensures { OnOk result (text.new.items ≡ text.old.items ++ flat_map spec.quoted_unit units.now) }
 {
@@ -74,7 +73,6 @@ fn add_quoted(units: &[u16], text: &mut Vec<u8>) -> Result<(), AllocError>
     Ok(())
 }
 
-/// Adds the two hexadecimal digits of each byte.
 fn add_digits(bytes: &[u8], text: &mut Vec<u8>) -> Result<(), AllocError>
     ensures { OnOk result (text.new.items ≡ text.old.items ++ flat_map hex_digits bytes.now) }
 {
@@ -84,7 +82,6 @@ fn add_digits(bytes: &[u8], text: &mut Vec<u8>) -> Result<(), AllocError>
     Ok(())
 }
 
-/// Returns the two hexadecimal digits of a byte.
 pub(crate) fn digits_of(byte: u8) -> [u8; 2]
     ensures { result ≡ hex_digits byte }
 {
@@ -108,7 +105,6 @@ impl Model for QuotedUnit {
 }
 
 impl QuotedUnit {
-    /// Makes the quoted form of a unit.
     #[tactic(auto, unfolding(hex::specs::Hex::encode_with))]
     pub(crate) fn new(unit: u16) -> QuotedUnit
         ensures { result ≡ spec.quoted_unit unit }
@@ -126,7 +122,6 @@ impl QuotedUnit {
         }
     }
 
-    /// Returns the bytes.
     pub(crate) fn as_slice(&self) -> &[u8]
         ensures { result.now ≡ self.now }
     {

@@ -1,6 +1,6 @@
 //! The walk that writes the text of a value. A stack holds the containers that are not written to their end.
 
-ghost use Rattle.std.specs.Prelude.{◌≡◌, ◌<◌, ◌≤◌, ◌+◌, ◌*◌, ◌++◌, [], ◌∷◌, List, ℕ, length, OnOk, IfErr, OnErr};
+ghost use Rattle.std.specs.Prelude.{◌≡◌, ◌<◌, ◌+◌, ◌++◌, [], ◌∷◌, List, ℕ, OnOk, IfErr, OnErr};
 ghost use Rattle.bplist_ascii.specs.Prelude.{IsSafeHead, OnlyReadsFile, print_read, AddsSome, TakesWithin, FailsWithin};
 ghost use Rattle.bplist_ascii.specs.Prelude.{StaysWithin, Takes, opening_of, separator_of, closing_of, AreSafe};
 ghost use Rattle.bplist_ascii.specs.Prelude.{HonestlyLeft, HonestlyPlain, StackLeft, GoesOn};
@@ -31,7 +31,6 @@ pub(crate) struct PrintWalk {
 }
 
 impl PrintWalk {
-    /// A walk that has not begun, with this room in bytes.
     pub(crate) fn new(alloc: Global, room: u64) -> PrintWalk
         ensures begins { result.stack.items ≡ [] }
         ensures room { result.room ≡ room }
@@ -86,10 +85,6 @@ fn begin<S: Source, W: Write>(
 ) -> Result<(), PrintFault>
     requires heads { AreSafe checked.old.frame walk.old.stack.items }
     ensures reads { OnlyReadsFile (print_read result) checked.old checked.new }
-    ensures asks { HonestlyPlain checked.old node.object.0
-        (λ text. checked.new.asked ≤ checked.old.asked + (28 + 4 * length text)) }
-    ensures asks_on { OnOk result (HonestlyPlain checked.old node.object.0
-        (λ _. checked.new.asked + 4 * walk.new.room ≤ checked.old.asked + (28 + 4 * walk.old.room))) }
     ensures heads { OnOk result (AreSafe checked.old.frame walk.new.stack.items) }
     ensures exact { OnOk result (HonestlyPlain checked.old node.object.0 (λ text. (left : List ℕ)
         → StackLeft checked.old walk.old.stack.items left → GoesOn checked.old (W.contents out.old) (W.contents out.new)
@@ -124,10 +119,6 @@ fn step<S: Source, W: Write>(
     requires heads { AreSafe checked.old.frame walk.old.stack.items }
     requires head { IsSafeHead checked.old.frame opened.head }
     ensures reads { OnlyReadsFile (print_read result) checked.old checked.new }
-    ensures asks { HonestlyLeft checked.old (walk.old.stack.items ++ opened ∷ [])
-        (λ left. checked.new.asked ≤ checked.old.asked + (36 + 4 * length left)) }
-    ensures asks_on { OnOk result (HonestlyLeft checked.old (walk.old.stack.items ++ opened ∷ [])
-        (λ _. checked.new.asked + 4 * walk.new.room ≤ checked.old.asked + (36 + 4 * walk.old.room))) }
     ensures heads { OnOk result (AreSafe checked.old.frame walk.new.stack.items) }
     ensures exact { OnOk result (HonestlyLeft checked.old (walk.old.stack.items ++ opened ∷ [])
         (GoesOn checked.old (W.contents out.old) (W.contents out.new) sink.old sink.new walk.old.room walk.new.room
@@ -161,8 +152,6 @@ pub(crate) fn write_value<S: Source, W: Write>(
 ) -> Result<(), PrintFault>
     requires begins { walk.stack.items ≡ [] }
     ensures reads { OnlyReadsFile (print_read result) checked.old checked.new }
-    ensures asks { HonestlyPlain checked.old node.object.0
-        (λ text. checked.new.asked ≤ checked.old.asked + (40 * length text + 36)) }
     ensures exact { OnOk result (HonestlyPlain checked.old node.object.0
         (Takes (W.contents out.old) (W.contents out.new) sink.old sink.new)) }
     ensures fails { IfErr result (λ e. HonestlyPlain checked.old node.object.0

@@ -1,11 +1,13 @@
 -- An answer about the checked file of a handle is an answer about the handle.
-use Rattle.std.proofs.Common.{arith, ◌≡◌, ◌<◌, ◌∙◌, ℕ, List, length, Some, Result, Err, ap, inl, inr, subst, sym}
+use Rattle.std.proofs.Common.{arith, ◌≡◌, ◌<◌, ◌∙◌, ℕ, List, length, Some, Result, Err, Vec, ap, inl, inr, subst, sym}
+use Rattle.std.specs.Global.{Global}
 use denote.Ref.{Bor}
 use Rattle.bplist_cert.specs.CheckedFile.{CheckedFile}
 use Rattle.bplist_c.specs.declared.handle.BplistHandle.{BplistHandle}
 use Rattle.bplist_c.specs.declared.handle.Session.{Session}
 use Rattle.bplist_c.specs.declared.status.Status.{Status}
 use Rattle.bplist_c.specs.Sessions.{IsRefused, OnHandle, checked_of}
+use Rattle.bplist_c.specs.Statuses.{items_of}
 
 module _ {X : Type 0} (file : Bor (List ℕ)) (handle : BplistHandle) (Says : CheckedFile → Result X Status → Type 0) where
   -- the handle lent its checked file
@@ -33,5 +35,16 @@ module _ {X : Type 0} (file : Bor (List ℕ)) (handle : BplistHandle) (Says : Ch
   on_answer says answer on = record {
     closed = on.closed;
     other = on.other;
+    opened = λ a b s has. says (checked_of file s) answer (on.opened a b s has);
+  }
+
+-- the same of the items of an answer
+module _ {Y : Type 0} (file : Bor (List ℕ)) (handle : BplistHandle) (Says : CheckedFile → Result (List Y) Status → Type 0) where
+  pub on_items : {P : CheckedFile → Result (Vec Y Global) Status → Type 0}
+      → ((checked : CheckedFile) (answer : Result (Vec Y Global) Status) → P checked answer → Says checked (items_of answer))
+      → (answer : Result (Vec Y Global) Status) → OnHandle file handle P answer → OnHandle file handle Says (items_of answer)
+  on_items says answer on = record {
+    closed = λ e. ap items_of (on.closed e);
+    other = λ a b. ap items_of (on.other a b);
     opened = λ a b s has. says (checked_of file s) answer (on.opened a b s has);
   }

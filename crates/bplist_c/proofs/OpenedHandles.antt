@@ -73,7 +73,7 @@ module _ (file : Bor (List ℕ)) (checked : CheckedFile) (is : IsChecked checked
 
   -- what the check has accepted is a valid certificate of the file
   pub is_pair : (octets : List ℕ) → IsCertificate checked.certificate → octets ≡ octets_of checked.certificate
-      → IsPair file.now octets (lint_of checked.frame checked.certificate (record { reached = 0; references = 0 }))
+      → IsPair file.now octets (lint_of checked.frame checked.certificate (record { reached = 0; used = record { octets = 0 }; references = 0 }))
   is_pair octets spelled e =
       let accepted = subst (λ (m : Meaning). ∥ IsAccepted m.octets checked.frame checked.certificate ∥₁) same (is.accepted (honest file checked same)) in
       (checked.frame, framed, (spelled, e, accepted), refl, refl, refl)

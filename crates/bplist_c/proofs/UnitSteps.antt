@@ -2,8 +2,9 @@
 use Rattle.std.proofs.Common.{arith, ◌≡◌, ◌≤◌, ◌⊎◌, ◌++◌, ◌∙◌, ◌-◌, min, ℕ, List, Ok, inl, inr, length, take, drop, refl, sym, ap}
 use Rattle.std.proofs.lemmas.Bool.{cases_lt, le-leb}
 use Rattle.std.proofs.lemmas.List.{length-take, length-drop, take_all}
+use lib.Seq.{take-append-le}
 use Rattle.bplist_octets.specs.Octets.{part}
-use Rattle.bplist_objects.specs.Safe.{IsSafeBody}
+use Rattle.bplist_objects.specs.Safe.{IsSafeBody, IsSafeText}
 use Rattle.bplist_objects.specs.Units.{IsTextKind, units_of}
 use Rattle.bplist_objects.specs.declared.head.Head.{Head}
 use Rattle.bplist_objects.proofs.Units.{length-units_at}
@@ -47,3 +48,15 @@ pub units_put : (f : List ℕ) (head : Head) (from start now : ℕ) (read old : 
 units_put f head from start now read old was text safe e d is =
     let all : length (units_of f head) ≡ head.count = length-units_at f head.kind head.count head.body text (omega (arith, safe.body, safe.within)) in
     part_put (units_of f head) from start now read old was (omega (arith, all, e)) (omega (arith, all, d)) is
+
+-- as many units as a text has are all of them
+pub whole_units : (f : List ℕ) (head : Head) (n : ℕ) (us : List ℕ) → IsSafeText (length f) head → n ≡ head.count
+    → us ≡ part (units_of f head) 0 n → us ≡ units_of f head
+whole_units f head n us text e is =
+    let all : length (units_of f head) ≡ head.count =
+    length-units_at f head.kind head.count head.body text.kind (omega (arith, text.body.body, text.body.within)) in
+    is ∙ take_all n (units_of f head) (omega (arith, all, e))
+
+-- what was written to the front of a list is its front
+pub take_front : (len : ℕ) (xs ys : List ℕ) → length xs ≡ len → take len (xs ++ ys) ≡ xs
+take_front len xs ys e = take-append-le len xs ys (omega (arith, e)) ∙ take_all len xs (omega (arith, e))

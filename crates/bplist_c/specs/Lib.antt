@@ -7,5 +7,6 @@ pub mod Sessions
 pub mod Sizes
 pub mod Statuses
 pub mod Texts
+pub mod Utf8
 pub mod Verdicts
 pub mod Prelude

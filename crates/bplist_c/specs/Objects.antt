@@ -2,15 +2,16 @@
 use Rattle.std.specs.Prelude.{◌≡◌, ℕ, suc, ◌-◌, ◌/◌, ◌%◌, ◌^◌, ◌<◌, min, List, length, slice_index, slice_index_or, Result, Ok, Err}
 use Rattle.std.specs.Int.{w128, cast_unsigned}
 use denote.Enum.Declared.{tag_of}
-use Rattle.bplist_octets.specs.Octets.{part}
+use Rattle.bplist_octets.specs.Octets.{num, part}
 use Rattle.bplist_objects.specs.contracts.head.Kind.{the_type}
-use Rattle.bplist_objects.specs.Value.{int, text, uid}
+use Rattle.bplist_objects.specs.Value.{date, int, real, text, uid}
 use Rattle.bplist_objects.specs.declared.frame.Frame.{Frame}
 use Rattle.bplist_objects.specs.declared.head.Head.{Head}
 use Rattle.bplist_objects.specs.declared.head.Kind.{Kind}
 use Rattle.bplist_objects.specs.Heads.{Content, IsHeadOf, leaf}
 use Rattle.bplist_cert.specs.CheckedFile.{CheckedFile}
 use Rattle.bplist_cert.specs.Valid.{IsVouchedBy}
+use Rattle.bplist_c.specs.declared.object.BplistBits.{BplistBits}
 use Rattle.bplist_c.specs.declared.object.BplistBody.{BplistBody}
 use Rattle.bplist_c.specs.declared.object.BplistInteger.{BplistInteger}
 use Rattle.bplist_c.specs.declared.status.Status.{Status}
@@ -58,6 +59,14 @@ FacesSay objects room checked (Err why) = ⊥
 abbrev pub int_answer : Content → Result BplistInteger Status
 int_answer (leaf (int i)) = Ok (record { low = cast_unsigned w128 i % 2 ^ 64; high = cast_unsigned w128 i / 2 ^ 64 })
 int_answer _ = Err statuses.OtherKind
+
+-- the real or the date that is spelled, as the bits of its bytes and the number of its bytes
+abbrev pub number_answer : Content → Result BplistBits Status
+number_answer content = elim content [
+  | leaf (real bytes) ↦ Ok (record { bits = num bytes; length = length bytes })
+  | leaf (date bytes) ↦ Ok (record { bits = num bytes; length = length bytes })
+  | _ ↦ Err statuses.OtherKind
+]
 
 -- the number of the UID that is spelled
 abbrev pub uid_answer : Content → Result ℕ Status

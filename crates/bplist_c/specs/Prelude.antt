@@ -1,5 +1,5 @@
 -- The names that the contracts of this crate use, gathered from other files. Declares nothing.
-pub use Rattle.bplist_octets.specs.Octets.{part}
+pub use Rattle.bplist_octets.specs.Octets.{num, part}
 pub use Rattle.bplist_octets.specs.Slices.{source_over}
 pub use Rattle.bplist_objects.specs.Frame.{IsFrame, off}
 pub use Rattle.bplist_objects.specs.Heads.{IsHeadOf, Spells, leaf}
@@ -32,12 +32,14 @@ pub use Rattle.bplist_cursor.specs.declared.node.Found.{Found}
 pub use Rattle.bplist_c.specs.Lifecycle.{Accepts, CertificateSays, IsCheckedFor, IsOpened, IsPair, KeepsHandle}
 pub use Rattle.bplist_c.specs.Lookup.{FindSays, step_answer, told_found, why_status}
 pub use Rattle.bplist_c.specs.Members.{AreSpelled, MembersSay}
-pub use Rattle.bplist_c.specs.Objects.{AreFaces, FacesSay, IsFace, OnObject, body_of, bytes_of_body, int_answer, kind_number, uid_answer, units_answer}
+pub use Rattle.bplist_c.specs.Objects.{AreFaces, FacesSay, IsFace, OnObject, body_of, bytes_of_body, int_answer, kind_number, number_answer, uid_answer, units_answer}
 pub use Rattle.bplist_c.specs.Sessions.{IsFileOf, IsRefused, IsSame, IsSessionOf, OnHandle, checked_of}
 pub use Rattle.bplist_c.specs.Sizes.{sizes_by}
 pub use Rattle.bplist_c.specs.Statuses.{PutsItems, Tells, items_of, sentence_of, status_number}
 pub use Rattle.bplist_c.specs.Texts.{IsTextOf, TellsText, printed_as, text_length}
+pub use Rattle.bplist_c.specs.Utf8.{KeySays, Utf8Says, IsUtf8Of}
 pub use Rattle.bplist_c.specs.Verdicts.{ShowsLint, circle_answer, refused_told}
+pub use Rattle.bplist_c.specs.declared.object.BplistBits.{BplistBits}
 pub use Rattle.bplist_c.specs.declared.object.BplistBody.{BplistBody}
 pub use Rattle.bplist_c.specs.declared.object.BplistInteger.{BplistInteger}
 pub use Rattle.bplist_c.specs.declared.handle.Session.{Session}

@@ -30,7 +30,8 @@ sentences =
     ∷ "The buffer is too short."
     ∷ "The value has no old-style text."
     ∷ "There is no rule with that number."
-    ∷ "There is no status with that number." ∷ []
+    ∷ "There is no status with that number."
+    ∷ "A half of a surrogate pair stands alone in the text, which has no UTF-8." ∷ []
 
 -- the sentence of a status
 abbrev pub sentence_of : Status → List ℕ

@@ -13,7 +13,7 @@ use Rattle.bplist_ascii.specs.Printed.{HasText}
 use Rattle.bplist_ascii.specs.declared.printer.PrintFault.{PrintFault}
 use Rattle.bplist_ascii.specs.declared.printer.PrintFault.TheVariants as faults
 use Rattle.bplist_c.specs.declared.status.Status.{Status}
-use Rattle.bplist_c.specs.declared.status.Status.TheVariants.{Memory, NoText, Short}
+use Rattle.bplist_c.specs.declared.status.Status.TheVariants.{Memory, NoText, OtherFile, Short}
 use Rattle.bplist_c.specs.declared.text.BplistWritten.{BplistWritten}
 use Rattle.bplist_c.specs.declared.text.Text.{Text}
 use Rattle.bplist_c.specs.declared.text.Text.TheVariants.{Fits, TooLong, Formless}
@@ -29,12 +29,15 @@ length_in None = 0
 abbrev pub text_length : Table → ℕ → ℕ
 text_length sizes n = length_in (form_in sizes n)
 
--- the result of printing: these bytes, or a text too long of this length, or the first part without a text
+-- the result of printing: these bytes, or a text too long of this length, or the first part without a text; or memory
+-- was refused, or the file has changed
 abbrev pub printed_as : Result (Unit {0}) PrintFault → Vec ℕ Global → ℕ → Result Text Status
 printed_as (Ok _) text told = Ok (Fits text)
 printed_as (Err (faults.NoAsciiForm part)) text told = Ok (Formless part)
 printed_as (Err faults.TooLong) text told = Ok (TooLong told)
-printed_as (Err _) text told = Err Memory
+printed_as (Err (faults.Write sent)) text told = Err Memory
+printed_as (Err faults.Memory) text told = Err Memory
+printed_as (Err _) text told = Err OtherFile
 
 -- the text of v if it fits `room`, or else its length; or the first part without a text, or refused memory
 abbrev pub IsTextOf : List ℕ → Frame → ℕ → Value → ℕ → Result Text Status → Type 0

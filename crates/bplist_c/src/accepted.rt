@@ -11,7 +11,7 @@ use crate::object::{head_of_object, number_of};
 use crate::status::Status;
 use crate::verdict::{BplistVerdict, NO_VERDICT, Top, refused};
 use bplist_cert::Checked;
-use bplist_lint::{Counts, lint_checked};
+use bplist_lint::{Keys, Tally, lint_checked};
 use bplist_octets::SliceSource;
 use std::alloc::Global;
 
@@ -22,14 +22,14 @@ pub(crate) struct Accepted<'a> {
     pub(crate) verdict: BplistVerdict,
 }
 
-/// Adds the verdict to a checked file, with these counts. Returns the status and the verdict of another file if the
-/// file has changed since the check.
-pub(crate) fn with_verdict(
-    checked: Checked<SliceSource<'_>>,
-    counts: Counts,
-) -> Result<Accepted<'_>, (Status, BplistVerdict)>
+/// Adds the verdict to a checked file, with the figures of this tally. Returns the status and the verdict of another
+/// file if the file has changed since the check.
+pub(crate) fn with_verdict<'a>(
+    checked: Checked<SliceSource<'a>>,
+    tally: &Tally,
+) -> Result<Accepted<'a>, (Status, BplistVerdict)>
     ensures { MatchResult result (λ accepted. (accepted.checked ≡ checked.entry) × ShowsLint checked.entry.source.octets
-        (Ok (lint_of checked.entry.frame checked.entry.certificate counts)) accepted.verdict 0) (λ _. ⊥) }
+        (Ok (lint_of checked.entry.frame checked.entry.certificate tally.now)) accepted.verdict 0) (λ _. ⊥) }
 {
     let _octets = checked.octets();
     let frame = checked.frame();
@@ -42,7 +42,7 @@ pub(crate) fn with_verdict(
         kind: number_of(head.kind),
         height: checked.height(frame.top),
     };
-    let verdict = BplistVerdict::of_top(top, counts.reached, counts.references);
+    let verdict = BplistVerdict::of_top(top, tally.reached, tally.references);
     Ok(Accepted { checked, verdict })
 }
 
@@ -55,8 +55,8 @@ pub(crate) fn accept<'a>(
         × Lints (IsLinted file.now) (IsFileFault file.now) (IsFileCircle file.now) answer
         × Accepts file.entry answer result }
 {
-    match lint_checked(alloc, SliceSource::new(file)) {
-        Ok((checked, counts)) => with_verdict(checked, counts),
+    match lint_checked(alloc, SliceSource::new(file), Keys::Classes) {
+        Ok((checked, tally)) => with_verdict(checked, &tally),
         Err((refusal, _)) => Err(refused(&refusal)),
     }
 }

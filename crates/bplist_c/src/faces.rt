@@ -27,7 +27,6 @@ fn face_or_zeros(checked: &Checked<SliceSource<'_>>, object: u32) -> BplistBody
     }
 }
 
-/// Fills `into` with the kinds and bodies of as many objects.
 fn fill_faces(checked: &Checked<SliceSource<'_>>, objects: &[u32], into: &mut [BplistBody])
     requires many { length objects.now ≡ length into.old }
     ensures { AreFaces checked.now objects.now into.new }

@@ -25,10 +25,11 @@
 //! | `loan` | lends the checked file of a handle to one call |
 //! | `lifecycle` | `bplist_open`, `bplist_open_certified`, `bplist_close`, `bplist_certificate` |
 //! | `lookup` | `bplist_find`, `bplist_find_key` |
-//! | `object` | `bplist_face`, `bplist_int`, `bplist_uid` |
+//! | `object` | `bplist_face`, `bplist_int`, `bplist_uid`, `bplist_number` |
 //! | `faces` | `bplist_faces` |
 //! | `members` | `bplist_member`, `bplist_members` |
 //! | `parts` | `bplist_read`, `bplist_units` |
+//! | `utf8` | `bplist_utf8`, `bplist_find_utf8` |
 //! | `sizes`, `text` | `bplist_size`, `bplist_text` |
 //!
 //! A handle owns a session: the frame and the certificate of a file, without its bytes. Each call is given the bytes
@@ -49,4 +50,5 @@ mod parts;
 mod sizes;
 mod status;
 mod text;
+mod utf8;
 mod verdict;

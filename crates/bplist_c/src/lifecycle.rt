@@ -1,10 +1,10 @@
 //! Opens and closes handles.
 
-ghost use Rattle.std.specs.Prelude.{◌≡◌, ◌≢◌, ◌⊎◌, ⊤, ℕ, List, None, Ok, Result, IfSome, IsSome, MatchResult, false};
+ghost use Rattle.std.specs.Prelude.{◌≡◌, ◌≢◌, ◌⊎◌, ⊤, ℕ, List, None, Ok, Result, IsSome, MatchResult, false};
 ghost use Rattle.bplist_c.specs.Prelude.{source_over, IsVouchingFault, IsChecked, octets_of as certificate_octets};
 ghost use Rattle.bplist_c.specs.Prelude.{IsCertificate, Lint as lint_answer, LintRefusal as lint_refusal};
 ghost use Rattle.bplist_c.specs.Prelude.{IsFileFault, IsFileCircle, IsLinted, Lints, no_circle, Status as status};
-ghost use Rattle.bplist_c.specs.Prelude.{Closed, Opened, CertificateSays, IsCheckedFor, IsOpened, IsPair, IsSame};
+ghost use Rattle.bplist_c.specs.Prelude.{Closed, Memory, Opened, CertificateSays, IsCheckedFor, IsOpened, IsPair, IsSame};
 ghost use Rattle.bplist_c.specs.Prelude.{PutsItems, items_of, status_number as number, NO_VERDICT, ShowsLint};
 ghost use Rattle.bplist_c.specs.Prelude.{Accepts, KeepsHandle};
 ghost use Rattle.bplist_cert.specs.declared.certificate.CertRefusal.TheVariants as refusals;
@@ -14,47 +14,56 @@ use crate::handle::{BplistHandle, Session};
 use crate::status::{Status, put_answer};
 use crate::verdict::{BplistVerdict, NO_VERDICT};
 use bplist_cert::{CertRefusal, Certificate, Checked, Refusal, check};
-use bplist_lint::{Counts, upgrade};
+use bplist_lint::{Tally, UpgradeFault, upgrade};
 use bplist_octets::SliceSource;
 use std::alloc::Global;
 use std::mem;
 
-/// Adds key lists to the certificate of a checked file. Returns `None` if memory is refused.
-fn with_keys(alloc: Global, checked: Checked<SliceSource<'_>>) -> Option<Checked<SliceSource<'_>>>
-    ensures { IfSome result (λ keyed. (keyed.source ≡ checked.entry.source) × (keyed.frame ≡ checked.entry.frame)
-        × (keyed.certificate.heights ≡ checked.entry.certificate.heights) × IsSome keyed.certificate.keys) }
+/// Adds key lists to the certificate of a checked file. Returns `Memory` if memory is refused, and `OtherFile` if an
+/// object is not what the check found: then the file has changed.
+fn with_keys(
+    alloc: Global,
+    checked: Checked<SliceSource<'_>>,
+) -> Result<Checked<SliceSource<'_>>, Status>
+    ensures { MatchResult result (λ keyed. (keyed.source ≡ checked.entry.source) × (keyed.frame ≡ checked.entry.frame)
+        × (keyed.certificate.heights ≡ checked.entry.certificate.heights) × IsSome keyed.certificate.keys)
+        (λ why. why ≡ Memory) }
 {
     let mut checked = checked;
     let frame = checked.frame();
     match upgrade(alloc, &mut checked) {
         Ok(certificate) => {
             let (source, _) = checked.into_parts();
-            Some(Checked::new(source, frame, certificate))
+            Ok(Checked::new(source, frame, certificate))
         }
-        Err(_) => None,
+        Err(UpgradeFault::Memory) => Err(Status::Memory),
+        Err(_) => Err(Status::OtherFile),
     }
 }
 
-/// Makes the handle of a checked file. Returns `None` if memory is refused.
-fn handle_of(alloc: Global, checked: Checked<SliceSource<'_>>) -> Option<BplistHandle>
-    ensures { IfSome result (IsOpened checked.entry.source.octets checked.entry.certificate false) }
+/// Makes the handle of a checked file. Returns `Memory` if memory is refused.
+fn handle_of(alloc: Global, checked: Checked<SliceSource<'_>>) -> Result<BplistHandle, Status>
+    ensures { MatchResult result (IsOpened checked.entry.source.octets checked.entry.certificate false)
+        (λ why. why ≡ Memory) }
 {
     let length = checked.octets().len() as u64;
     let frame = checked.frame();
     let (_, certificate) = checked.into_parts();
     match Box::new(alloc, Session { frame, certificate }) {
-        Ok(session) => Some(BplistHandle::open(session, length)),
-        Err(_) => None,
+        Ok(session) => Ok(BplistHandle::open(session, length)),
+        Err(_) => Err(Status::Memory),
     }
 }
 
-/// Makes the handle of a checked file, with key lists if `sorted` asks for them. Returns `None` if memory is refused.
+/// Makes the handle of a checked file, with key lists if `sorted` asks for them. Returns `Memory` if memory is refused,
+/// and `OtherFile` if the file has changed.
 fn sorted_handle(
     alloc: Global,
     checked: Checked<SliceSource<'_>>,
     sorted: bool,
-) -> Option<BplistHandle>
-    ensures { IfSome result (IsOpened checked.entry.source.octets checked.entry.certificate sorted) }
+) -> Result<BplistHandle, Status>
+    ensures { MatchResult result (IsOpened checked.entry.source.octets checked.entry.certificate sorted)
+        (λ why. why ≡ Memory) }
 {
     if sorted && checked.certificate().keys.is_none() {
         return handle_of(alloc, with_keys(alloc, checked)?);
@@ -76,11 +85,11 @@ fn keep(
 {
     let (status, verdict) = match answer {
         Ok(Accepted { checked, verdict }) => match sorted_handle(alloc, checked, sorted) {
-            Some(opened) => {
+            Ok(opened) => {
                 *handle = opened;
                 (0, verdict)
             }
-            None => (Status::Memory.number(), NO_VERDICT),
+            Err(status) => (status.number(), NO_VERDICT),
         },
         Err((status, verdict)) => (status.number(), verdict),
     };
@@ -143,13 +152,7 @@ fn accept_pair<'a>(
         × Accepts file.entry answer result }
 {
     match check_pair(alloc, file, certificate) {
-        Ok(checked) => {
-            let uncounted = Counts {
-                reached: 0,
-                references: 0,
-            };
-            with_verdict(checked, uncounted)
-        }
+        Ok(checked) => with_verdict(checked, &Tally::new()),
         Err(CertRefusal::Fault(fault)) => Err((Status::Fault, BplistVerdict::of_fault(fault))),
         Err(CertRefusal::Memory) => Err((Status::Memory, NO_VERDICT)),
     }
@@ -193,7 +196,6 @@ pub extern "C" fn bplist_close(alloc: Global, handle: &mut BplistHandle) -> u32
     0
 }
 
-/// Returns the bytes of the certificate of a handle.
 fn octets_in(alloc: Global, handle: &mut BplistHandle) -> Result<Vec<u8>, Status>
     ensures kept { IsSame handle.old handle.new }
     ensures exact { CertificateSays handle.old (items_of result) }

@@ -13,7 +13,6 @@ use bplist_objects::ObjectNo;
 use bplist_octets::SliceSource;
 use std::alloc::Global;
 
-/// Lints these bytes.
 pub(crate) fn lint_file(alloc: Global, file: &[u8]) -> Result<Lint, LintRefusal>
     ensures { Lints (IsLinted file.now) (IsFileFault file.now) (IsFileCircle file.now) result }
 {
@@ -46,7 +45,6 @@ fn circle_of(alloc: Global, answer: Result<Lint, LintRefusal>) -> Result<Vec<u32
     }
 }
 
-/// Returns the numbers of the objects.
 fn numbers_of(alloc: Global, objects: &[ObjectNo]) -> Result<Vec<u32>, Status>
     ensures { MatchResult result (λ numbers. numbers.items ≡ map number objects.now) (λ why. why ≡ Memory) }
 {

@@ -34,7 +34,8 @@ fn status_of(why: Why) -> Status
     }
 }
 
-/// Follows a path from the top. Returns `OtherFile` if an object is not what the check found: then the file has changed.
+/// Follows a path from the top. Returns `OtherFile` if an object is not what the check found: then the file has
+/// changed.
 fn locate_in(checked: &mut Checked<SliceSource<'_>>, path: &Path) -> Result<Found, Status>
     ensures same { checked.new ≡ checked.old }
     ensures exact { MatchResult result (λ found. (v : value) → Holds checked.old.source.octets checked.old.frame
@@ -100,8 +101,7 @@ pub extern "C" fn bplist_find(
     tell_found(answer, out)
 }
 
-/// Follows one step from an object.
-fn step_of(
+pub(crate) fn step_of(
     checked: &mut Checked<SliceSource<'_>>,
     object: u32,
     units: &[u16],

@@ -22,7 +22,6 @@ const BLOCK: usize = 64;
 /// The largest number of pairs that these members can belong to: the first may be a value, and the last a key.
 const PAIRS: usize = 33;
 
-/// Returns the object of member `i` of an object.
 fn member_of(checked: &mut Checked<SliceSource<'_>>, object: u32, i: u64) -> Result<u32, Status>
     ensures same { checked.new ≡ checked.old }
     ensures exact { OnObject checked.old object Spells
@@ -104,7 +103,6 @@ fn fill_in_pairs(checked: &Checked<SliceSource<'_>>, head: &Head, from: u64, int
     }
 }
 
-/// Fills a block with the members from number `from` on.
 fn fill_block(checked: &Checked<SliceSource<'_>>, head: &Head, from: u64, into: &mut [u32])
     requires head { IsSafeHead checked.now.frame head.now }
     requires few { length into.old ≤ 64 }

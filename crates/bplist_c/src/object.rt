@@ -1,9 +1,10 @@
 //! Gives the kind, the body and the number of an object.
 
-ghost use Rattle.std.specs.Prelude.{◌≡◌, ◌<◌, ℕ, IfOk, Ok, Result, length};
+ghost use Rattle.std.specs.Prelude.{◌≡◌, ◌<◌, ◌≤◌, ℕ, IfOk, Ok, Result, length};
 ghost use Rattle.bplist_c.specs.Prelude.{off, IsSafe, int, IsHeadOf, Spells, leaf, IsSafeBody, IsSafeHead, BplistBody as body};
 ghost use Rattle.bplist_c.specs.Prelude.{Status as status, BplistInteger as number, OnObject, body_of, int_answer};
-ghost use Rattle.bplist_c.specs.Prelude.{kind_number, uid_answer, IsFileOf, IsSame, OnHandle, Tells};
+ghost use Rattle.bplist_c.specs.Prelude.{BplistBits as bits, kind_number, num, number_answer, part};
+ghost use Rattle.bplist_c.specs.Prelude.{uid_answer, IsFileOf, IsSame, OnHandle, Tells};
 
 use crate::handle::BplistHandle;
 use crate::loan::with_checked;
@@ -37,8 +38,18 @@ pub struct BplistInteger {
     pub high: u64,
 }
 
-/// Returns the place of object `n`, as its entry in the offset table gives it. Each usual size of an entry has an arm of
-/// its own, because a read of constant length compiles to no call.
+/// The number of a real or a date.
+#[repr(C)]
+#[derive(Clone, Copy, Debug, Drop)]
+pub struct BplistBits {
+    /// The bits.
+    pub bits: u64,
+    /// How many bytes they are.
+    pub length: u32,
+}
+
+/// Returns the place of object `n`, as its entry in the offset table gives it. Each usual size of an entry has an arm
+/// of its own, because a read of constant length compiles to no call.
 #[inline(always)]
 fn place_of(file: &[u8], frame: &Frame, n: ObjectNo) -> u64
     requires safe { IsSafe (length file.now) frame.now }
@@ -88,7 +99,6 @@ pub(crate) fn number_of(kind: Kind) -> u32
     kind as u32 + 1
 }
 
-/// Returns the kind and the body of an object.
 #[inline(always)]
 pub(crate) fn face_of(checked: &Checked<SliceSource<'_>>, object: u32) -> Result<BplistBody, Status>
     ensures { OnObject checked.now object IsHeadOf (λ head answer. answer ≡ Ok (body_of head)) result }
@@ -113,7 +123,21 @@ fn halves(number: i128) -> BplistInteger
     }
 }
 
-/// Returns the value of an integer.
+/// Returns the bits of the body of a real or a date, which has 4 or 8 bytes.
+fn bits_of(file: &[u8], head: &Head) -> BplistBits
+    requires body { IsSafeBody (length file.now) head.now }
+    requires low { 1 ≤ head.now.count }
+    requires high { head.now.count ≤ 8 }
+    ensures bits { result.bits ≡ num (part file.now head.now.body head.now.count) }
+    ensures length { result.length ≡ head.now.count }
+{
+    let (from, length) = (head.body as usize, head.count as usize);
+    BplistBits {
+        bits: sized(&file[from..from + length]),
+        length: head.count as u32,
+    }
+}
+
 fn integer_of(checked: &Checked<SliceSource<'_>>, object: u32) -> Result<BplistInteger, Status>
     ensures { OnObject checked.now object Spells (λ content answer. answer ≡ int_answer content) result }
 {
@@ -128,7 +152,6 @@ fn integer_of(checked: &Checked<SliceSource<'_>>, object: u32) -> Result<BplistI
     }
 }
 
-/// Returns the value of a UID.
 fn uid_of_object(checked: &Checked<SliceSource<'_>>, object: u32) -> Result<u32, Status>
     ensures { OnObject checked.now object Spells (λ content answer. answer ≡ uid_answer content) result }
 {
@@ -139,6 +162,18 @@ fn uid_of_object(checked: &Checked<SliceSource<'_>>, object: u32) -> Result<u32,
             Ok(number) => Ok(number),
             Err(_) => Err(Status::OtherFile),
         },
+        _ => Err(Status::OtherKind),
+    }
+}
+
+/// Returns the bits of a real or a date.
+fn number_of_object(checked: &Checked<SliceSource<'_>>, object: u32) -> Result<BplistBits, Status>
+    ensures { OnObject checked.now object Spells (λ content answer. answer ≡ number_answer content) result }
+{
+    let file = checked.octets();
+    let head = head_of_object(checked, object)?;
+    match head.kind {
+        Kind::Real | Kind::Date => Ok(bits_of(file, &head)),
         _ => Err(Status::OtherKind),
     }
 }
@@ -178,6 +213,30 @@ pub extern "C" fn bplist_int(
         (λ content answer. answer ≡ int_answer content)) answer }
 {
     let answer = with_checked(alloc, handle, file, |checked| integer_of(checked, object));
+    tell(answer, out)
+}
+
+/// Gives the bits of a real or a date.
+#[unsafe(no_mangle)]
+pub extern "C" fn bplist_number(
+    alloc: Global,
+    handle: &mut BplistHandle,
+    file: &[u8],
+    object: u32,
+    out: &mut BplistBits,
+) -> u32
+    requires same { IsFileOf file.now handle.old }
+    ensures kept { IsSame handle.old handle.new }
+    ensures exact { (answer : Result bits status) × Tells answer out.old out.new result
+        × OnHandle file.entry handle.old (λ checked. OnObject checked object Spells
+        (λ content answer. answer ≡ number_answer content)) answer }
+{
+    let answer = with_checked(
+        alloc,
+        handle,
+        file,
+        |checked| number_of_object(checked, object),
+    );
     tell(answer, out)
 }
 

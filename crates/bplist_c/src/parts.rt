@@ -40,7 +40,7 @@ fn put_bytes(
 }
 
 /// Fills `into` with the units of a text from unit `from` on.
-fn read_part(file: &[u8], head: &Head, from: u64, into: &mut [u16])
+pub(crate) fn read_part(file: &[u8], head: &Head, from: u64, into: &mut [u16])
     requires text { IsSafeText (length file.now) head.now }
     requires within { from + length into.old ≤ head.now.count }
     ensures { into.new ≡ part (units_of file.now head.now) from (length into.old) }

@@ -1,6 +1,6 @@
 //! Measures values.
 
-ghost use Rattle.std.specs.Prelude.{◌≡◌, ◌⊎◌, Result, Ok, Err, IfSome};
+ghost use Rattle.std.specs.Prelude.{◌≡◌, ◌⊎◌, Result, Ok, Err, MatchResult};
 ghost use Rattle.bplist_c.specs.Prelude.{Holds, BplistSizes as sizes, Status as status, Memory, OnObject, IsFileOf};
 ghost use Rattle.bplist_c.specs.Prelude.{IsSame, OnHandle, sizes_by, Tells, form_of, AreMeasuresOf, cap};
 ghost use Rattle.bplist_c.specs.Prelude.{nodes as node_count};
@@ -9,7 +9,7 @@ use crate::handle::BplistHandle;
 use crate::loan::with_checked;
 use crate::status::{Status, tell};
 use bplist_cert::Checked;
-use bplist_cursor::{Form, Measures, measure};
+use bplist_cursor::{CursorFault, Form, Measures, measure};
 use bplist_objects::ObjectNo;
 use bplist_octets::SliceSource;
 use std::alloc::Global;
@@ -26,7 +26,6 @@ pub struct BplistSizes {
     pub has_text: u32,
 }
 
-/// Converts the sizes to what C is given.
 fn sizes(nodes: u64, form: Form) -> BplistSizes
     ensures { result ≡ sizes_by nodes form }
 {
@@ -44,21 +43,25 @@ fn sizes(nodes: u64, form: Form) -> BplistSizes
     }
 }
 
-/// Measures all values of a checked file. Returns `None` if memory is refused.
-pub(crate) fn measures_of(alloc: Global, checked: &mut Checked<SliceSource<'_>>) -> Option<Measures>
+/// Measures all values of a checked file. Returns `Memory` if memory is refused, and `OtherFile` if an object is not what
+/// the check found: then the file has changed.
+pub(crate) fn measures_of(
+    alloc: Global,
+    checked: &mut Checked<SliceSource<'_>>,
+) -> Result<Measures, Status>
     ensures same { checked.new ≡ checked.old }
-    ensures exact { IfSome result (AreMeasuresOf checked.old) }
+    ensures exact { MatchResult result (AreMeasuresOf checked.old) (λ why. why ≡ Memory) }
 {
     let _before = checked.octets();
     let measures = measure(alloc, checked);
     let _after = checked.octets();
     match measures {
-        Ok(measures) => Some(measures),
-        Err(_) => None,
+        Ok(measures) => Ok(measures),
+        Err(CursorFault::Memory) => Err(Status::Memory),
+        Err(_) => Err(Status::OtherFile),
     }
 }
 
-/// Measures the value of an object.
 fn size_of(
     alloc: Global,
     checked: &mut Checked<SliceSource<'_>>,
@@ -72,12 +75,12 @@ fn size_of(
     if checked.height(n) == 0 {
         return Err(Status::NoObject);
     }
-    let Some(measures) = measures_of(alloc, checked) else {
-        return Err(Status::Memory);
-    };
-    match (measures.nodes(n), measures.form(n)) {
-        (Some(nodes), Some(form)) => Ok(sizes(nodes, form)),
-        _ => Err(Status::NoObject),
+    match measures_of(alloc, checked) {
+        Ok(measures) => match (measures.nodes(n), measures.form(n)) {
+            (Some(nodes), Some(form)) => Ok(sizes(nodes, form)),
+            _ => Err(Status::NoObject),
+        },
+        Err(why) => Err(why),
     }
 }
 

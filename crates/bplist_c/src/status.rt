@@ -9,11 +9,12 @@ ghost use Rattle.bplist_c.specs.Prelude.{status_number, PutsItems, Tells, items_
 ghost use Rattle.bplist_c.specs.Prelude.{Rule as rule_type, Status as status_type, number_of_rule, text_of, word_of};
 
 use bplist_objects::{rule_name, rule_of_number, texts_of};
+use std::alloc::AllocError;
 
 /// The version, which is also that of the header.
 const MAJOR: u32 = 0;
 
-const MINOR: u32 = 4;
+const MINOR: u32 = 5;
 
 const PATCH: u32 = 0;
 
@@ -54,19 +55,19 @@ pub(crate) enum Status {
     NoRule,
     /// There is no status with that number.
     NoStatus,
+    /// The text has no UTF-8, because a half of a surrogate pair stands alone.
+    Unpaired,
 }
 
 impl Status {
-    /// Returns the number of the status in the header.
     pub(crate) fn number(self) -> u32
         ensures { result ≡ status_number self }
     {
         self as u32 + 1
     }
 
-    /// Returns the status with this number, if there is one.
     pub(crate) fn of_number(number: u32) -> Option<Status>
-        ensures { MatchOption result ((number ≡ 0) ⊎ (17 < number)) (λ status. status_number status ≡ number) }
+        ensures { MatchOption result ((number ≡ 0) ⊎ (18 < number)) (λ status. status_number status ≡ number) }
     {
         match number {
             1 => Some(Status::Fault),
@@ -86,11 +87,11 @@ impl Status {
             15 => Some(Status::NoText),
             16 => Some(Status::NoRule),
             17 => Some(Status::NoStatus),
+            18 => Some(Status::Unpaired),
             _ => None,
         }
     }
 
-    /// Returns what the status means, as one sentence.
     pub(crate) fn sentence(self) -> &'static str
         ensures { result.now ≡ sentence_of self }
     {
@@ -112,7 +113,19 @@ impl Status {
             Status::NoText => "The value has no old-style text.",
             Status::NoRule => "There is no rule with that number.",
             Status::NoStatus => "There is no status with that number.",
+            Status::Unpaired =>
+                "A half of a surrogate pair stands alone in the text, which has no UTF-8.",
         }
+    }
+}
+
+impl From<AllocError> for Status {
+    ghost use Rattle.bplist_c.specs.declared.status.Status.TheVariants.{Memory};
+
+    ghost from_gives = { λ _ e. e ≡ Memory };
+
+    fn from(_error: AllocError) -> Status {
+        Status::Memory
     }
 }
 
@@ -158,7 +171,7 @@ pub(crate) fn put_answer<T: Copy>(
 /// Returns the version as one number.
 #[unsafe(no_mangle)]
 pub extern "C" fn bplist_version() -> u32
-    ensures { result ≡ 0 * 2 ^ 16 + 4 * 2 ^ 8 + 0 }
+    ensures { result ≡ 0 * 2 ^ 16 + 5 * 2 ^ 8 + 0 }
 {
     MAJOR << 16 | MINOR << 8 | PATCH
 }
@@ -197,7 +210,7 @@ pub extern "C" fn bplist_status_text(status: u32, text: &mut [u8], count: &mut u
     ensures answered { status ≡ 0
         → PutsItems (Ok (codes "The answer is in the outputs.")) text.old text.new count.old count.new result }
     ensures other { status ≢ 0 → (found : Option status_type)
-        × MatchOption found ((status ≡ 0) ⊎ (17 < status)) (λ s. status_number s ≡ status)
+        × MatchOption found ((status ≡ 0) ⊎ (18 < status)) (λ s. status_number s ≡ status)
         × PutsItems (ok_or (option_map sentence_of found) NoStatus) text.old text.new count.old count.new result }
 {
     if status == 0 {

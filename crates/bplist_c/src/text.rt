@@ -48,9 +48,7 @@ fn text_of(
     if checked.height(n) == 0 {
         return Err(Status::NoObject);
     }
-    let Some(measures) = measures_of(alloc, checked) else {
-        return Err(Status::Memory);
-    };
+    let measures = measures_of(alloc, checked)?;
     let length = length_of(&measures, n);
     let mut text = Vec::new(alloc);
     let _before = checked.octets();
@@ -66,7 +64,8 @@ fn text_of(
     text_outcome(printed, text, length)
 }
 
-/// Turns the result of printing into an empty list into an answer.
+/// Turns the result of printing into an empty list into an answer. A write to a list fails if memory is refused. A read
+/// fails only if the file has changed.
 fn text_outcome(printed: Result<(), PrintFault>, text: Vec<u8>, length: u64) -> Result<Text, Status>
     ensures { result ≡ printed_as printed text length }
 {
@@ -74,11 +73,11 @@ fn text_outcome(printed: Result<(), PrintFault>, text: Vec<u8>, length: u64) -> 
         Ok(()) => Ok(Text::Fits(text)),
         Err(PrintFault::NoAsciiForm(object)) => Ok(Text::Formless(object)),
         Err(PrintFault::TooLong) => Ok(Text::TooLong(length)),
-        Err(_) => Err(Status::Memory),
+        Err(PrintFault::Write { .. }) | Err(PrintFault::Memory) => Err(Status::Memory),
+        Err(_) => Err(Status::OtherFile),
     }
 }
 
-/// Returns the length of the text of an object's value.
 fn length_of(measures: &Measures, n: ObjectNo) -> u64
     ensures { result ≡ text_length measures.now n.0 }
 {

@@ -87,7 +87,6 @@ impl BplistVerdict {
         }
     }
 
-    /// The verdict on a file with this fault.
     pub(crate) fn of_fault(fault: Fault) -> BplistVerdict
         ensures { result ≡ (refused_told (refusals.Fault fault)).1 }
     {
@@ -104,7 +103,6 @@ impl BplistVerdict {
         }
     }
 
-    /// The verdict on a file with this circle.
     fn of_circle(circle: &ObjectNos) -> BplistVerdict
         ensures { result ≡ (refused_told (refusals.Circle circle.now)).1 }
     {

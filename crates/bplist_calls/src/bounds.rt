@@ -1,6 +1,6 @@
-//! The most bytes that a call may ask its source for, as the clause `asks` of its contract says. The numbers are
-//! computed by the definitions of bplist_cursor/specs/Asked.antt and of bplist_ascii/specs/Asked.antt: each function
-//! says which definition it computes.
+//! The most bytes that a call may ask its source for. For look-ups and measures this is what the clause `asks` of the
+//! call's contract says: each function says which definition of bplist_cursor/specs/Asked.antt it computes. For `print`
+//! it is tested alone, and these are the numbers.
 
 use crate::requests::{Request, path_of};
 use anyhow::{Result, anyhow};
@@ -19,7 +19,7 @@ const HEAD: u64 = 28;
 /// The same with the reference that names the object.
 const MEMBER: u64 = 36;
 
-/// Returns the bound of the call that `asked_for` makes for this request, or None if none is proved.
+/// Returns the bound of the call that `asked_for` makes for this request, or None if it has none.
 pub(crate) fn bound_of<S: Source>(
     alloc: Global,
     checked: &mut Checked<S>,
@@ -138,7 +138,9 @@ fn pass_bytes<S: Source>(checked: &Checked<S>) -> u64 {
         .saturating_add(frame.table)
 }
 
-/// `pass_bytes` for the measures, and then `print_bytes`, or `search_bytes` if the value has no text
+/// `pass_bytes` for the measures. Then 36 for each node of the value, and 4 for each byte of its text. If the value has
+/// no text, the search for the first object without one asks for 36 for each object, and 8 for each byte before the
+/// offset table.
 fn form_bytes<S: Source>(
     alloc: Global,
     checked: &mut Checked<S>,
@@ -147,11 +149,15 @@ fn form_bytes<S: Source>(
     let measures = measure(alloc, checked).map_err(|fault| anyhow!("measure: {fault:?}"))?;
     let frame = checked.frame();
     let printed = match measures.form(n) {
-        Some(Form::Length(long)) => LIMIT.min(long).saturating_mul(40).saturating_add(36),
+        Some(Form::Length(long)) => {
+            let nodes = measures.nodes(n).unwrap_or(u64::MAX);
+            let text = LIMIT.min(long).saturating_mul(4);
+            nodes.saturating_mul(MEMBER).saturating_add(text)
+        }
         Some(Form::NoForm) => frame
             .table
             .saturating_mul(8)
-            .saturating_add(u64::from(frame.objects).saturating_mul(36)),
+            .saturating_add(u64::from(frame.objects).saturating_mul(MEMBER)),
         None => return Ok(None),
     };
     Ok(Some(printed.saturating_add(pass_bytes(checked))))

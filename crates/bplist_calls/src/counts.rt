@@ -1,5 +1,5 @@
-//! Counts what the calls that look at a whole file ask of it. The certificates here must be accepted, so a refusal is an
-//! error of the program.
+//! Counts what the calls that look at a whole file ask of it. The certificates here must be accepted, so a refusal is
+//! an error of the program.
 
 use anyhow::{Result, anyhow, bail};
 use bplist_cert::{Certificate, Checked, check};

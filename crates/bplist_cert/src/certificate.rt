@@ -3,8 +3,9 @@
 //! bytes; `decoding` reads them.
 
 ghost use Rattle.bplist_cert.specs.declared.certificate.CertRefusal.TheVariants.{Memory, Fault as is_fault};
-ghost use Rattle.std.specs.Prelude.{◌≡◌, IfErr, IfOk, MatchResult, OnOk, is_some};
+ghost use Rattle.std.specs.Prelude.{◌≡◌, IfErr, IfOk, MatchResult, OnOk, Some, is_some};
 ghost use Rattle.std.specs.Io.KnownBytes.{Appends};
+ghost use Rattle.bplist_objects.specs.FaultLines.{fault_line, memory_line};
 ghost use Rattle.bplist_cert.specs.Prelude.{IsCertificate, AreWords, octets_of, key_words, words, magic};
 ghost use Rattle.bplist_cert.specs.Prelude.{SendsPart, Takes, TakesPart};
 
@@ -12,6 +13,8 @@ use bplist_objects::Fault;
 use bplist_octets::{Sink, WriteFault};
 use byteorder::{BigEndian, ByteOrder};
 use std::alloc::{AllocError, Global};
+use std::error::Error;
+use std::fmt;
 use std::io::Write;
 use std::marker::Model;
 
@@ -125,6 +128,20 @@ pub enum CertRefusal {
     /// An allocation was refused. The bytes may still be a certificate.
     Memory,
 }
+
+impl fmt::Display for CertRefusal {
+    ghost output = { λ refusal.
+        Some (elim refusal [ is_fault fault ↦ fault_line fault | Memory ↦ memory_line ]) };
+
+    fn fmt<W: fmt::Write>(&self, f: &mut fmt::Formatter<W>) -> fmt::Result {
+        match self {
+            CertRefusal::Fault(fault) => write!(f, "{fault}"),
+            CertRefusal::Memory => f.write_str("memory"),
+        }
+    }
+}
+
+impl Error for CertRefusal {}
 
 impl From<Fault> for CertRefusal {
     ghost from_gives = { λ fault e. e ≡ is_fault fault };

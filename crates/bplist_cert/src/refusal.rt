@@ -1,12 +1,16 @@
 //! Why a certificate is refused.
 
-ghost use Rattle.std.specs.Prelude.{◌≡◌};
+ghost use Rattle.std.specs.Prelude.{◌≡◌, Some};
+ghost use Rattle.bplist_octets.specs.FaultLines.{read_line};
+ghost use Rattle.bplist_objects.specs.FaultLines.{fault_line, memory_line};
 ghost use Rattle.bplist_cert.specs.Prelude.{Memory, Read, refusal_of, refusal_of_keys};
 ghost use Rattle.bplist_cert.specs.declared.refusal.Refusal.TheVariants.{Fault as is_fault};
 
 use bplist_objects::{Failure, Fault, ObjectFault};
 use bplist_octets::ReadFault;
 use std::alloc::{AllocError, AllocFailed};
+use std::error::Error;
+use std::fmt;
 
 /// Why a check gave no yes, or why no certificate was made.
 #[derive(Clone, Copy, Debug, PartialEq, Eq, Drop)]
@@ -19,6 +23,21 @@ pub enum Refusal {
     /// An allocation was refused, so nothing is known about the rules.
     Memory,
 }
+
+impl fmt::Display for Refusal {
+    ghost output = { λ refusal. Some (elim refusal
+        [ is_fault fault ↦ fault_line fault | Read error ↦ read_line error | Memory ↦ memory_line ]) };
+
+    fn fmt<W: fmt::Write>(&self, f: &mut fmt::Formatter<W>) -> fmt::Result {
+        match self {
+            Refusal::Fault(fault) => write!(f, "{fault}"),
+            Refusal::Read(error) => write!(f, "{error}"),
+            Refusal::Memory => f.write_str("memory"),
+        }
+    }
+}
+
+impl Error for Refusal {}
 
 impl From<Fault> for Refusal {
     ghost from_gives = { λ fault e. e ≡ is_fault fault };

@@ -1,6 +1,8 @@
 //! Checks a file with its certificate and answers queries about it: the theorem of the library.
 
-ghost use Rattle.std.specs.Prelude.{◌≡◌, IfOk, IfErr};
+ghost use Rattle.std.specs.Prelude.{◌≡◌, IfOk, IfErr, Some};
+ghost use Rattle.bplist_octets.specs.FaultLines.{read_line};
+ghost use Rattle.bplist_objects.specs.FaultLines.{changed_line, fault_line, memory_line};
 ghost use Rattle.bplist_cursor.specs.Prelude.{Honestly, OnlyReads, Frame as frame, IsAccepted, IsPairFault, Never};
 ghost use Rattle.bplist_cursor.specs.Prelude.{IsAnswered, RefusesBy, answer_read};
 ghost use Rattle.bplist_cert.specs.declared.refusal.Refusal.TheVariants as check;
@@ -15,6 +17,8 @@ use bplist_cert::{Certificate, Refusal, check};
 use bplist_objects::Fault;
 use bplist_octets::{ReadFault, Source};
 use std::alloc::Global;
+use std::error::Error;
+use std::fmt;
 
 /// Why a file and a certificate get no replies.
 #[derive(Clone, Copy, Debug, PartialEq, Eq, Drop)]
@@ -28,6 +32,26 @@ pub enum AnswerFault {
     /// An allocation was refused.
     Memory,
 }
+
+impl fmt::Display for AnswerFault {
+    ghost output = { λ cause. Some (elim cause [
+      | is_fault fault ↦ fault_line fault
+      | Read error ↦ read_line error
+      | Changed ↦ changed_line
+      | Memory ↦ memory_line
+    ]) };
+
+    fn fmt<W: fmt::Write>(&self, f: &mut fmt::Formatter<W>) -> fmt::Result {
+        match self {
+            AnswerFault::Fault(fault) => write!(f, "{fault}"),
+            AnswerFault::Read(error) => write!(f, "{error}"),
+            AnswerFault::Changed => f.write_str("changed"),
+            AnswerFault::Memory => f.write_str("memory"),
+        }
+    }
+}
+
+impl Error for AnswerFault {}
 
 impl From<Refusal> for AnswerFault {
     ghost from_gives = { λ refusal e. e

@@ -1,6 +1,8 @@
 //! The errors of the cursor's calls.
 
-ghost use Rattle.std.specs.Prelude.{◌≡◌};
+ghost use Rattle.std.specs.Prelude.{◌≡◌, Some};
+ghost use Rattle.bplist_octets.specs.FaultLines.{read_line};
+ghost use Rattle.bplist_objects.specs.FaultLines.{changed_line, memory_line};
 ghost use Rattle.bplist_objects.specs.declared.fault.ObjectFault.TheVariants.{Read as object_read};
 ghost use Rattle.bplist_cursor.specs.Prelude.{Fault as object_fault, Unread as unread, CursorFault as cursor_fault};
 ghost use Rattle.bplist_cursor.specs.Prelude.{Memory};
@@ -11,6 +13,8 @@ ghost use Rattle.bplist_cursor.specs.declared.faults.CursorFault.TheVariants.{Re
 use bplist_objects::ObjectFault;
 use bplist_octets::ReadFault;
 use std::alloc::{AllocError, AllocFailed};
+use std::error::Error;
+use std::fmt;
 
 /// Why a call returned no answer.
 #[derive(Clone, Copy, Debug, PartialEq, Eq, Drop)]
@@ -24,6 +28,21 @@ pub enum CursorFault {
     Memory,
 }
 
+impl fmt::Display for CursorFault {
+    ghost output = { λ fault. Some (elim fault
+        [ Read error ↦ read_line error | Changed ↦ changed_line | Memory ↦ memory_line ]) };
+
+    fn fmt<W: fmt::Write>(&self, f: &mut fmt::Formatter<W>) -> fmt::Result {
+        match self {
+            CursorFault::Read(error) => write!(f, "{error}"),
+            CursorFault::Changed => f.write_str("changed"),
+            CursorFault::Memory => f.write_str("memory"),
+        }
+    }
+}
+
+impl Error for CursorFault {}
+
 /// Why an object could not be read, from calls that take no memory.
 #[derive(Clone, Copy, Debug, PartialEq, Eq, Drop)]
 pub enum Unread {
@@ -33,6 +52,20 @@ pub enum Unread {
     /// checked.
     Changed,
 }
+
+impl fmt::Display for Unread {
+    ghost output = { λ cause.
+        Some (elim cause [ unread_read error ↦ read_line error | unread_changed ↦ changed_line ]) };
+
+    fn fmt<W: fmt::Write>(&self, f: &mut fmt::Formatter<W>) -> fmt::Result {
+        match self {
+            Unread::Read(error) => write!(f, "{error}"),
+            Unread::Changed => f.write_str("changed"),
+        }
+    }
+}
+
+impl Error for Unread {}
 
 impl From<ReadFault> for Unread {
     ghost from_gives = { λ error e. e ≡ unread_read error };

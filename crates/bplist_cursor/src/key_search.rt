@@ -57,7 +57,6 @@ fn key_text<S: Source>(
     text_units(alloc, checked, &head)
 }
 
-/// Returns the units of a dictionary's keys, in written order.
 pub(crate) fn key_texts<S: Source>(
     alloc: Global,
     checked: &mut Checked<S>,

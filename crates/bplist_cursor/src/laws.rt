@@ -30,8 +30,8 @@ pub fn steps_follow_references()
         → stepped v step ≡ Ok w → (m : ℕ) × LeadTo f F n (step ∷ []) m × Holds f F m w }
 {}
 
-/// The reference for each member: that for member `i` of an array or a set is its reference `i`. In a dictionary, the one
-/// for member `2 * j` is that to key `j`, and the one for member `2 * j + 1` that to value `j`. From the number of
+/// The reference for each member: that for member `i` of an array or a set is its reference `i`. In a dictionary, the
+/// one for member `2 * j` is that to key `j`, and the one for member `2 * j + 1` that to value `j`. From the number of
 /// references on there is none.
 pub fn members_by_number()
     ensures array { (ms : List ℕ) (i : ℕ) → i < length ms

@@ -19,7 +19,6 @@ use bplist_objects::{Head, ObjectNo, RefBlocks};
 use bplist_octets::{Source, entry_or};
 use std::alloc::Global;
 
-/// Returns the objects that are higher than this, by number.
 fn higher_than<S: Source>(
     alloc: Global,
     checked: &Checked<S>,
@@ -106,8 +105,8 @@ fn count_object<S: Source>(
     count_refs(checked, &head, counts)
 }
 
-/// Writes the counts of these objects into the table, one after the other. Each object must come after those to which it
-/// refers; objects of height 1 have their count from the start.
+/// Writes the counts of these objects into the table, one after the other. Each object must come after those to which
+/// it refers; objects of height 1 have their count from the start.
 fn count_in_order<S: Source>(
     checked: &mut Checked<S>,
     order: &[u32],
@@ -128,7 +127,6 @@ fn count_in_order<S: Source>(
     Ok(())
 }
 
-/// Returns the counts of all vouched objects.
 fn count_all<S: Source>(alloc: Global, checked: &mut Checked<S>) -> Result<Vec<u64>, CursorFault>
     ensures reads { OnlyReadsFile (cursor_read result) checked.old checked.new }
     ensures asks { HonestlyChecked checked.old (λ f F. checked.new.asked ≤ checked.old.asked + pass_bytes F) }
@@ -147,8 +145,8 @@ fn count_all<S: Source>(alloc: Global, checked: &mut Checked<S>) -> Result<Vec<u
 /// An object of height 1 counts as one node and is not read. Each other object is read once, after those to which it
 /// refers, so a shared object costs no more than another one. Memory is taken by the number of objects.
 ///
-/// Errors: `Changed` if the certificate does not vouch for the object, or if the source gives other bytes than those that
-/// were checked; `Read` if a read of the source failed; `Memory` if an allocation was refused.
+/// Errors: `Changed` if the certificate does not vouch for the object, or if the source gives other bytes than those
+/// that were checked; `Read` if a read of the source failed; `Memory` if an allocation was refused.
 pub fn count_nodes<S: Source>(
     alloc: Global,
     checked: &mut Checked<S>,

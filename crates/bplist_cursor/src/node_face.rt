@@ -38,7 +38,6 @@ fn leaf_bytes<S: Source>(
     Ok(List::new(bytes))
 }
 
-/// Returns the units of a text.
 pub(crate) fn text_units<S: Source>(
     alloc: Global,
     checked: &mut Checked<S>,

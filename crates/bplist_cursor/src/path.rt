@@ -1,12 +1,17 @@
 //! Paths, and the texts that spell them (RFC 6901).
 
 ghost use Rattle.std.specs.Prelude.{◌≡◌, ◌≢◌, ◌⊎◌, ◌++◌, [], ◌∷◌, List, ℕ, map, flat_map, IfOk, IfErr, MatchOption};
-ghost use Rattle.std.specs.Prelude.{IsTrue};
+ghost use Rattle.std.specs.Prelude.{IsTrue, None, Some};
+ghost use Rattle.bplist_objects.specs.FaultLines.{fault_line, memory_line};
+ghost use Rattle.bplist_objects.specs.declared.rule.Rule.TheVariants.{PathText};
+ghost use Rattle.bplist_cursor.specs.declared.path.PathFault.TheVariants.{Text, Memory};
 ghost use Rattle.bplist_cursor.specs.Path.{IsPathOf, IsNoPath, IsLoose, escaped, units};
 ghost use Rattle.bplist_cursor.specs.Tokens.{IsReadable, Reads, MeetsLoose, left, slash};
 ghost use Rattle.bplist_cursor.specs.PathFaults.{OnText};
 
 use std::alloc::{AllocError, AllocFailed, Global};
+use std::error::Error;
+use std::fmt;
 use std::marker::Model;
 use std::str::CharIndices;
 
@@ -35,6 +40,22 @@ pub enum PathFault {
     /// An allocation was refused.
     Memory,
 }
+
+impl fmt::Display for PathFault {
+    ghost output = { λ refusal. Some (elim refusal [
+      | Text place ↦ fault_line (record { rule = PathText; object = None; place = place })
+      | Memory ↦ memory_line
+    ]) };
+
+    fn fmt<W: fmt::Write>(&self, f: &mut fmt::Formatter<W>) -> fmt::Result {
+        match self {
+            PathFault::Text { place } => write!(f, "fault PathText object none place {place}"),
+            PathFault::Memory => f.write_str("memory"),
+        }
+    }
+}
+
+impl Error for PathFault {}
 
 impl Path {
     /// Parses a path text by RFC 6901. The empty text has no steps. Any other begins with `/`, and each `/` begins a

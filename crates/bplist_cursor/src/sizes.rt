@@ -139,7 +139,6 @@ fn quoted_unit_length(unit: u16) -> u64
     }
 }
 
-/// Returns how many bytes these units take between quotes.
 #[tactic(auto, unfolding(hex::specs::Hex::encode_with))]
 fn quoted_length(units: &[u16]) -> u64
     requires { length units.now ≤ 128 }
@@ -222,7 +221,6 @@ fn punctuation(head: &Head) -> Form
     }
 }
 
-/// Returns the form of a leaf.
 fn leaf_form<S: Source>(checked: &mut Checked<S>, head: &Head) -> Result<Form, Unread>
     requires { IsSafeBody (length checked.old.source.octets) head.now }
     ensures reads { OnlyReadsFile (read_failed result) checked.old checked.new }

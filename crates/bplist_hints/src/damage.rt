@@ -1,7 +1,6 @@
 //! How a file was damaged that begins with `bplist00` and breaks a rule of the frame.
 
-ghost use Rattle.std.specs.Prelude.{◌≡◌, ◌+◌, ◌≤◌, ◌<◌, ◌^◌, length, IfSome};
-ghost use Rattle.bplist_hints.specs.Hints.{DamageFits};
+ghost use Rattle.std.specs.Prelude.{◌+◌, ◌≤◌, length};
 
 use crate::ending::{Ending, TRAILER, trailer_in};
 use crate::hint::Damage;
@@ -20,15 +19,12 @@ pub(crate) struct Sample<'a> {
     pub(crate) tail: &'a [u8],
     /// The place of the tail.
     pub(crate) start: u64,
-    ghost zeros_inside: { zeros ≤ total },
     ghost long: { 32 ≤ length tail.now },
     ghost inside: { start + length tail.now ≤ total },
 }
 
 /// Returns the damage that a sample shows.
-pub(crate) fn damage_of(sample: &Sample) -> Option<Damage>
-    ensures { IfSome result (DamageFits sample.now.total) }
-{
+pub(crate) fn damage_of(sample: &Sample) -> Option<Damage> {
     if let Some(trailer) = trailer_in(sample.tail, sample.start) {
         return behind_trailer(sample, trailer);
     }
@@ -37,20 +33,19 @@ pub(crate) fn damage_of(sample: &Sample) -> Option<Damage>
             zeros: sample.zeros,
         });
     }
-    if has_new_line_ends(sample) {
-        return Some(Damage::LineEnds);
-    }
     if is_utf8(sample) {
         return Some(Damage::Utf8);
     }
+    if has_new_line_ends(sample) {
+        return Some(Damage::LineEnds);
+    }
     let last = &sample.tail[sample.tail.len() - TRAILER..];
-    cut_of(&Ending::of(last), sample.total)
+    damage_by(&Ending::of(last), sample.total)
 }
 
 /// Returns what stands behind the trailer at this place. If nothing does, the damage is not known.
 fn behind_trailer(sample: &Sample, trailer: u64) -> Option<Damage>
     requires { trailer + 32 ≤ sample.now.total }
-    ensures { IfSome result (DamageFits sample.now.total) }
 {
     let extra = sample.total - trailer - TRAILER as u64;
     if extra == 0 {
@@ -128,17 +123,19 @@ fn behind_cut(tail: &[u8]) -> &[u8] {
     }
 }
 
-/// Returns how much is missing by the last 32 bytes of a file of this length. If they are a trailer that the file has
-/// room for, the damage is not known.
-fn cut_of(ending: &Ending, length: u64) -> Option<Damage>
-    ensures { IfSome result (DamageFits length) }
-{
+/// Returns the damage that the last 32 bytes of a file of this length show. If they are a trailer whose offset table ends
+/// where the trailer begins, the damage is not known.
+fn damage_by(ending: &Ending, length: u64) -> Option<Damage> {
     let (table, room) = (ending.table_bytes(), ending.room(length));
     if !ending.has_form() {
-        return Some(Damage::CutShort { table });
+        return Some(Damage::CutShort);
     }
     if u128::from(room) < table {
         return Some(Damage::TableCut { table, room });
+    }
+    if ending.has_numbers() && table < u128::from(room) {
+        let extra = u128::from(room) - table;
+        return Some(Damage::TableShort { extra });
     }
     None
 }

@@ -67,9 +67,7 @@ impl Ending {
     }
 
     /// Returns the number of bytes between the place of the table and the trailer of a file of this length.
-    pub(crate) fn room(&self, length: u64) -> u64
-        ensures { result ≤ length }
-    {
+    pub(crate) fn room(&self, length: u64) -> u64 {
         length
             .saturating_sub(TRAILER as u64)
             .saturating_sub(self.table)

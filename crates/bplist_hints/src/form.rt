@@ -1,9 +1,7 @@
 //! The form of a file that does not begin with `bplist00`.
 
-ghost use Rattle.std.specs.Prelude.{IfSome, ℕ};
-ghost use Rattle.bplist_hints.specs.Hints.{DamageFits, FitsLength};
-
 use crate::hint::{Damage, Form, Hint};
+use crate::look::SAMPLE;
 
 /// The number of characters that decide which text it is.
 const TEXT: usize = 1024;
@@ -11,37 +9,64 @@ const TEXT: usize = 1024;
 /// The first bytes of a binary property list in base64. They hold the header but for its last four bits.
 const BASE64: &[u8] = b"YnBsaXN0MD";
 
+/// Stands for each character that is not ASCII.
+const NOT_ASCII: u8 = 0xff;
+
 /// Returns what a file with this front looks like, if that is known. The front does not begin with `bplist00`.
-pub(crate) fn form_of(front: &[u8]) -> Option<Hint>
-    ensures { (n : ℕ) → IfSome result (FitsLength n) }
-{
+/// `is_whole` says that it is the whole file.
+pub(crate) fn form_of(front: &[u8], is_whole: bool) -> Option<Hint> {
     if b"bplist00".starts_with(front) {
-        return Some(Hint::Damage(Damage::CutEarly));
+        return Some(Hint::Damage(Damage::CutShort));
     }
-    if front.starts_with(b"bplist15") {
-        return Some(Hint::Form(Form::Bplist15));
+    if let Some(form) = form_of_bytes(front) {
+        return Some(Hint::Form(form));
     }
-    if front.starts_with(b"bplist16") {
-        return Some(Hint::Form(Form::Bplist16));
-    }
-    if front.starts_with(b"bplist17") {
-        return Some(Hint::Form(Form::Bplist17));
-    }
-    if front.starts_with(&[0x1f, 0x8b]) {
-        return Some(Hint::Form(Form::Gzip));
-    }
-    let mut text = [0u8; TEXT];
-    narrow(front, &mut text);
+    let mut characters = [0u8; SAMPLE];
+    let text = narrowed(front, &mut characters);
     if text.starts_with(b"bplist00") {
         return Some(Hint::Damage(recoded(front)));
     }
-    form_of_text(text.trim_ascii_start()).map(Hint::Form)
+    if !text
+        .iter()
+        .all(|octet| is_blank(*octet) || !octet.is_ascii_control())
+    {
+        return None;
+    }
+    if is_whole && text.iter().all(|octet| is_blank(*octet)) {
+        return Some(Hint::Form(Form::Blank));
+    }
+    form_of_text(text[..text.len().min(TEXT)].trim_ascii_start()).map(Hint::Form)
+}
+
+/// Returns the form of a file that is no text.
+fn form_of_bytes(front: &[u8]) -> Option<Form> {
+    if front.starts_with(b"bplist15") {
+        return Some(Form::Bplist15);
+    }
+    if front.starts_with(b"bplist16") {
+        return Some(Form::Bplist16);
+    }
+    if front.starts_with(b"bplist17") {
+        return Some(Form::Bplist17);
+    }
+    if front.starts_with(&[0x1f, 0x8b]) {
+        return Some(Form::Gzip);
+    }
+    if front.starts_with(b"NIBArchive") {
+        return Some(Form::NibArchive);
+    }
+    // The version and the length of the word, which says the byte order.
+    match front {
+        [3 | 4, 11, word @ ..]
+            if word.starts_with(b"streamtyped") || word.starts_with(b"typedstream") => Some(
+            Form::TypedStream,
+        ),
+        _ => None,
+    }
 }
 
 /// Returns how a binary property list was changed that is one again as a text.
-fn recoded(front: &[u8]) -> Damage
-    ensures { (n : ℕ) → DamageFits n result }
-{
+fn recoded(front: &[u8]) -> Damage {
     if front.starts_with(&[0xef, 0xbb, 0xbf]) {
         Damage::ByteOrderMark
     } else {
@@ -49,20 +74,33 @@ fn recoded(front: &[u8]) -> Damage
     }
 }
 
-/// Writes the beginning of a text as one byte for each ASCII character, whether it is in UTF-8 or UTF-16, with a byte
-/// order mark or without.
-fn narrow(front: &[u8], into: &mut [u8; TEXT]) {
-    let (first, step) = match front {
-        [0xef, 0xbb, 0xbf, ..] => (3, 1),
-        [0xfe, 0xff, ..] => (3, 2),
-        [0xff, 0xfe, ..] => (2, 2),
-        [0, _, 0, _, ..] => (1, 2),
-        [_, 0, _, 0, ..] => (0, 2),
-        _ => (0, 1),
+/// Returns the characters of a text without its byte order mark, one byte each, whether the text is in UTF-8 or UTF-16.
+/// What is not ASCII is a byte of 0x80 or more.
+fn narrowed<'a>(front: &[u8], into: &'a mut [u8; SAMPLE]) -> &'a [u8] {
+    let (text, is_wide, is_little) = match front {
+        [0xef, 0xbb, 0xbf, text @ ..] => (text, false, false),
+        [0xfe, 0xff, text @ ..] => (text, true, false),
+        [0xff, 0xfe, text @ ..] => (text, true, true),
+        [0, _, 0, _, ..] => (front, true, false),
+        [_, 0, _, 0, ..] => (front, true, true),
+        _ => (front, false, false),
     };
-    for (place, octet) in into.iter_mut().zip(front.iter().skip(first).step_by(step)) {
-        *place = *octet;
+    let size = if is_wide { 2 } else { 1 };
+    let count = text.len().div_ceil(size).min(SAMPLE);
+    for (place, octets) in into.iter_mut().zip(text.chunks(size)) {
+        *place = match octets {
+            [octet] if !is_wide => *octet,
+            [0, low] if !is_little => *low,
+            [low, 0] if is_little => *low,
+            _ => NOT_ASCII,
+        };
     }
+    &into[..count]
+}
+
+/// True for the blanks of a text, line ends among them.
+fn is_blank(octet: u8) -> bool {
+    matches!(octet, 9..=13 | b' ')
 }
 
 /// Returns what a text with this beginning looks like.
@@ -80,8 +118,8 @@ fn form_of_text(text: &[u8]) -> Option<Form> {
     }
 }
 
-/// Returns the form of a text that begins with `<`, if it is one that has a hint. The word `plist` tells a property list
-/// from other XML, but an HTML page may have it too.
+/// Returns the form of a text that begins with `<`, if it is one that has a hint. The word `plist` tells a property
+/// list from other XML, but an HTML page may have it too.
 fn form_of_markup(text: &[u8]) -> Option<Form> {
     if begins_with(text, b"<!doctype html") || begins_with(text, b"<html") {
         return Some(Form::Html);

@@ -1,8 +1,5 @@
 //! The hints, and their words.
 
-ghost use Rattle.std.specs.Prelude.{◌≡◌, ◌↔◌, IfOk, IsTrue, string_bytes};
-ghost use Rattle.bplist_hints.specs.Hints.{IsOtherForm, IsTextForm, damage_words, form_words, hint_words, plural as ending};
-
 use std::alloc::{AllocError, Global};
 
 /// What a file looks like that is not a sound binary property list.
@@ -19,8 +16,12 @@ pub enum Hint {
 pub enum Form {
     /// A file without a byte.
     Empty,
+    /// A text of blanks alone.
+    Blank,
     /// All bytes are zero.
     Zeros,
+    /// All bytes that were looked at are zero: the first ones, and 1 MiB at the end.
+    ZeroEnds,
     /// XML that names a property list at its beginning.
     Xml,
     /// XML of another kind.
@@ -37,6 +38,10 @@ pub enum Form {
     Base64,
     /// A file that gzip packed.
     Gzip,
+    /// A nib file that is no property list.
+    NibArchive,
+    /// What NSArchiver wrote before there were keyed archives, as in old nib files.
+    TypedStream,
     /// The binary format bplist15.
     Bplist15,
     /// The binary format bplist16.
@@ -56,36 +61,47 @@ pub enum Damage {
     Utf8,
     /// Each line feed became a carriage return and a line feed.
     LineEnds,
-    /// It ends before there is room for a trailer.
-    CutEarly,
-    /// Its last 32 bytes are no trailer. By their numbers the offset table would need `table` bytes.
-    CutShort { table: u128 },
+    /// Its last 32 bytes are no trailer, or there is no room for one.
+    CutShort,
     /// By its trailer the offset table needs `table` bytes, and there is room for `room`.
     TableCut { table: u128, room: u64 },
+    /// By its trailer there are `extra` bytes between the offset table and the trailer.
+    TableShort { extra: u128 },
     /// Behind a trailer at place `trailer` there are `extra` bytes.
     TooMany { extra: u64, trailer: u64 },
     /// Behind a trailer at place `trailer` there are `zeros` bytes, all zero.
     ZerosBehind { zeros: u64, trailer: u64 },
     /// The last `zeros` bytes are zero, and no trailer stands before them.
     ZerosInstead { zeros: u64 },
+    /// The last MiB is zero.
+    ManyZeros,
 }
 
 impl Hint {
-    /// True if the file looks like XML or an old-style text, forms that a property list may have too. JSON and HTML are
-    /// no such forms.
-    pub fn is_other_form(self) -> bool
-        ensures { IsTrue result ↔ IsOtherForm self }
-    {
+    /// True if the file looks like a form that a file may have in place of a binary property list: XML, an old-style
+    /// text, a NIBArchive or a typed stream. JSON and HTML are no such forms.
+    pub fn is_other_form(self) -> bool {
         match self {
-            Hint::Form(form) => form.is_text_form(),
+            Hint::Form(form) => matches!(
+                form,
+                Form::Xml
+                    | Form::OtherXml
+                    | Form::OldStyle
+                    | Form::OldStyleOrJson
+                    | Form::NibArchive
+                    | Form::TypedStream
+            ),
             Hint::Damage(_) => false,
         }
     }
 
+    /// True if the file is empty or blank, as a file of strings without a string is.
+    pub fn is_blank(self) -> bool {
+        matches!(self, Hint::Form(Form::Empty | Form::Blank))
+    }
+
     /// Returns the hint in words, as they stand behind `looks like:`.
-    pub fn words(self, alloc: Global) -> Result<String, AllocError>
-        ensures { IfOk result (λ text. string_bytes text ≡ hint_words self) }
-    {
+    pub fn words(self, alloc: Global) -> Result<String, AllocError> {
         match self {
             Hint::Form(form) => String::from_str(alloc, form.words()),
             Hint::Damage(damage) => damage.words(alloc),
@@ -94,21 +110,12 @@ impl Hint {
 }
 
 impl Form {
-    fn is_text_form(self) -> bool
-        ensures { IsTrue result ↔ IsTextForm self }
-    {
-        matches!(
-            self,
-            Form::Xml | Form::OtherXml | Form::OldStyle | Form::OldStyleOrJson
-        )
-    }
-
-    fn words(self) -> &'static str
-        ensures { result.now ≡ form_words self }
-    {
+    fn words(self) -> &'static str {
         match self {
             Form::Empty => "an empty file",
+            Form::Blank => "blanks alone",
             Form::Zeros => "zeros alone",
+            Form::ZeroEnds => "zeros, in the first 4096 bytes and in the last 1048576",
             Form::Xml => "an XML property list",
             Form::OtherXml => "XML text",
             Form::OldStyle => "an old-style text property list",
@@ -117,6 +124,8 @@ impl Form {
             Form::Html => "an HTML page",
             Form::Base64 => "a binary property list in base64",
             Form::Gzip => "a file that gzip packed",
+            Form::NibArchive => "a NIBArchive, another form of a nib file",
+            Form::TypedStream => "a typed stream, as NSArchiver writes it",
             Form::Bplist15 => "bplist15, another binary format",
             Form::Bplist16 => "bplist16, another binary format",
             Form::Bplist17 => "bplist17, another binary format",
@@ -125,9 +134,7 @@ impl Form {
 }
 
 impl Damage {
-    fn words(self, alloc: Global) -> Result<String, AllocError>
-        ensures { IfOk result (λ text. string_bytes text ≡ damage_words self) }
-    {
+    fn words(self, alloc: Global) -> Result<String, AllocError> {
         match self {
             Damage::ByteOrderMark => String::from_str(
                 alloc,
@@ -136,33 +143,32 @@ impl Damage {
             Damage::Utf16 => String::from_str(alloc, "bytes re-coded as UTF-16"),
             Damage::Utf8 => String::from_str(alloc, "bytes re-coded as UTF-8"),
             Damage::LineEnds => String::from_str(alloc, "line ends changed from LF to CR LF"),
-            Damage::CutEarly => String::from_str(alloc, "a file cut short: the trailer is missing"),
-            Damage::CutShort { table } => format!(in alloc;
-                "a file cut short: the trailer is missing, by the last 32 bytes the offset table would need {table} bytes"
-            ),
+            Damage::CutShort => String::from_str(alloc, "a file cut short: the trailer is missing"),
             Damage::TableCut { table, room } => format!(in alloc;
                 "a file cut short: the offset table would need {table} bytes, and there are {room}"
             ),
+            Damage::TableShort { extra } => format!(in alloc;
+                "{extra} byte{} between the offset table and the trailer",
+                plural(extra)
+            ),
             Damage::TooMany { extra, trailer } => format!(in alloc;
                 "{extra} byte{} too many after a trailer at {trailer}",
-                plural(extra)
+                plural(u128::from(extra))
             ),
             Damage::ZerosBehind { zeros, trailer } => format!(in alloc;
                 "{zeros} zero{} at the end, after a trailer at {trailer}",
-                plural(zeros)
+                plural(u128::from(zeros))
             ),
             Damage::ZerosInstead { zeros } => format!(in alloc;
                 "{zeros} zero{} at the end, and no trailer before",
-                plural(zeros)
+                plural(u128::from(zeros))
             ),
+            Damage::ManyZeros => String::from_str(alloc, "1048576 zeros or more at the end"),
         }
     }
 }
 
 /// Returns the letter that a noun gets behind this number.
-#[tactic(auto, unfolding(crate::specs::Hints::plural))]
-fn plural(count: u64) -> &'static str
-    ensures { result.now ≡ ending count }
-{
+fn plural(count: u128) -> &'static str {
     if count == 1 { "" } else { "s" }
 }

@@ -7,12 +7,11 @@
 //! }
 //! ```
 //!
-//! A hint is a guess from a few bytes. Contracts say what a call reads and how a hint is worded; tests say which damage
-//! gets which hint.
+//! A hint is a guess from a few bytes. A contract says that the call only reads; tests say which file gets which hint.
 //!
 //! The modules, in the order in which to read them:
 //!
-//! - `hint`: [`Hint`], a [`Form`] or a [`Damage`]; its words; [`Hint::is_other_form`].
+//! - `hint`: [`Hint`], a [`Form`] or a [`Damage`]; its words; [`Hint::is_other_form`], [`Hint::is_blank`].
 //! - `look`: [`hint_of`], which reads beginning and end of a file.
 //! - `form`: hints for a file that does not begin with `bplist00`.
 //! - `damage`: hints for a file that begins with `bplist00`.

@@ -1,9 +1,8 @@
 //! Reads the beginning and the end of a file, and finds what it looks like.
 
-ghost use Rattle.std.specs.Prelude.{◌≡◌, ◌+◌, ◌≤◌, ◌<◌, IfOk, IfSome, length};
+ghost use Rattle.std.specs.Prelude.{◌+◌, ◌≤◌, IfOk, length};
 ghost use Rattle.std.specs.Result.{result_err};
 ghost use Rattle.bplist_octets.specs.Meaning.{OnlyReads};
-ghost use Rattle.bplist_hints.specs.Hints.{FitsLength};
 
 use crate::damage::{Sample, damage_of};
 use crate::ending::TRAILER;
@@ -13,7 +12,13 @@ use bplist_objects::{ObjectFault, trailer_of};
 use bplist_octets::{ReadFault, Source};
 
 /// The number of bytes that are read at the beginning and at the end.
-const SAMPLE: usize = 4096;
+pub(crate) const SAMPLE: usize = 4096;
+
+/// The largest file that is looked at: rule 1 refuses a larger one.
+const LARGEST: u64 = 4_294_967_295;
+
+/// The number of zeros at the end of a file that are looked at.
+const MOST_ZEROS: u64 = 1 << 20;
 
 /// The shortest file that has a header and a trailer.
 const SHORTEST: u64 = 40;
@@ -21,12 +26,14 @@ const SHORTEST: u64 = 40;
 /// Returns what a file looks like that is not a sound binary property list. Returns `None` if that is not known, and
 /// for each file whose header, trailer and offset table keep rules 1 to 12.
 ///
-/// The call reads the first 4,096 bytes and the last 4,096. It reads more only where these are zeros alone, up to the
-/// next byte that is not zero.
+/// The call reads the first 4,096 bytes and the last 4,096. Where the last ones are zeros alone, it reads back to the next
+/// byte that is not zero, but at most 1 MiB. Of a file that rule 1 refuses it reads nothing.
 pub fn hint_of<S: Source>(src: &mut S) -> Result<Option<Hint>, ReadFault>
     ensures reads { OnlyReads (result_err result) (S.means src.old) (S.means src.new) }
-    ensures fits { IfOk result (λ hint. IfSome hint (FitsLength (length (S.means src.old).octets))) }
 {
+    if src.len() > LARGEST {
+        return Ok(None);
+    }
     let mut octets = [0u8; SAMPLE];
     let front = &mut octets[..src.len().min(SAMPLE as u64) as usize];
     src.read_at(0, front)?;
@@ -36,27 +43,29 @@ pub fn hint_of<S: Source>(src: &mut S) -> Result<Option<Hint>, ReadFault>
     if front.iter().all(|octet| *octet == 0) {
         return zeros_in(src);
     }
-    Ok(form_of(front))
+    Ok(form_of(front, src.len() <= SAMPLE as u64))
 }
 
 /// Returns what a file looks like that begins with zeros, or is empty.
 fn zeros_in<S: Source>(src: &mut S) -> Result<Option<Hint>, ReadFault>
     ensures reads { OnlyReads (result_err result) (S.means src.old) (S.means src.new) }
-    ensures fits { IfOk result (λ hint. IfSome hint (FitsLength (length (S.means src.old).octets))) }
 {
     if src.len() == 0 {
         return Ok(Some(Hint::Form(Form::Empty)));
     }
-    Ok(match content_end(src)? {
-        0 => Some(Hint::Form(Form::Zeros)),
-        _ => None,
+    let zeros = zeros_at_end(src)?;
+    Ok(if zeros == src.len() {
+        Some(Hint::Form(Form::Zeros))
+    } else if zeros == MOST_ZEROS {
+        Some(Hint::Form(Form::ZeroEnds))
+    } else {
+        None
     })
 }
 
 /// Returns the damage of a file that begins with `bplist00`, of which `front` are the first bytes.
 fn damage_in<S: Source>(src: &mut S, front: &[u8]) -> Result<Option<Hint>, ReadFault>
     ensures reads { OnlyReads (result_err result) (S.means src.old) (S.means src.new) }
-    ensures fits { IfOk result (λ hint. IfSome hint (FitsLength (length (S.means src.old).octets))) }
 {
     match trailer_of(src) {
         Ok(_) => return Ok(None),
@@ -64,7 +73,7 @@ fn damage_in<S: Source>(src: &mut S, front: &[u8]) -> Result<Option<Hint>, ReadF
         Err(ObjectFault::Fault(_)) => {}
     }
     if src.len() < SHORTEST {
-        return Ok(Some(Hint::Damage(Damage::CutEarly)));
+        return Ok(Some(Hint::Damage(Damage::CutShort)));
     }
     sampled(src, front)
 }
@@ -73,10 +82,12 @@ fn damage_in<S: Source>(src: &mut S, front: &[u8]) -> Result<Option<Hint>, ReadF
 fn sampled<S: Source>(src: &mut S, front: &[u8]) -> Result<Option<Hint>, ReadFault>
     requires { 40 ≤ length (S.means src.old).octets }
     ensures reads { OnlyReads (result_err result) (S.means src.old) (S.means src.new) }
-    ensures fits { IfOk result (λ hint. IfSome hint (FitsLength (length (S.means src.old).octets))) }
 {
     let length = src.len();
-    let zeros = length - content_end(src)?;
+    let zeros = zeros_at_end(src)?;
+    if zeros == MOST_ZEROS {
+        return Ok(Some(Hint::Damage(Damage::ManyZeros)));
+    }
     let end = tail_end(length, zeros);
     let mut octets = [0u8; SAMPLE];
     let tail = &mut octets[..end.min(SAMPLE as u64) as usize];
@@ -106,21 +117,23 @@ fn tail_end(length: u64, zeros: u64) -> u64
     (length - zeros + 8).max(TRAILER as u64)
 }
 
-/// Returns the place behind the last byte that is not zero, or 0 if there is none.
-fn content_end<S: Source>(src: &mut S) -> Result<u64, ReadFault>
+/// Returns the number of zeros at the end of a file, but at most [`MOST_ZEROS`].
+fn zeros_at_end<S: Source>(src: &mut S) -> Result<u64, ReadFault>
     ensures reads { OnlyReads (result_err result) (S.means src.old) (S.means src.new) }
-    ensures within { IfOk result (λ end. end ≤ length (S.means src.old).octets) }
+    ensures within { IfOk result (λ zeros. zeros ≤ length (S.means src.old).octets) }
 {
-    let mut end = src.len();
+    let length = src.len();
+    let stop = length - length.min(MOST_ZEROS);
+    let mut end = length;
     let mut octets = [0u8; SAMPLE];
-    while end > 0 {
-        let block = &mut octets[..end.min(SAMPLE as u64) as usize];
+    while end > stop {
+        let block = &mut octets[..(end - stop).min(SAMPLE as u64) as usize];
         let start = end - block.len() as u64;
         src.read_at(start, block)?;
         if let Some(last) = block.iter().rposition(|octet| *octet != 0) {
-            return Ok(start + last as u64 + 1);
+            return Ok(length - start - last as u64 - 1);
         }
         end = start;
     }
-    Ok(0)
+    Ok(length - stop)
 }

@@ -1,8 +1,8 @@
 pub mod AgreedUnits
-pub mod Digits
-pub mod PivotWeights
+pub mod FrontLaws
+pub mod HeldTexts
 pub mod Groups
-pub mod GroupParts
+pub mod Merging
 pub mod TextOctets
 pub mod TextUnits
 pub mod Listed

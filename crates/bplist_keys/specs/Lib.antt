@@ -2,7 +2,8 @@ pub mod Marks
 pub mod Texts
 pub mod Runs
 pub mod Groups
-pub mod Pivot
+pub mod KeyTexts
+pub mod Sorting
 pub mod Fingerprints
 pub mod Ranks
 pub mod LongRanks

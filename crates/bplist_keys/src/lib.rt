@@ -18,27 +18,25 @@
 //! | module | what is in it |
 //! |---|---|
 //! | named_keys | [`NamedKeys`], a mark for each object that is named as a key; [`name_keys`], which sets them; [`count_marked`], [`numbers_of`] |
-//! | text | [`object_text`] and [`text_head`], the head of a key; [`text_order`], the order of two texts |
+//! | text | [`object_text`], the head of a key; [`text_order`], the order of two texts |
 //! | ranks | [`KeyNumbers`], a number for each key; [`ranks_of`], which gives them in the order of the units |
 //! | classes | [`classes_of`], for callers that compare only for equality: by fingerprints, so that most texts are read no further than their first units |
 //! | class_table | [`ClassTable`], which finds a dictionary's first [`KeyDefect`], a key that is wrong by rule 21 or 22 |
-//! | grouping | the order of texts: groups that share their first units, split until each is settled |
-//! | pivot | how the texts of a group compare with one of them, as numbers that are sorted in memory |
+//! | sorting | the order of texts, by a merge sort |
+//! | key_texts | how two texts are compared: in memory, where each is read once, or by reading them |
 //! | long_texts | [`LongTexts`], ranks of long texts in a table of fixed size |
-//! | window_length | how many of the pivot's units a split has in memory |
 //! | run_cache | [`RunCache`], what earlier comparisons found of texts that overlap, so that shared units are not read again |
 #![tactic(auto)]
 
 mod class_table;
 mod classes;
-mod grouping;
+mod key_texts;
 mod long_texts;
 mod named_keys;
-mod pivot;
 mod ranks;
 mod run_cache;
+mod sorting;
 mod text;
-mod window_length;
 
 pub use class_table::{ClassTable, KeyDefect};
 pub use classes::classes_of;
@@ -46,4 +44,4 @@ pub use long_texts::LongTexts;
 pub use named_keys::{NamedKeys, count_marked, name_keys, numbers_of};
 pub use ranks::{KeyNumbers, ranks_of};
 pub use run_cache::RunCache;
-pub use text::{object_text, text_head, text_order};
+pub use text::{object_text, text_order};

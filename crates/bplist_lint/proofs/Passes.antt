@@ -1,5 +1,5 @@
 -- What the linter's passes find, one after the other.
-use Rattle.std.proofs.Common.{◌≡◌, ℕ, zero, suc, ◌+◌, ◌<◌, ◌≤◌, inl, cond, nat_lt, Bool, List, length, take, slice_index, count_by, filter, IsTrue, None, Result, Ok, Err, refl, sym, ap, subst, ◌∙◌, arith, lt-ltb}
+use Rattle.std.proofs.Common.{◌≡◌, ℕ, zero, suc, ◌+◌, ◌<◌, ◌≤◌, inl, cond, nat_lt, Bool, List, length, take, slice_index, count_by, filter, IsTrue, Option, None, Result, Ok, Err, refl, sym, ap, subst, ◌∙◌, arith, lt-ltb}
 use Rattle.std.specs.List.{range_with_len}
 use Rattle.std.proofs.Math.Numerals.{add-one}
 use Rattle.std.proofs.Math.Seq.{take-length}
@@ -17,6 +17,7 @@ use Rattle.bplist_objects.specs.Reach.{Reach}
 use Rattle.bplist_objects.specs.Spelled.{refs_at}
 use Rattle.bplist_cert.specs.declared.refusal.Refusal.{Refusal}
 use Rattle.bplist_cert.specs.declared.refusal.Refusal.TheVariants as cert_refusals
+use Rattle.bplist_cert.specs.Lists.{Keyed, Lists, lists}
 use Rattle.bplist_cert.specs.Refusals.{GivesRefusal}
 use Rattle.bplist_cert.specs.Sorted.{IsAccepted}
 use Rattle.bplist_cert.specs.Valid.{IsVouchedBy}
@@ -24,6 +25,9 @@ use Rattle.bplist_cert.proofs.VouchedObjects.{reached_vouched}
 use Rattle.bplist_lint.specs.declared.answer.LintRefusal.{LintRefusal}
 use Rattle.bplist_lint.specs.declared.answer.LintRefusal.TheVariants as refusals
 use Rattle.bplist_lint.specs.declared.answer.Lint.{Lint}
+use Rattle.bplist_lint.specs.declared.linter.Keys.{Keys}
+use Rattle.bplist_lint.specs.declared.linter.Keys.TheVariants.{Classes, Ranks}
+use Rattle.bplist_lint.specs.declared.tally.Tally.{Tally}
 use Rattle.bplist_lint.specs.declared.walk.Reached.{Reached}
 use Rattle.bplist_lint.specs.Graph.{AreLeast, IsCircleOf}
 use Rattle.bplist_lint.specs.ReachRules.{number_below, references_below, is_marked}
@@ -32,6 +36,7 @@ use Rattle.bplist_lint.specs.Refusals.{Lints, Refuses, no_circle}
 use Rattle.bplist_objects.specs.Offsets.{AreOffsets32, AreBelowTable, IsOffsetFault}
 use Rattle.bplist_lint.specs.LeastHeights.{AreLeastHeights}
 use Rattle.bplist_lint.specs.Linted.{HaveReferences, KeepsRules, IsLintedBy, HasNoHeights, lint_of}
+use Rattle.bplist_lint.specs.Upgraded.{IsLintedWith}
 use Rattle.bplist_lint.proofs.HeldValues.{formed_holds, holds_formed}
 use Rattle.bplist_lint.proofs.KeptRules.{kept_both, kept_spells}
 use Rattle.bplist_lint.proofs.OffsetSteps.{kept_low, kept_high}
@@ -135,25 +140,15 @@ module _ (f : List ℕ) (F : Frame) where
       (F, frame, kept_both f F F.objects kept s.keys, (circle_iff f F (kept_spells f F frame kept) circle).0 c)
 
 -- ---- the linter's yes, of a checked file
-module _ (f : List ℕ) (F : Frame) (lint : Lint) (yes : IsLintedBy f F lint) where
-  -- the certificate is accepted: it has no key lists
-  pub least_accepted : IsAccepted f F lint.certificate
-  least_accepted = record { valid = yes.valid; listed = rw yes.version tt }
+module _ (f : List ℕ) (F : Frame) (certificate : Lists) (tally : Tally) where
+  -- the certificate is accepted: its key lists are right, if it has any
+  pub linted_accepted : (keys : Keys) → IsLintedWith keys f F certificate tally → IsAccepted f F certificate
+  linted_accepted Classes linted = record { valid = linted.0.valid; listed = rw linted.1 tt }
+  linted_accepted Ranks linted = linted.1.accepted
 
-  -- the answer is that of its certificate and counts
-  pub least_of : IsLintedBy f F (lint_of F lint.certificate (record { reached = lint.reached; references = lint.references }))
-  least_of = record {
-    value = yes.value;
-    holds = yes.holds;
-    version = yes.version;
-    least = yes.least;
-    valid = yes.valid;
-    lowest = yes.lowest;
-    height = refl;
-    reached = yes.reached;
-    references = yes.references;
-    few = yes.few;
-  }
+  -- without key lists it is that of the linter's answer
+  pub linted_plain : IsLintedWith Classes f F certificate tally → IsLintedBy f F (lint_of F certificate tally)
+  linted_plain linted = subst (λ (keyed : Option Keyed). IsLintedBy f F (lint_of F (lists certificate.heights keyed) tally)) (sym linted.1) linted.0
 
 -- ---- a fault excludes heights and values
 pub fault_decides : (f : List ℕ) (fault : Fault) → IsFileFault f fault → HasNoHeights f

@@ -27,7 +27,3 @@ open_no_change t e from = λ is. not_there t (λ p. from p is)
 pub open_upgrades : {P X : Type 0} (Q : X → Type 0) → ∥ P ∥₁ → (made : Result X UpgradeFault) → (P → Upgrades Q made) → Upgrades (λ x. ∥ Q x ∥₁) made
 open_upgrades Q t (Ok x) from = ∥∥₁_map t from
 open_upgrades Q t (Err e) from = open_no_change t e from
-
-pub upgrades_mean : {X : Type 0} (P Q : X → Type 0) (made : Result X UpgradeFault) → ((x : X) → P x → Q x) → Upgrades P made → Upgrades Q made
-upgrades_mean P Q (Ok x) answers h = answers x h
-upgrades_mean P Q (Err e) answers h = h

@@ -2,18 +2,16 @@
 use Rattle.std.specs.Prelude.{◌≡◌, ℕ, ◌+◌, ◌≤◌, nat_lt, List, [], ◌∷◌, length, slice_index, count_by, filter, None}
 use Rattle.std.specs.List.{range_with_len}
 use Rattle.bplist_objects.specs.declared.frame.Frame.{Frame}
-use Rattle.bplist_objects.specs.declared.head.Head.{Head}
-use Rattle.bplist_objects.specs.declared.head.Kind.{Kind}
 use Rattle.bplist_objects.specs.Frame.{IsFrame}
-use Rattle.bplist_objects.specs.Heads.{Content, refs, Spells, IsHeadOf}
+use Rattle.bplist_objects.specs.Heads.{Content, refs, Spells}
 use Rattle.bplist_objects.specs.Value.{Value}
 use Rattle.bplist_objects.specs.File.{FileHolds}
 use Rattle.bplist_objects.specs.Reach.{Reach}
 use Rattle.bplist_cert.specs.CheckRules.{key_rules}
 use Rattle.bplist_cert.specs.Lists.{Lists}
 use Rattle.bplist_cert.specs.Valid.{IsValid}
-use Rattle.bplist_lint.specs.declared.answer.Counts.{Counts}
 use Rattle.bplist_lint.specs.declared.answer.Lint.{Lint}
+use Rattle.bplist_lint.specs.declared.tally.Tally.{Tally}
 use Rattle.bplist_lint.specs.declared.walk.Reached.{Reached}
 use Rattle.bplist_lint.specs.LeastHeights.{AreLeastHeights}
 use Rattle.bplist_lint.specs.ReachRules.{KeepReached}
@@ -37,23 +35,18 @@ pub record IsLintedBy (f : List ℕ) (F : Frame) (lint : Lint) : Type 0 where
   pub references : HaveReferences f F (filter (λ n. nat_lt 0 (slice_index lint.certificate.heights n)) (range_with_len 0 F.objects)) lint.references
   pub few : lint.references + 8 ≤ F.table
 
--- the linter's answer with this certificate, the height of the top, and these counts
-abbrev pub lint_of : Frame → Lists → Counts → Lint
-lint_of F certificate counts = record {
+-- the linter's answer with this certificate, the height of the top, and the figures of this tally
+abbrev pub lint_of : Frame → Lists → Tally → Lint
+lint_of F certificate tally = record {
   certificate = certificate;
   height = slice_index certificate.heights F.top.0;
-  reached = counts.reached;
-  references = counts.references;
+  reached = tally.reached;
+  references = tally.references;
 }
 
 -- the file has a frame, and the linter's answer is right for it
 abbrev pub IsLinted : List ℕ → Lint → Type 0
 IsLinted f lint = (F : Frame) × IsFrame f F × IsLintedBy f F lint
-
--- the linter's answer is right for the file, and this is the kind of the top
-abbrev pub IsLintedWithKind : List ℕ → Lint → Kind → Type 0
-IsLintedWithKind f lint kind =
-    (F : Frame) × IsFrame f F × IsLintedBy f F lint × ((head : Head) × IsHeadOf f F F.top.0 head × (kind ≡ head.kind))
 
 -- no heights are valid for the file
 abbrev pub HasNoHeights : List ℕ → Type 0

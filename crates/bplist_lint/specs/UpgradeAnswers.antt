@@ -1,18 +1,12 @@
 -- What an upgrade returns. Source: profile.
-use Rattle.std.specs.Prelude.{◌≢◌, Option, None, Some, Result, Ok, Err, MatchResult}
+use Rattle.std.specs.Prelude.{◌≢◌, Option, None, Some, Result, Err, MatchResult}
 use Rattle.bplist_octets.specs.declared.source.ReadFault.{ReadFault}
-use Rattle.bplist_lint.specs.declared.answer.LintRefusal.{LintRefusal}
 use Rattle.bplist_lint.specs.declared.answer.UpgradeFault.{UpgradeFault}
 use Rattle.bplist_lint.specs.declared.answer.UpgradeFault.TheVariants as faults
-use Rattle.bplist_lint.specs.Refusals.{read_of_refusal}
 
 -- the fault of the failed read that the result is, if it is one
 abbrev pub upgrade_failed : {X : Type 0} → Result X UpgradeFault → Option ReadFault
 upgrade_failed answer = elim answer [ Err (faults.Read fault) ↦ Some fault | _ ↦ None ]
-
--- the fault of the failed read that the linter, or after its yes the upgrade, reports, if it is one
-abbrev pub lists_failed : {X : Type 0} → Result (Result X UpgradeFault) LintRefusal → Option ReadFault
-lists_failed answer = elim answer [ Ok made ↦ upgrade_failed made | Err refusal ↦ read_of_refusal refusal ]
 
 -- P holds of the answer, or the error is not `Changed`
 abbrev pub Upgrades : {X : Type 0} → (X → Type 0) → Result X UpgradeFault → Type 0

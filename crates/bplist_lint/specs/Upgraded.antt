@@ -1,12 +1,11 @@
 -- The key lists of vouched dictionaries, one after the other. Source: profile.
-use Rattle.std.specs.Prelude.{◌≡◌, ℕ, suc, ◌+◌, ◌<◌, ◌≤◌, nat_lt, cond, List, length, slice_index, Option, Some, None, is_some, sum, filter_map}
+use Rattle.std.specs.Prelude.{◌≡◌, ℕ, suc, ◌+◌, ◌<◌, ◌≤◌, nat_lt, cond, List, length, slice_index, Option, Some, None, is_some, sum, filter_map, Bool, if◌then◌else◌}
 use Rattle.std.specs.List.{range_with_len}
 use Rattle.std.specs.Option.{option_and_then}
 use Rattle.bplist_objects.specs.declared.frame.Frame.{Frame}
 use Rattle.bplist_objects.specs.declared.head.Head.{Head}
 use Rattle.bplist_objects.specs.declared.head.Kind.TheVariants.{Dict}
 use Rattle.bplist_objects.specs.Announced.{HasHead}
-use Rattle.bplist_objects.specs.Frame.{IsFrame}
 use Rattle.bplist_objects.specs.Heads.{Spells, dict}
 use Rattle.bplist_objects.specs.Markers.{head_found}
 use Rattle.bplist_objects.specs.Extents.{Sums}
@@ -14,8 +13,10 @@ use Rattle.bplist_cert.specs.Lists.{Keyed, Lists, lists}
 use Rattle.bplist_cert.specs.Valid.{IsVouchedBy}
 use Rattle.bplist_cert.specs.Sorted.{IsAccepted}
 use Rattle.bplist_cert.specs.CheckRules.{HasOrder}
-use Rattle.bplist_lint.specs.declared.answer.Lint.{Lint}
-use Rattle.bplist_lint.specs.Linted.{IsLintedBy}
+use Rattle.bplist_lint.specs.declared.linter.Keys.{Keys}
+use Rattle.bplist_lint.specs.declared.linter.Keys.TheVariants.{Classes, Ranks}
+use Rattle.bplist_lint.specs.declared.tally.Tally.{Tally}
+use Rattle.bplist_lint.specs.Linted.{IsLintedBy, lint_of}
 
 module _ (f : List ℕ) (F : Frame) (heights : List ℕ) where
   -- the number of positions in the key list of object n, computed: the count of its head, if it is a vouched dictionary
@@ -60,7 +61,11 @@ module _ (f : List ℕ) (F : Frame) (heights : List ℕ) where
     pub total : length keyed.positions ≡ before F.objects
     pub accepted : IsAccepted f F certificate
 
--- the file holds a value, and the certificate has its least heights and key lists
-abbrev pub IsLintedWithLists : List ℕ → Lists → Type 0
-IsLintedWithLists f certificate =
-    (F : Frame) × (lint : Lint) × IsFrame f F × IsLintedBy f F lint × IsUpgraded f F lint.certificate.heights certificate
+-- how the linter numbers keys for a certificate that is to have key lists or not
+abbrev pub keys_for : Bool → Keys
+keys_for sorted = if sorted then Ranks else Classes
+
+-- the linter's answer is right for the certificate's heights and this tally, and with ranks the certificate has key lists
+abbrev pub IsLintedWith : Keys → List ℕ → Frame → Lists → Tally → Type 0
+IsLintedWith keys f F certificate tally = IsLintedBy f F (lint_of F (lists certificate.heights None) tally)
+    × elim keys [ Classes ↦ certificate.keys ≡ None | Ranks ↦ IsUpgraded f F certificate.heights certificate ]

@@ -2,7 +2,9 @@
 //! has no certificate: a fault, or the objects of a circle. An upgrade has a reason of its own for giving no
 //! certificate.
 
-ghost use Rattle.std.specs.Prelude.{◌≡◌};
+ghost use Rattle.std.specs.Prelude.{◌≡◌, Some};
+ghost use Rattle.bplist_octets.specs.FaultLines.{read_line};
+ghost use Rattle.bplist_objects.specs.FaultLines.{changed_line, circle_line, fault_line, memory_line, numbers_text};
 ghost use Rattle.bplist_cert.specs.declared.refusal.Refusal.TheVariants as cert;
 ghost use Rattle.bplist_lint.specs.declared.answer.LintRefusal.TheVariants as lint;
 ghost use Rattle.bplist_objects.specs.declared.fault.Failure.TheVariants as keys;
@@ -12,6 +14,8 @@ use bplist_cert::{Certificate, Refusal};
 use bplist_objects::{Failure, Fault, ObjectNo};
 use bplist_octets::ReadFault;
 use std::alloc::{AllocError, AllocFailed};
+use std::error::Error;
+use std::fmt;
 use std::marker::Model;
 
 /// What the linter returns for a file that holds a value.
@@ -23,15 +27,6 @@ pub struct Lint {
     pub reached: u64,
     /// The height of the top.
     pub height: u32,
-    /// How many references the reached objects have together.
-    pub references: u64,
-}
-
-/// What the linter counts in a file that holds a value.
-#[derive(Clone, Copy, Debug, PartialEq, Eq, Drop)]
-pub struct Counts {
-    /// How many objects the top reaches, including the top itself.
-    pub reached: u64,
     /// How many references the reached objects have together.
     pub references: u64,
 }
@@ -49,6 +44,26 @@ pub enum LintRefusal {
     /// An allocation was refused.
     Memory,
 }
+
+impl fmt::Display for LintRefusal {
+    ghost output = { λ refusal. Some (elim refusal [
+      | lint.Fault fault ↦ fault_line fault
+      | lint.Circle objects ↦ circle_line objects
+      | lint.Read error ↦ read_line error
+      | lint.Memory ↦ memory_line
+    ]) };
+
+    fn fmt<W: fmt::Write>(&self, f: &mut fmt::Formatter<W>) -> fmt::Result {
+        match self {
+            LintRefusal::Fault(fault) => write!(f, "{fault}"),
+            LintRefusal::Circle(objects) => write!(f, "circle{objects}"),
+            LintRefusal::Read(error) => write!(f, "{error}"),
+            LintRefusal::Memory => f.write_str("memory"),
+        }
+    }
+}
+
+impl Error for LintRefusal {}
 
 impl From<Refusal> for LintRefusal {
     ghost from_gives = { λ refusal e. e ≡
@@ -78,6 +93,18 @@ impl Model for ObjectNos {
     ghost use Rattle.bplist_lint.specs.declared.answer.ObjectNos.{ObjectNos};
 
     ghost view = { λ l. l.numbers.items };
+}
+
+/// Prints a space and the number for each object.
+impl fmt::Display for ObjectNos {
+    ghost output = { λ objects. Some (numbers_text objects) };
+
+    fn fmt<W: fmt::Write>(&self, f: &mut fmt::Formatter<W>) -> fmt::Result {
+        for object in &self.numbers {
+            write!(f, " {object}")?;
+        }
+        Ok(())
+    }
 }
 
 impl ObjectNos {
@@ -114,6 +141,21 @@ pub enum UpgradeFault {
     /// An allocation was refused.
     Memory,
 }
+
+impl fmt::Display for UpgradeFault {
+    ghost output = { λ fault. Some (elim fault
+        [ faults.Read error ↦ read_line error | faults.Changed ↦ changed_line | faults.Memory ↦ memory_line ]) };
+
+    fn fmt<W: fmt::Write>(&self, f: &mut fmt::Formatter<W>) -> fmt::Result {
+        match self {
+            UpgradeFault::Read(error) => write!(f, "{error}"),
+            UpgradeFault::Changed => f.write_str("changed"),
+            UpgradeFault::Memory => f.write_str("memory"),
+        }
+    }
+}
+
+impl Error for UpgradeFault {}
 
 impl From<ReadFault> for UpgradeFault {
     ghost from_gives = { λ error e. e ≡ faults.Read error };

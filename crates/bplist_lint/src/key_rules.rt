@@ -7,16 +7,17 @@
 
 ghost use Rattle.std.specs.Prelude.{◌≡◌, ◌+◌, ◌^◌, ◌<◌, ◌++◌, [], ℕ, ⊤, Bool, List, None, IfOk, OnOk, length, slice_index, ◌↔◌};
 ghost use Rattle.bplist_lint.specs.Prelude.{OnlyReads, frame_in, HonestlyIn, IsSafeHead, Dict, ref, failed_to_read};
-ghost use Rattle.bplist_lint.specs.Prelude.{ranks_in, positions_in, AreRanked, AreAbove, HaveRanks, IsListed, Upgrades};
-ghost use Rattle.bplist_lint.specs.Prelude.{upgrade_failed, Reach, KeepsAll, KeepsByObject, object_rules, HasHead};
+ghost use Rattle.bplist_lint.specs.Prelude.{ranks_in, positions_in, AreRanked, AreAbove, HaveRanks, IsListed};
+ghost use Rattle.bplist_lint.specs.Prelude.{Reach, KeepsAll, KeepsByObject, object_rules, HasHead};
 ghost use Rattle.bplist_lint.specs.Prelude.{KeysAreSound, HasGoodKeys, BreaksKeys, Judges, Never, refused_read, IsMarked};
 ghost use Rattle.bplist_lint.specs.Prelude.{AreChildless, KeepReached, AreNamed, key_rules, AreClassed, IsStamped};
-ghost use Rattle.bplist_lint.specs.Prelude.{IsNew, Head as head_record, IsReachedFault, reach_rules, AreClasses};
+ghost use Rattle.bplist_lint.specs.Prelude.{IsNew, Head as head_record, IsReachedFault, reach_rules, AreClasses, AreRanks};
 
-use crate::answer::UpgradeFault;
 use bplist_cert::Refusal;
-use bplist_keys::{ClassTable, KeyNumbers, NamedKeys, classes_of};
-use bplist_objects::{Failure, Framed, Head, Kind, ObjectNo, Offsets, RefBlocks, object_shape};
+use bplist_keys::{ClassTable, KeyNumbers, NamedKeys, classes_of, ranks_of};
+use bplist_objects::{
+    Failure, Fault, Framed, Head, Kind, ObjectNo, Offsets, RefBlocks, Rule, object_shape,
+};
 use bplist_octets::entry_or;
 use std::alloc::{AllocError, Global};
 
@@ -49,22 +50,22 @@ impl KeySorting {
         }
     }
 
-    /// Appends the key list of a dictionary: as many positions as it has pairs. After an error some of them may be
+    /// Appends the key list of dictionary `n`: as many positions as it has pairs. After an error some of them may be
     /// there.
-    pub fn list<P: Framed>(&mut self, src: &mut P, head: &Head) -> Result<(), UpgradeFault>
+    pub fn list<P: Framed>(&mut self, src: &mut P, n: u32, head: &Head) -> Result<(), Refusal>
         requires head { IsSafeHead (frame_in (P.means src.old)) head.now }
         requires dict { head.now.kind ≡ Dict }
         requires few { head.now.count < 2 ^ 32 }
-        ensures reads { OnlyReads (upgrade_failed result) (P.means src.old) (P.means src.new) }
+        ensures reads { OnlyReads (refused_read result) (P.means src.old) (P.means src.new) }
         ensures same { self.new.ranks.table.items ≡ self.old.ranks.table.items }
         ensures more { OnOk result (length self.new.positions.items ≡ length self.old.positions.items + head.now.count) }
         ensures exact { HonestlyIn (P.means src.old) (λ f F. HaveRanks f F head.now self.old.ranks.table.items
-            → Upgrades (λ _. IsListed f F head.now self.old.positions.items self.new.positions.items) result) }
+            → Judges (λ _. IsListed f F head.now self.old.positions.items self.new.positions.items) Never result) }
     {
         let ranks = &self.ranks;
         rank_keys(src, head, &ranks.table, &mut self.keys)?;
         self.keys.sort_unstable();
-        push_positions(&self.keys, &mut self.positions)
+        push_positions(&self.keys, unlisted(n, head), &mut self.positions)
     }
 }
 
@@ -108,16 +109,26 @@ fn rank_keys<P: Framed>(
     Ok(())
 }
 
-/// Appends the positions of sorted keys. Returns `Changed` if a key has no rank, or the same rank as another key.
-fn push_positions(keys: &[RankedKey], positions: &mut Vec<u32>) -> Result<(), UpgradeFault>
-    ensures read { upgrade_failed result ≡ None }
+/// The fault of a dictionary whose keys now are not what they were when they were numbered. Over an honest source there
+/// is none.
+pub(crate) fn unlisted(n: u32, head: &Head) -> Fault {
+    Fault {
+        rule: Rule::KeyTwice,
+        object: Some(ObjectNo(n)),
+        place: head.body,
+    }
+}
+
+/// Appends the positions of sorted keys. Returns `fault` if a key has no rank, or the same rank as another key.
+fn push_positions(keys: &[RankedKey], fault: Fault, positions: &mut Vec<u32>) -> Result<(), Refusal>
+    ensures read { refused_read result ≡ None }
     ensures pushed { OnOk result (positions.new.items ≡ positions.old.items ++ positions_in keys.now) }
-    ensures exact { AreAbove (ranks_in keys.now) → Upgrades (λ _. ⊤) result }
+    ensures exact { AreAbove (ranks_in keys.now) → Judges (λ _. ⊤) Never result }
 {
     let mut last = 0;
     for key in keys {
         if key.rank <= last {
-            return Err(UpgradeFault::Changed);
+            return Err(Refusal::Fault(fault));
         }
         last = key.rank;
         positions.push(key.position)?;
@@ -197,4 +208,18 @@ pub fn known_classes<P: Offsets>(
         });
     }
     Ok(classes_of(alloc, src, named)?)
+}
+
+/// Returns the ranks of the keys in `named`.
+pub fn known_ranks<P: Offsets>(
+    alloc: Global,
+    src: &mut P,
+    named: NamedKeys,
+) -> Result<KeyNumbers, Refusal>
+    requires { length named.marks.items ≡ (frame_in (P.means src.old)).objects }
+    ensures reads { OnlyReads (refused_read result) (P.means src.old) (P.means src.new) }
+    ensures exact { HonestlyIn (P.means src.old) (λ f F.
+        Judges (λ ranks. AreRanks f F named.marks.items ranks.table.items) Never result) }
+{
+    Ok(ranks_of(alloc, src, named)?)
 }

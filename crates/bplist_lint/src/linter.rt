@@ -1,30 +1,50 @@
-//! The linter: the passes over a file, in their order.
+//! The linter: the passes over a file, in their order. With classes the keys are only compared. With ranks, which are
+//! classes too, the certificate also gets key lists.
 
-ghost use Rattle.std.specs.Prelude.{◌≡◌, ◌↔◌, ℕ, ◌<◌, IsTrue, None, IfOk, IfSome, MatchOption, length, slice_index, vec_len, ⊤};
+ghost use Rattle.std.specs.Prelude.{◌≡◌, ◌↔◌, ℕ, ◌<◌, IsTrue, None, IfOk, IfSome, MatchOption, length, vec_len, ⊤};
 ghost use Rattle.bplist_lint.specs.Prelude.{OnlyReads, frame_in, Honestly, HonestlyIn, IsFrame, IsSafeFrame, Reach};
 ghost use Rattle.bplist_lint.specs.Prelude.{AreOffsets32, Judges, refused_read, refs_at, Value, FileHolds, Never};
-ghost use Rattle.bplist_lint.specs.Prelude.{HasShape, Head as head, IsMarked, AreLeast, AreChildless, IsReachedFault};
+ghost use Rattle.bplist_lint.specs.Prelude.{IsMarked, AreLeast, AreChildless, IsReachedFault, lists};
 ghost use Rattle.bplist_lint.specs.Prelude.{KeepReached, key_rules, HasRoomFor, IsWalked, AreNamed, IsFileFault};
 ghost use Rattle.bplist_lint.specs.Prelude.{IsFileCircle, Lints, lint_failed, no_circle, KeepsRules, IsLintedBy};
-ghost use Rattle.bplist_lint.specs.Prelude.{IsLinted, IsLintedWithKind, HasNoHeights, reach_rules, HonestlyBy, IsSound};
-ghost use Rattle.bplist_lint.specs.Prelude.{AreFound, IsNumbered};
+ghost use Rattle.bplist_lint.specs.Prelude.{IsLinted, IsLintedWith, HasNoHeights, reach_rules, IsSound, lint_of};
+ghost use Rattle.bplist_lint.specs.Prelude.{AreFound, IsNumbered, keys_for};
+ghost use Rattle.bplist_lint.specs.declared.linter.Keys.TheVariants.{Classes, Ranks};
 
 use crate::answer::{Lint, LintRefusal, ObjectNos};
 use crate::circle::circle;
 use crate::containers::quick_heights;
 use crate::graph::{ObjectGraph, View};
 use crate::heights::least_heights;
-use crate::key_rules::{check_numbers, known_classes};
+use crate::key_rules::{check_numbers, known_classes, known_ranks};
 use crate::reach::{Marked, mark_reached};
 use crate::tally::{Tally, check_reached};
+use crate::upgrader::list_by_ranks;
 use crate::walk::{Reached, walk};
 use bplist_cert::{Certificate, Refusal};
 use bplist_keys::{KeyNumbers, NamedKeys};
-use bplist_objects::{
-    Frame, Framed, Kind, Objects, Offsets, check_offsets, offsets_of, shape_of, trailer_of,
-};
+use bplist_objects::{Frame, Framed, Objects, Offsets, check_offsets, offsets_of, trailer_of};
 use bplist_octets::Source;
 use std::alloc::Global;
+
+/// How the linter numbers the texts that are keys.
+#[derive(Clone, Copy, Debug, PartialEq, Eq, Drop)]
+pub enum Keys {
+    /// By classes: keys of the same text have the same number. This finds repeated keys.
+    Classes,
+    /// By ranks: the numbers are also in the order of the texts. This takes longer, and gives the certificate its sorted
+    /// key lists.
+    Ranks,
+}
+
+impl Keys {
+    /// Returns the way of numbering for a certificate that is to have sorted key lists or not.
+    pub fn for_certificate(sorted: bool) -> Keys
+        ensures { result ≡ keys_for sorted }
+    {
+        if sorted { Keys::Ranks } else { Keys::Classes }
+    }
+}
 
 /// Returns the least height of each object that is reached and founded, and 0 for every other object. The reached
 /// objects must keep rules 14 to 22, `marks` must mark exactly them, and `childless` only objects without references.
@@ -54,7 +74,7 @@ fn find_heights<P: Offsets>(
 ///
 /// If the quick walk meets a fault, slower passes in the order of the objects' numbers find which fault is the first.
 /// Over an honest source they always find one. If they do not, all objects count as named.
-pub fn find_reached<P: Offsets>(alloc: Global, src: &mut P) -> Result<(Reached, NamedKeys), Refusal>
+fn find_reached<P: Offsets>(alloc: Global, src: &mut P) -> Result<(Reached, NamedKeys), Refusal>
     ensures reads { OnlyReads (refused_read result) (P.means src.old) (P.means src.new) }
     ensures fits { IfOk result (λ known. HasRoomFor (frame_in (P.means src.old)) known.0) }
     ensures all_named { IfOk result (λ known. length known.1.marks.items ≡ (frame_in (P.means src.old)).objects) }
@@ -81,45 +101,24 @@ pub fn find_reached<P: Offsets>(alloc: Global, src: &mut P) -> Result<(Reached, 
     ))
 }
 
-/// Returns the linter's yes with these heights, for reached objects of which this is the tally.
-fn yes(frame: &Frame, tally: &Tally, heights: Vec<u32>) -> Lint
-    requires { frame.now.top.0 < length heights.items }
-    ensures { result ≡ record {
-      certificate = record { heights = heights.items; keys = None };
-      reached = tally.now.reached;
-      height = slice_index heights.items frame.now.top.0;
-      references = tally.now.references;
-    } }
-{
-    let height = heights[frame.top.0 as usize];
-    Lint {
-        certificate: Certificate {
-            heights,
-            keys: None,
-        },
-        reached: tally.reached,
-        height,
-        references: tally.references,
-    }
-}
-
-/// Returns the linter's answer for a file whose reached objects keep rules 14 to 22 and 31.
+/// Returns the least heights of a file whose reached objects keep rules 14 to 22 and 31, or a circle.
 fn heights_or_circle<P: Offsets>(
     alloc: Global,
     src: &mut P,
     reached: Reached,
-) -> Result<Lint, LintRefusal>
+) -> Result<Vec<u32>, LintRefusal>
     requires fits { HasRoomFor (frame_in (P.means src.old)) reached }
     requires sifted { HonestlyIn (P.means src.old) (λ f F. KeepsRules f F reached) }
     ensures reads { OnlyReads (lint_failed result) (P.means src.old) (P.means src.new) }
-    ensures count { IfOk result (λ lint. length lint.certificate.heights ≡ (frame_in (P.means src.old)).objects) }
-    ensures exact { HonestlyIn (P.means src.old) (λ f F. Lints (IsLintedBy f F) Never (IsFileCircle f) result) }
+    ensures count { IfOk result (λ heights. length heights.items ≡ (frame_in (P.means src.old)).objects) }
+    ensures exact { HonestlyIn (P.means src.old) (λ f F.
+        Lints (λ heights. IsLintedBy f F (lint_of F (lists heights.items None) reached.tally)) Never (IsFileCircle f) result) }
 {
     let frame = src.frame();
     let Reached {
         marks,
         childless,
-        tally,
+        tally: _,
     } = reached;
     let heights = find_heights(alloc, src, &marks, &childless)?;
     drop((marks, childless));
@@ -128,12 +127,12 @@ fn heights_or_circle<P: Offsets>(
         let circle = circle(alloc, &mut objects, &heights, frame.top.0)?;
         return Err(LintRefusal::Circle(ObjectNos::new(circle)));
     }
-    Ok(yes(&frame, &tally, heights))
+    Ok(heights)
 }
 
 /// Checks the keys of the reached objects, which keep rules 14 to 20 and 31, by rules 21 and 22. The numbers of the keys
 /// are classes or ranks. Returns the numbers, and the heights too if the quick pass finds them.
-pub fn check_keys<P: Offsets>(
+fn check_keys<P: Offsets>(
     alloc: Global,
     src: &mut P,
     reached: &Reached,
@@ -162,64 +161,108 @@ pub fn check_keys<P: Offsets>(
     Ok((None, numbers))
 }
 
-/// Returns the linter's answer for a file whose reached objects keep rules 14 to 22 and 31. `heights` are the least
-/// heights, if the quick pass found them. Otherwise finds them, or a circle.
-pub fn finish<P: Offsets>(
+/// Returns the least heights of a file whose reached objects keep rules 14 to 22 and 31, or a circle. `heights` are the
+/// least heights, if the quick pass found them.
+fn finish<P: Offsets>(
     alloc: Global,
     src: &mut P,
     reached: Reached,
     heights: Option<Vec<u32>>,
-) -> Result<Lint, LintRefusal>
+) -> Result<Vec<u32>, LintRefusal>
     requires fits { HasRoomFor (frame_in (P.means src.old)) reached }
     requires all { IfSome heights (λ known. vec_len known ≡ (frame_in (P.means src.old)).objects) }
     requires sifted { HonestlyIn (P.means src.old) (λ f F. KeepsRules f F reached × IfSome heights (λ known. AreFound f F known.items)) }
     ensures reads { OnlyReads (lint_failed result) (P.means src.old) (P.means src.new) }
-    ensures count { IfOk result (λ lint. length lint.certificate.heights ≡ (frame_in (P.means src.old)).objects) }
-    ensures exact { HonestlyIn (P.means src.old)
-        (λ f F. Lints (IsLintedBy f F) (IsFileFault f) (IsFileCircle f) result) }
+    ensures count { IfOk result (λ known. length known.items ≡ (frame_in (P.means src.old)).objects) }
+    ensures exact { HonestlyIn (P.means src.old) (λ f F.
+        Lints (λ known. IsLintedBy f F (lint_of F (lists known.items None) reached.tally)) (IsFileFault f) (IsFileCircle f) result) }
 {
-    let frame = src.frame();
+    let _frame = src.frame();
     match heights {
-        Some(heights) => Ok(yes(&frame, &reached.tally, heights)),
+        Some(heights) => Ok(heights),
         None => heights_or_circle(alloc, src, reached),
     }
 }
 
-/// Returns the linter's answer for a file that was opened. First checks each reached object by itself, then the keys and
-/// heights.
+/// Returns the certificate of a file whose reached objects keep rules 14 to 20 and 31, or its first fault or circle.
 ///
-/// Gives the places up before it numbers the keys, if more than half of the objects are keys. With the places these passes would take more than
-/// 16 bytes an object.
-fn lint_opened<P: Offsets>(alloc: Global, src: &mut P) -> Result<Lint, LintRefusal>
+/// If more than half of the objects are keys, frees the places before it numbers the keys: otherwise memory passes 16
+/// bytes an object.
+fn certify_by_classes<P: Offsets>(
+    alloc: Global,
+    src: &mut P,
+    reached: Reached,
+    named: NamedKeys,
+) -> Result<Certificate, LintRefusal>
+    requires fits { HasRoomFor (frame_in (P.means src.old)) reached }
+    requires all_named { length named.marks.items ≡ (frame_in (P.means src.old)).objects }
+    requires walked { HonestlyIn (P.means src.old) (λ f F. IsWalked f F reached × AreNamed f F named.marks.items) }
     ensures reads { OnlyReads (lint_failed result) (P.means src.old) (P.means src.new) }
-    ensures count { IfOk result (λ lint. length lint.certificate.heights ≡ (frame_in (P.means src.old)).objects) }
-    ensures exact { HonestlyIn (P.means src.old)
-        (λ f F. Lints (IsLintedBy f F) (IsFileFault f) (IsFileCircle f) result) }
+    ensures count { IfOk result (λ made. length made.heights ≡ (frame_in (P.means src.old)).objects) }
+    ensures exact { HonestlyIn (P.means src.old) (λ f F.
+        Lints (λ made. IsLintedWith Classes f F made reached.tally) (IsFileFault f) (IsFileCircle f) result) }
 {
     let objects = src.frame().objects as usize;
-    let (reached, named) = find_reached(alloc, src)?; // rules 14 to 20 and 31
     if named.count() > objects / 2 {
         src.forget_places();
     }
     let classes = known_classes(alloc, src, named)?;
     let (heights, classes) = check_keys(alloc, src, &reached, classes)?; // rules 21 and 22
     drop(classes); // the exact heights need the room
-    finish(alloc, src, reached, heights) // rule 23
+    let heights = finish(alloc, src, reached, heights)?; // rule 23
+    Ok(Certificate {
+        heights,
+        keys: None,
+    })
 }
 
-/// Returns the kind of the top, if the top keeps rules 14 to 17.
-fn top_kind<S: Source>(src: &mut S, frame: &Frame) -> Result<Kind, Refusal>
-    requires { IsSafeFrame (length (S.means src.old).octets) frame.now }
-    ensures reads { OnlyReads (refused_read result) (S.means src.old) (S.means src.new) }
-    ensures exact { HonestlyBy (S.means src.old) frame.now (λ f F. (x : head) → HasShape f F F.top.0 x
-        → Judges (λ kind. kind ≡ x.kind) Never result) }
+/// Does what `certify_by_classes` does, over one numbering of the keys by ranks, from which it also makes the key lists
+/// of the certificate.
+fn certify_by_ranks<P: Offsets>(
+    alloc: Global,
+    src: &mut P,
+    reached: Reached,
+    named: NamedKeys,
+) -> Result<Certificate, LintRefusal>
+    requires fits { HasRoomFor (frame_in (P.means src.old)) reached }
+    requires all_named { length named.marks.items ≡ (frame_in (P.means src.old)).objects }
+    requires walked { HonestlyIn (P.means src.old) (λ f F. IsWalked f F reached × AreNamed f F named.marks.items) }
+    ensures reads { OnlyReads (lint_failed result) (P.means src.old) (P.means src.new) }
+    ensures count { IfOk result (λ made. length made.heights ≡ (frame_in (P.means src.old)).objects) }
+    ensures exact { HonestlyIn (P.means src.old) (λ f F.
+        Lints (λ made. IsLintedWith Ranks f F made reached.tally) (IsFileFault f) (IsFileCircle f) result) }
 {
-    let head = shape_of(src, frame, frame.top)?;
-    Ok(head.kind)
+    let _frame = src.frame();
+    let ranks = known_ranks(alloc, src, named)?;
+    let (heights, ranks) = check_keys(alloc, src, &reached, ranks)?; // rules 21 and 22
+    let heights = finish(alloc, src, reached, heights)?; // rule 23
+    Ok(list_by_ranks(alloc, src, heights, ranks)?)
+}
+
+/// Returns the certificate of a file that was opened, and the tally of its reached objects, or its first fault or
+/// circle. First checks each reached object by itself, then the keys and heights.
+fn lint_opened<P: Offsets>(
+    alloc: Global,
+    src: &mut P,
+    keys: Keys,
+) -> Result<(Certificate, Tally), LintRefusal>
+    ensures reads { OnlyReads (lint_failed result) (P.means src.old) (P.means src.new) }
+    ensures count { IfOk result (λ known. length known.0.heights ≡ (frame_in (P.means src.old)).objects) }
+    ensures exact { HonestlyIn (P.means src.old) (λ f F.
+        Lints (λ known. IsLintedWith keys f F known.0 known.1) (IsFileFault f) (IsFileCircle f) result) }
+{
+    let _frame = src.frame();
+    let (reached, named) = find_reached(alloc, src)?; // rules 14 to 20 and 31
+    let tally = reached.tally;
+    let certificate = match keys {
+        Keys::Classes => certify_by_classes(alloc, src, reached, named)?,
+        Keys::Ranks => certify_by_ranks(alloc, src, reached, named)?,
+    };
+    Ok((certificate, tally))
 }
 
 /// Returns the frame of a file and the places of its objects, or the first broken rule of 1 to 13.
-pub fn read_places<S: Source>(alloc: Global, src: &mut S) -> Result<(Frame, Vec<u32>), Refusal>
+fn read_places<S: Source>(alloc: Global, src: &mut S) -> Result<(Frame, Vec<u32>), Refusal>
     ensures reads { OnlyReads (refused_read result) (S.means src.old) (S.means src.new) }
     ensures safe { IfOk result (λ known. IsSafeFrame (length (S.means src.old).octets) known.0) }
     ensures all { IfOk result (λ known. length known.1.items ≡ known.0.objects) }
@@ -232,32 +275,37 @@ pub fn read_places<S: Source>(alloc: Global, src: &mut S) -> Result<(Frame, Vec<
     Ok((frame, places))
 }
 
-/// Returns the linter's answer for a file, and its frame. Over any source, honest or not, the frame fits it and the
-/// certificate has one height for each object.
-pub fn lint_file<S: Source>(alloc: Global, src: &mut S) -> Result<(Lint, Frame), LintRefusal>
+/// Returns the certificate of a file, the tally of its reached objects, and its frame, or its first fault or circle. Over
+/// any source, honest or not, the frame fits it and the certificate has one height for each object.
+pub fn lint_file<S: Source>(
+    alloc: Global,
+    src: &mut S,
+    keys: Keys,
+) -> Result<(Certificate, Tally, Frame), LintRefusal>
     ensures reads { OnlyReads (lint_failed result) (S.means src.old) (S.means src.new) }
-    ensures safe { IfOk result (λ known. IsSafeFrame (length (S.means src.old).octets) known.1) }
-    ensures count { IfOk result (λ known. length known.0.certificate.heights ≡ known.1.objects) }
-    ensures exact { Honestly (S.means src.old)
-        (λ f. Lints (λ known. IsLintedBy f known.1 known.0) (IsFileFault f) (IsFileCircle f) result) }
+    ensures safe { IfOk result (λ known. IsSafeFrame (length (S.means src.old).octets) known.2) }
+    ensures count { IfOk result (λ known. length known.0.heights ≡ known.2.objects) }
+    ensures exact { Honestly (S.means src.old) (λ f.
+        Lints (λ known. IsLintedWith keys f known.2 known.0 known.1) (IsFileFault f) (IsFileCircle f) result) }
 {
     let (frame, mut places) = read_places(alloc, src)?; // rules 1 to 13
     let mut file = Objects::new(src, frame, &mut places);
-    let lint = lint_opened(alloc, &mut file)?;
-    Ok((lint, frame))
+    let (certificate, tally) = lint_opened(alloc, &mut file, keys)?;
+    Ok((certificate, tally, frame))
 }
 
-/// The same as `lint`, with the kind of the top, so that no caller has to read it again.
-pub fn lint_with_kind<S: Source>(alloc: Global, src: &mut S) -> Result<(Lint, Kind), LintRefusal>
-    ensures reads { OnlyReads (lint_failed result) (S.means src.old) (S.means src.new) }
-    ensures exact { IsTrue (S.means src.old).honest
-        → Lints (λ answer. IsLintedWithKind (S.means src.old).octets answer.0 answer.1)
-        (IsFileFault (S.means src.old).octets) (IsFileCircle (S.means src.old).octets) result }
-    ensures sound { Honestly (S.means src.old) (λ f. IfOk result (λ _. ∥ IsSound f ∥₁)) }
+/// Returns the linter's yes with this certificate, for reached objects of which this is the tally.
+fn yes(frame: &Frame, tally: &Tally, certificate: Certificate) -> Lint
+    requires { frame.now.top.0 < length certificate.heights }
+    ensures { result ≡ lint_of frame.now certificate tally.now }
 {
-    let (lint, frame) = lint_file(alloc, src)?;
-    let kind = top_kind(src, &frame)?;
-    Ok((lint, kind))
+    let height = certificate.heights[frame.top.0 as usize];
+    Lint {
+        certificate,
+        reached: tally.reached,
+        height,
+        references: tally.references,
+    }
 }
 
 /// Decides whether a file holds a value. Returns the certificate of the least heights, or else the first fault of the
@@ -269,7 +317,7 @@ pub fn lint_with_kind<S: Source>(alloc: Global, src: &mut S) -> Result<(Lint, Ki
 /// failed; `Memory` if an allocation was refused. After an error the source is as before, except for what it
 /// says of failed reads. Over a source that is not honest, any answer may come.
 ///
-/// The reads alternate between a few places. To read a file, put `Panes` around it.
+/// The reads alternate between a few places. To read a file, put `Pages` around it.
 pub fn lint<S: Source>(alloc: Global, src: &mut S) -> Result<Lint, LintRefusal>
     ensures reads { OnlyReads (lint_failed result) (S.means src.old) (S.means src.new) }
     ensures exact { IsTrue (S.means src.old).honest
@@ -281,6 +329,6 @@ pub fn lint<S: Source>(alloc: Global, src: &mut S) -> Result<Lint, LintRefusal>
     ensures never { IsTrue (S.means src.old).honest → (v : Value) → FileHolds (S.means src.old).octets v
         → Lints (λ _. ⊤) Never no_circle result }
 {
-    let (lint, _frame) = lint_file(alloc, src)?;
-    Ok(lint)
+    let (certificate, tally, frame) = lint_file(alloc, src, Keys::Classes)?;
+    Ok(yes(&frame, &tally, certificate))
 }

@@ -3,29 +3,29 @@
 ghost use Rattle.std.specs.Prelude.{◌≡◌, ◌+◌, ◌≤◌, ◌<◌, ℕ, Bool, List, set, length, IsTrue, IfOk, vec_len};
 ghost use Rattle.bplist_lint.specs.Prelude.{OnlyReads, frame_in, HonestlyIn, AreRanks, IsVouchedBy, IsValid};
 ghost use Rattle.bplist_lint.specs.Prelude.{HasNamedKeys, Listed, IsUpgraded, RankKeys, Upgrades, upgrade_failed};
+ghost use Rattle.bplist_lint.specs.Prelude.{Judges, Never, refused_read};
 
 use crate::answer::UpgradeFault;
-use crate::graph::shape_there;
-use crate::key_rules::KeySorting;
-use bplist_cert::{Certificate, Checked, KeyLists, vouched_keys};
+use crate::key_rules::{KeySorting, unlisted};
+use bplist_cert::{Certificate, Checked, KeyLists, Refusal, vouched_keys};
 use bplist_keys::{KeyNumbers, ranks_of};
-use bplist_objects::{Framed, Kind, Objects, Offsets, object_kind, offsets_of};
+use bplist_objects::{Framed, Kind, Objects, Offsets, object_kind, object_shape, offsets_of};
 use bplist_octets::Source;
 use std::alloc::Global;
 
 /// Appends the key list of vouched object `n`, if it is a dictionary. Returns the start of the list, or 0 for any other
 /// object.
-fn list_object<P: Offsets>(src: &mut P, n: u32, lists: &mut KeySorting) -> Result<u32, UpgradeFault>
+fn list_object<P: Offsets>(src: &mut P, n: u32, lists: &mut KeySorting) -> Result<u32, Refusal>
     requires within { n < (frame_in (P.means src.old)).objects }
     requires few { vec_len lists.old.positions ≤ 4294967295 }
-    ensures reads { OnlyReads (upgrade_failed result) (P.means src.old) (P.means src.new) }
+    ensures reads { OnlyReads (refused_read result) (P.means src.old) (P.means src.new) }
     ensures same { lists.new.ranks.table.items ≡ lists.old.ranks.table.items }
     ensures few { IfOk result (λ _. vec_len lists.new.positions ≤ 4294967295) }
     ensures exact { HonestlyIn (P.means src.old) (λ f F. (named : List Bool) (heights starts : List ℕ)
         → AreRanks f F named lists.old.ranks.table.items → HasNamedKeys f F named n
         → IsValid f F heights → IsVouchedBy heights n → n < length starts
         → Listed f F heights n starts lists.old.positions.items
-        → Upgrades (λ start. Listed f F heights (n + 1) (set starts n start) lists.new.positions.items) result) }
+        → Judges (λ start. Listed f F heights (n + 1) (set starts n start) lists.new.positions.items) Never result) }
 {
     let _frame = src.frame();
     // The marker alone says of most objects that they are no dictionary.
@@ -35,16 +35,14 @@ fn list_object<P: Offsets>(src: &mut P, n: u32, lists: &mut KeySorting) -> Resul
     if kind != Kind::Dict {
         return Ok(0);
     }
-    let Some(head) = shape_there(src, n)? else {
-        return Err(UpgradeFault::Changed);
-    };
+    let head = object_shape(src, n)?;
     match head.kind {
         Kind::Dict => {
             let start = lists.positions.len() as u32;
             if head.count > (u32::MAX - start) as u64 {
-                return Err(UpgradeFault::Changed);
+                return Err(Refusal::Fault(unlisted(n, &head)));
             }
-            lists.list(src, &head)?;
+            lists.list(src, n, &head)?;
             Ok(start)
         }
         _ => Ok(0),
@@ -58,13 +56,13 @@ pub fn list_by_ranks<P: Offsets>(
     src: &mut P,
     heights: Vec<u32>,
     ranks: KeyNumbers,
-) -> Result<Certificate, UpgradeFault>
+) -> Result<Certificate, Refusal>
     requires { length heights.items ≡ (frame_in (P.means src.old)).objects }
-    ensures reads { OnlyReads (upgrade_failed result) (P.means src.old) (P.means src.new) }
+    ensures reads { OnlyReads (refused_read result) (P.means src.old) (P.means src.new) }
     ensures heights { IfOk result (λ certificate. certificate.heights ≡ heights.items) }
     ensures exact { HonestlyIn (P.means src.old) (λ f F. IsValid f F heights.items
         → RankKeys f F (IsVouchedBy heights.items) ranks.table.items
-        → Upgrades (IsUpgraded f F heights.items) result) }
+        → Judges (IsUpgraded f F heights.items) Never result) }
 {
     let frame = src.frame();
     let mut starts = vec![in alloc; 0; frame.objects as usize]?;
@@ -95,7 +93,7 @@ fn list_vouched<P: Offsets>(
 {
     let named = vouched_keys(alloc, src, &heights)?;
     let ranks = ranks_of(alloc, src, named)?;
-    list_by_ranks(alloc, src, heights, ranks)
+    Ok(list_by_ranks(alloc, src, heights, ranks)?)
 }
 
 /// Returns a certificate of version 2 for a checked file: its heights, and the key lists of the vouched dictionaries,

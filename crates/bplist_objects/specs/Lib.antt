@@ -20,6 +20,7 @@ pub mod CountFaults
 pub mod Kinds
 pub mod Units
 pub mod Words
+pub mod FaultLines
 pub mod Spelled
 pub mod SmallFiles
 pub mod Framed

@@ -1,9 +1,8 @@
 -- The names that the contracts of this crate use, gathered from other files. Declares nothing.
 pub use Rattle.std.specs.Ordering.{ordering_reverse}
 pub use Rattle.std.specs.declared.cmp.Ordering.TheVariants.{Less, Equal}
-pub use Rattle.bplist_octets.specs.Meaning.{Honestly, OnlyReads, last_count}
+pub use Rattle.bplist_octets.specs.Meaning.{Honestly, OnlyReads, borrowed, last_count}
 pub use Rattle.bplist_octets.specs.Octets.{num, part}
-pub use Rattle.bplist_octets.specs.Panes.{borrowed}
 pub use Rattle.bplist_objects.specs.Announced.{HasHead, IsFront, IsMarker, MayCount, item_size}
 pub use Rattle.bplist_objects.specs.Answers.{Gives, Never, read_failed}
 pub use Rattle.bplist_objects.specs.CountFaults.{IsLongCountFault}
@@ -28,7 +27,7 @@ pub use Rattle.bplist_objects.specs.Trailer.{frame_of_trailer}
 pub use Rattle.bplist_objects.specs.Units.{IsTextKind, compare_units, units_of}
 pub use Rattle.bplist_objects.specs.Value.{Value, array, boolean, bytes, date, dict, int, no_pairs, no_values, pair, real, text, uid, value}
 pub use Rattle.bplist_objects.specs.Visits.{IsSafeVisit, IsVisited, size_said}
-pub use Rattle.bplist_objects.specs.Words.{number_of, word_of}
+pub use Rattle.bplist_objects.specs.Words.{kind_word, number_of, word_of}
 pub use Rattle.bplist_objects.specs.declared.fault.ObjectFault.TheVariants.{Fault, Read}
 pub use Rattle.bplist_objects.specs.declared.frame.Frame.{Frame}
 pub use Rattle.bplist_objects.specs.declared.frame.ObjectNo.{ObjectNo}

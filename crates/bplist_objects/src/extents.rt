@@ -8,7 +8,8 @@ use crate::fault::Fault;
 use crate::frame::ObjectNo;
 use crate::rule::Rule;
 
-/// The bytes that objects take together, each from its marker to its end. An object inside another one counts by itself.
+/// The bytes that objects take together, each from its marker to its end. An object inside another one counts by
+/// itself.
 #[derive(Clone, Copy, Debug, PartialEq, Eq, Drop)]
 pub struct Extents {
     /// The number of bytes.
@@ -23,9 +24,9 @@ impl Extents {
         Extents { octets: 0 }
     }
 
-    /// Adds the bytes of object `n`, from `place` to `end`, in a file whose offset table begins at `table`. If the objects
-    /// then take more bytes than there are between header and offset table, the object breaks rule 31, and this is the
-    /// fault.
+    /// Adds the bytes of object `n`, from `place` to `end`, in a file whose offset table begins at `table`. If the
+    /// objects then take more bytes than there are between header and offset table, the object breaks rule 31, and this
+    /// is the fault.
     #[inline(always)]
     pub fn with(self, table: u64, n: ObjectNo, place: u64, end: u64) -> Result<Extents, Fault>
         requires table { 8 ≤ table }

@@ -4,6 +4,8 @@
 //! read or refused memory, and says nothing about the file.
 
 ghost use Rattle.std.specs.Prelude.{◌≡◌, Some};
+ghost use Rattle.bplist_octets.specs.FaultLines.{read_line};
+ghost use Rattle.bplist_objects.specs.FaultLines.{fault_line, memory_line};
 ghost use Rattle.bplist_objects.specs.Prelude.{Fault as is_fault, Read};
 ghost use Rattle.bplist_objects.specs.declared.fault.Failure.TheVariants as failed;
 
@@ -11,6 +13,8 @@ use crate::frame::ObjectNo;
 use crate::rule::Rule;
 use bplist_octets::ReadFault;
 use std::alloc::{AllocError, AllocFailed};
+use std::error::Error;
+use std::fmt;
 
 /// A broken rule, with the object and the place at which it is broken.
 #[derive(Clone, Copy, Debug, PartialEq, Eq, Drop)]
@@ -24,6 +28,20 @@ pub struct Fault {
     pub place: u64,
 }
 
+impl fmt::Display for Fault {
+    ghost output = { λ fault. Some (fault_line fault) };
+
+    fn fmt<W: fmt::Write>(&self, f: &mut fmt::Formatter<W>) -> fmt::Result {
+        let (rule, place) = (self.rule, self.place);
+        match self.object {
+            Some(object) => write!(f, "fault {rule} object {object} place {place}"),
+            None => write!(f, "fault {rule} object none place {place}"),
+        }
+    }
+}
+
+impl Error for Fault {}
+
 /// Why a call failed: a broken rule or a failed read.
 #[derive(Clone, Copy, Debug, PartialEq, Eq, Drop)]
 pub enum ObjectFault {
@@ -32,6 +50,19 @@ pub enum ObjectFault {
     /// A read of the source failed. This says nothing about the file.
     Read(ReadFault),
 }
+
+impl fmt::Display for ObjectFault {
+    ghost output = { λ fault. Some (elim fault [ is_fault broken ↦ fault_line broken | Read error ↦ read_line error ]) };
+
+    fn fmt<W: fmt::Write>(&self, f: &mut fmt::Formatter<W>) -> fmt::Result {
+        match self {
+            ObjectFault::Fault(fault) => write!(f, "{fault}"),
+            ObjectFault::Read(error) => write!(f, "{error}"),
+        }
+    }
+}
+
+impl Error for ObjectFault {}
 
 impl From<ReadFault> for ObjectFault {
     ghost from_gives = { λ error e. e ≡ Read error };
@@ -58,6 +89,20 @@ pub enum Failure {
     Memory,
 }
 
+impl fmt::Display for Failure {
+    ghost output = { λ failure.
+        Some (elim failure [ failed.Read error ↦ read_line error | failed.Memory ↦ memory_line ]) };
+
+    fn fmt<W: fmt::Write>(&self, f: &mut fmt::Formatter<W>) -> fmt::Result {
+        match self {
+            Failure::Read(error) => write!(f, "{error}"),
+            Failure::Memory => f.write_str("memory"),
+        }
+    }
+}
+
+impl Error for Failure {}
+
 impl From<ReadFault> for Failure {
     ghost from_gives = { λ error e. e ≡ failed.Read error };
 
@@ -82,7 +127,6 @@ impl From<AllocError> for Failure {
     }
 }
 
-/// Returns the error that object `n` breaks this rule at this place.
 pub(crate) fn broken(rule: Rule, n: ObjectNo, place: u64) -> ObjectFault
     ensures { result ≡ is_fault (record { rule = rule; object = Some n; place = place }) }
 {

@@ -1,6 +1,7 @@
 //! The frame of a file (the five numbers of its trailer), by rules 1 to 13.
 
-ghost use Rattle.std.specs.Prelude.{◌≡◌, ℕ, ◌^◌, ◌≤◌, ◌<◌, List, length, IfOk, MatchResult};
+ghost use Rattle.std.specs.Prelude.{◌≡◌, ℕ, ◌^◌, ◌≤◌, ◌<◌, List, length, IfOk, MatchResult, Some};
+ghost use Rattle.std.specs.Fmt.{decimal};
 ghost use Rattle.std.specs.Result.{result_err};
 ghost use Rattle.bplist_objects.specs.Prelude.{OnlyReads, Honestly, trailer as spelled, Keeps, IsFrame, number_rules};
 ghost use Rattle.bplist_objects.specs.Prelude.{trailer_rules, KeepsAll, IsFirstFault, Breaks, IsFrameFault};
@@ -11,10 +12,20 @@ use crate::fault::{Fault, ObjectFault};
 use crate::offsets::{first_high_entry, high_entry};
 use crate::rule::Rule;
 use bplist_octets::{ReadFault, Source, sized};
+use std::fmt;
 
 /// The number of an object, from 0: the index of its entry in the offset table.
 #[derive(Clone, Copy, Debug, PartialEq, Eq, Drop)]
 pub struct ObjectNo(pub u32);
+
+impl fmt::Display for ObjectNo {
+    ghost output = { λ n. Some (decimal n.0) };
+
+    fn fmt<W: fmt::Write>(&self, f: &mut fmt::Formatter<W>) -> fmt::Result {
+        let number = self.0;
+        write!(f, "{number}")
+    }
+}
 
 /// The five numbers of a file's trailer.
 #[derive(Clone, Copy, Debug, PartialEq, Eq, Drop)]
@@ -53,7 +64,6 @@ fn fault_at(rule: Rule, place: u64) -> Fault
     }
 }
 
-/// Checks the first eight bytes by rule 3.
 fn check_header<S: Source>(src: &mut S) -> Result<(), ObjectFault>
     requires { 8 ≤ length (S.means src.old).octets }
     ensures reads { OnlyReads (read_failed result) (S.means src.old) (S.means src.new) }
@@ -125,7 +135,6 @@ fn frame_by(trailer: &Trailer, len: u64) -> Result<Frame, Fault>
     })
 }
 
-/// Returns the numbers of the trailer of a source of `len` bytes.
 #[inline(always)]
 fn read_trailer<S: Source>(src: &mut S, len: u64) -> Result<Trailer, ReadFault>
     requires all { len ≡ length (S.means src.old).octets }

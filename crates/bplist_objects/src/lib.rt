@@ -63,7 +63,7 @@ pub use extents::Extents;
 pub use fault::{Failure, Fault, ObjectFault};
 pub use frame::{Frame, ObjectNo, frame_of, trailer_of};
 pub use framed::{Framed, head_in, read_offsets_in, read_refs_in, ref_place, shape_in};
-pub use head::{Head, Kind, shape_at, shape_of};
+pub use head::{Head, Kind, kind_name, shape_at, shape_of};
 pub use laws::{
     fault_excludes, founded_has_no_circle, keeps_iff_frame, keeps_iff_spells, kept_iff_head,
     kept_is_not_broken, kept_or_fault, one_announced_head, one_first_fault, one_head, one_shape,

@@ -6,7 +6,6 @@ ghost use Rattle.bplist_objects.specs.Prelude.{MarkersCount, size_said};
 
 use crate::head::Kind;
 
-/// Returns the kind of object that begins with this marker, or None if it is no marker.
 #[tactic(auto, using(crate::proofs::HeadLaws::marker_marks))]
 pub(crate) fn kind_of(marker: u8) -> Option<Kind>
     ensures { MatchOption result (IsMarker marker → ⊥) (Marks marker) }
@@ -33,7 +32,6 @@ pub(crate) fn kind_of(marker: u8) -> Option<Kind>
     }
 }
 
-/// Returns the number of body bytes for each item of the count.
 #[inline(always)]
 pub(crate) fn item_size(kind: Kind, ref_size: u8) -> u8
     requires { ref_size ≤ 8 }

@@ -106,8 +106,8 @@ impl RefBlocks {
         }
     }
 
-    /// Reads the next block. Returns false if there are no more references. After a failed read the same block is next, and
-    /// `block` may lend anything.
+    /// Reads the next block. Returns false if there are no more references. After a failed read the same block is next,
+    /// and `block` may lend anything.
     #[inline(always)]
     pub fn read<P: Framed>(&mut self, src: &mut P) -> Result<bool, ReadFault>
         requires { IsSafeHead (frame_in (P.means src.old)) self.old.head }

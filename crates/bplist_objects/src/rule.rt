@@ -1,7 +1,9 @@
 //! Rules 1 to 32 of files, certificates and path texts, with their words and numbers.
 
-ghost use Rattle.std.specs.Prelude.{◌≡◌, ◌⊎◌, ◌<◌, MatchOption};
+ghost use Rattle.std.specs.Prelude.{◌≡◌, ◌⊎◌, ◌<◌, MatchOption, Some};
 ghost use Rattle.bplist_objects.specs.Prelude.{number_of, word_of};
+
+use std::fmt;
 
 /// A rule of a file, a certificate or a path text. The number of a variant is the number of the rule. Its line repeats
 /// the number, and says when the rule is broken.
@@ -76,6 +78,14 @@ pub enum Rule {
 
 // Each variant is one more than the one before, so the last number shows that none is missing.
 const _: () = prove!(Rule::KeyOrder as u8 == 32);
+
+impl fmt::Display for Rule {
+    ghost output = { λ rule. Some (word_of rule) };
+
+    fn fmt<W: fmt::Write>(&self, f: &mut fmt::Formatter<W>) -> fmt::Result {
+        f.write_str(rule_name(*self))
+    }
+}
 
 /// Returns the rule's word, as faults are printed: the name of its variant.
 pub fn rule_name(rule: Rule) -> &'static str

@@ -52,7 +52,7 @@ take-put_mid_part a k n xs ys within fits =
     ∙ ap (λ l. take a xs ++ l) (slice_range-put_mid a k n xs ys within fits)
 
 -- two parts, one behind the other
-part_joined : (xs : List ℕ) (place a n : ℕ) → part xs place a ++ part xs (place + a) n ≡ part xs place (a + n)
+pub part_joined : (xs : List ℕ) (place a n : ℕ) → part xs place a ++ part xs (place + a) n ≡ part xs place (a + n)
 part_joined xs place a n =
     ap (λ l. part xs place a ++ take n l) (sym (drop-drop a place xs)) ∙ sym (take-add a n (drop place xs))
 

@@ -1,13 +1,27 @@
--- The bytes in a pane.
-use Rattle.std.proofs.Common.{◌≡◌, ℕ, ◌+◌, ◌≤◌, Bool, List, sym, ap, ◌∙◌, IsTrue}
+-- The bytes in a page.
+use Rattle.std.proofs.Common.{◌≡◌, ℕ, ◌+◌, ◌≤◌, Bool, List, ◌++◌, vec_len, take, drop, le_refl, sym, ap, ◌∙◌, subst, IsTrue}
+use Rattle.std.proofs.lemmas.List.{take-take}
 use Rattle.bplist_octets.specs.Octets.{part}
-use Rattle.bplist_octets.proofs.Parts.{range_is_part, window_part}
-use Rattle.bplist_octets.specs.declared.panes.Pane.{Pane}
-use Rattle.bplist_octets.specs.Panes.{IsPane}
+use Rattle.bplist_octets.specs.Meaning.{Meaning}
+use Rattle.bplist_octets.specs.Pages.{IsPage}
+use Rattle.bplist_octets.specs.declared.pages.Page.{Page}
+use Rattle.bplist_octets.proofs.Parts.{part_joined, range_is_part, window_part}
 
--- a part of a pane's bytes is that part of the source's bytes
-pub pane_part : (f : List ℕ) (honest : Bool) (pane : Pane) (at from n : ℕ) → IsPane f honest pane → pane.start + from ≡ at → from + n ≤ pane.filled → IsTrue honest → part pane.octets from n ≡ part f at n
-pane_part f honest pane at from n is same inside is_honest =
-    sym (range_is_part pane.octets from n)
-    ∙ window_part pane.octets f pane.start pane.filled from n (is.holds is_honest) inside
+-- a part of a page's bytes is that part of the source's bytes
+pub page_part : (f : List ℕ) (honest : Bool) (page : Page) (at from n : ℕ) → IsPage f honest page → page.start + from ≡ at → from + n ≤ vec_len page.octets → IsTrue honest → part page.octets.items from n ≡ part f at n
+page_part f honest page at from n is same inside is_honest =
+    let filled = vec_len page.octets in
+    let all : take filled page.octets.items ≡ part f page.start filled =
+    ap (take filled) (is.holds is_honest) ∙ take-take filled filled (drop page.start f) (le_refl filled) in
+    sym (range_is_part page.octets.items from n)
+    ∙ window_part page.octets.items f page.start filled from n all inside
     ∙ ap (λ k. part f k n) same
+
+-- two reads, one behind the other
+pub joined_reads : (old mid : Meaning) (xs ys : List ℕ) (at n j m k : ℕ) → mid ≡ old → j ≡ n → (IsTrue old.honest → xs ≡ part old.octets at n) → (IsTrue mid.honest → ys ≡ part mid.octets (at + j) m) → k ≡ n + m → IsTrue old.honest → xs ++ ys ≡ part old.octets at k
+joined_reads old mid xs ys at n j m k same is first second total honest =
+    let behind : ys ≡ part old.octets (at + j) m = subst (λ s. IsTrue s.honest → ys ≡ part s.octets (at + j) m) same second honest in
+    ap (λ l. l ++ ys) (first honest)
+    ∙ ap (λ l. part old.octets at n ++ l) (behind ∙ ap (λ i. part old.octets (at + i) m) is)
+    ∙ part_joined old.octets at n m
+    ∙ ap (part old.octets at) (sym total)

@@ -2,5 +2,6 @@ pub mod Octets
 pub mod Meaning
 pub mod Slices
 pub mod Streams
-pub mod Panes
+pub mod Pages
 pub mod Sending
+pub mod FaultLines

@@ -1,5 +1,5 @@
 -- What a source of bytes means, and what reads may change of it. Source of these definitions: profile.
-use Rattle.std.specs.Prelude.{◌≡◌, ℕ, ◌-◌, ◌^◌, ◌≤◌, Bool, IsTrue, List, Option, None, Some}
+use Rattle.std.specs.Prelude.{◌≡◌, ℕ, ◌-◌, ◌^◌, ◌≤◌, ◌∷◌, [], Bool, IsTrue, List, Option, None, Some}
 use Rattle.bplist_octets.specs.declared.source.ReadFault.{ReadFault}
 
 -- the bytes, whether successful reads return them, how many reads have failed, the fault of the last one that failed,
@@ -31,3 +31,7 @@ OnlyReads (Some fault) old new = ReadFailed fault old new
 -- if the source is honest, P holds of its bytes
 abbrev pub Honestly : Meaning → (List ℕ → Type 0) → Type 0
 Honestly m P = IsTrue m.honest → P m.octets
+
+-- the meaning of a source that is read through the borrow with this ghost name
+abbrev pub borrowed : ℕ → Meaning → Meaning
+borrowed through m = record { octets = m.octets; honest = m.honest; failures = m.failures; last = m.last; extra = (through ∷ []) ∷ m.extra }

@@ -1,11 +1,14 @@
 //! A buffer in front of a writer, which counts what was written.
 
 ghost use Rattle.std.specs.Prelude.{◌≡◌, ◌+◌, ◌-◌, ◌^◌, ◌<◌, ◌≤◌, ◌↔◌, [], ◌++◌, length, take, MatchResult, OnOk, IfOk};
-ghost use Rattle.std.specs.Prelude.{IfErr, IsOk, IsTrue};
+ghost use Rattle.std.specs.Prelude.{IfErr, IsOk, IsTrue, Some};
 ghost use Rattle.std.specs.Io.KnownBytes.{Appends};
 ghost use Rattle.std.specs.IoError.{error_kind};
+ghost use Rattle.bplist_octets.specs.FaultLines.{write_line};
 ghost use Rattle.bplist_octets.specs.Sending.{Sending, SendsPart, Takes};
 
+use std::error::Error;
+use std::fmt;
 use std::io::{self, ErrorKind, Write};
 use std::marker::Model;
 
@@ -22,6 +25,17 @@ pub struct WriteFault {
     pub sent: u64,
 }
 
+impl fmt::Display for WriteFault {
+    ghost output = { λ fault. Some (write_line fault.sent) };
+
+    fn fmt<W: fmt::Write>(&self, f: &mut fmt::Formatter<W>) -> fmt::Result {
+        let sent = self.sent;
+        write!(f, "write {sent}")
+    }
+}
+
+impl Error for WriteFault {}
+
 /// Counts the bytes that were written, and the interrupted writes that were repeated.
 #[derive(Drop)]
 struct Sender {
@@ -32,7 +46,6 @@ struct Sender {
 }
 
 impl Sender {
-    /// Writes all of the bytes.
     fn send<W: Write>(&mut self, out: &mut W, bytes: &[u8]) -> Result<(), WriteFault>
         requires { self.old.sent + length bytes.now < 2 ^ 64 }
         ensures appended { OnOk result (Appends (W.contents out.old) (W.contents out.new) bytes.now) }
@@ -160,7 +173,6 @@ impl Sink {
         self.sender.send(out, &self.buffer[..used])
     }
 
-    /// Returns true if the count of all bytes does not overflow.
     fn can_count(&self, bytes: &[u8]) -> bool
         ensures { IsTrue result ↔ (self.now.sent + length self.now.held + length bytes.now < 2 ^ 64) }
     {
@@ -173,7 +185,6 @@ impl Sink {
         bytes.len() <= BUFFERED - self.used
     }
 
-    /// Copies bytes to the buffer.
     fn hold(&mut self, bytes: &[u8])
         requires room { length self.old.held + length bytes.now ≤ 4096 }
         requires counted { self.old.sent + length self.old.held + length bytes.now < 2 ^ 64 }

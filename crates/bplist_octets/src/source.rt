@@ -3,11 +3,15 @@
 //! All readers of the crate and of its callers take any [`Source`]. A [`SliceSource`] is the simplest one: its bytes
 //! are in memory, so its reads never fail, and it can also lend bytes without a copy.
 
-ghost use Rattle.std.specs.Prelude.{◌≡◌, ℕ, ◌+◌, ◌≤◌, length, IsTrue, OnOk};
+ghost use Rattle.std.specs.Prelude.{◌≡◌, ℕ, ◌+◌, ◌≤◌, length, IsTrue, OnOk, Some};
 ghost use Rattle.std.specs.Result.{result_err};
+ghost use Rattle.bplist_octets.specs.FaultLines.{read_line};
 ghost use Rattle.bplist_octets.specs.Octets.{part};
 ghost use Rattle.bplist_octets.specs.Meaning.{Meaning, OnlyReads};
 ghost use Rattle.bplist_octets.specs.Slices.{StandsAt, source_over};
+
+use std::error::Error;
+use std::fmt;
 
 /// Why a read failed.
 #[derive(Clone, Copy, Debug, PartialEq, Eq, Drop)]
@@ -19,6 +23,20 @@ pub enum ReadFault {
     /// The buffer was not full after the allowed number of reads.
     TooManyTurns,
 }
+
+impl fmt::Display for ReadFault {
+    ghost output = { λ fault. Some (read_line fault) };
+
+    fn fmt<W: fmt::Write>(&self, f: &mut fmt::Formatter<W>) -> fmt::Result {
+        match self {
+            ReadFault::Device => f.write_str("read Device"),
+            ReadFault::Ended => f.write_str("read Ended"),
+            ReadFault::TooManyTurns => f.write_str("read TooManyTurns"),
+        }
+    }
+}
+
+impl Error for ReadFault {}
 
 /// Bytes that are read by place.
 ///
@@ -32,9 +50,9 @@ pub trait Source {
     /// The bytes, the honesty, the count of failed reads and the fault of the last one.
     ghost means: { Self → Meaning };
 
-    /// A count of what it was asked for: no read raises it by more than the length of its buffer. A source that does not
-    /// count says 0. A source over another source hands on the count of that one, and one with a buffer the count in
-    /// blocks of its buffer.
+    /// A count of what it was asked for: no read raises it by more than the length of its buffer. A source that does
+    /// not count says 0. A source over another source hands on the count of that one, and one with a buffer the count
+    /// in blocks of its buffer.
     ghost asked: { Self → ℕ };
 
     /// The number of bytes.

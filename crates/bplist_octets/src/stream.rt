@@ -12,8 +12,8 @@ use std::io::{self, AsBytes, Cursor, Read, Seek, SeekFrom};
 /// A contract may know the bytes of a stream, as it does for a `Cursor` over a slice. They never change, and a read
 /// gives those at the position. Of a `File` no contract knows what a read gives, so nothing is said of its bytes.
 ///
-/// The trait takes the place of std's `Read` and `Seek`, whose contracts do not say that a read leaves the bytes as they
-/// are.
+/// The trait takes the place of std's `Read` and `Seek`, whose contracts do not say that a read leaves the bytes as
+/// they are.
 pub trait Stream {
     /// All bytes of the stream, where they are known.
     ghost bytes: { Self → Option (List ℕ) };

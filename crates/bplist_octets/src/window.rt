@@ -22,10 +22,10 @@ pub(crate) const JUMP: usize = 1024;
 /// 4,096 bytes goes straight to the source. After a failed read the window is empty. `asked` is the number of whole
 /// windows that the source was asked for.
 ///
-/// A reader that alternates between a few places is better served by `Panes`.
+/// A reader that alternates between a few places is better served by `Pages`.
 #[derive(Drop)]
 pub struct Window<S: Source> {
-    source: S,
+    pub(crate) source: S,
     start: u64,
     filled: usize,
     octets: [u8; WINDOW],
@@ -77,7 +77,8 @@ fn read_front<S: Source>(
 impl<S: Source> Window<S> {
     /// Returns a source over `source`, with an empty window.
     pub fn new(source: S) -> Window<S>
-        ensures { ⟦<Window<S> as Source>⟧.means result ≡ S.means source }
+        ensures means { ⟦<Window<S> as Source>⟧.means result ≡ S.means source }
+        ensures asked { ⟦<Window<S> as Source>⟧.asked result ≡ S.asked source / 4096 }
     {
         Window {
             source,
@@ -87,7 +88,6 @@ impl<S: Source> Window<S> {
         }
     }
 
-    /// Copies the window's bytes from index `from` on.
     fn copy_part(&self, from: usize, into: &mut [u8])
         requires { from + length into.old ≤ self.now.filled }
         ensures { IsTrue (S.means self.now.source).honest →

@@ -1,6 +1,6 @@
-//! Samples that bplint_tests and bplist_calls share: small files, calls with their answers as text, and sources and writers that
-//! fail. It is not part of the library: its functions are proved to be safe and to end, and only its sources have
-//! contracts.
+//! Samples that bplint_tests and bplist_calls share: small files, calls with their answers as text, and sources and
+//! writers that fail. It is not part of the library: its functions are proved to be safe and to end, and only its
+//! sources have contracts.
 //!
 //! ```
 //! for row in tested_rows(alloc)? {

@@ -8,7 +8,7 @@ use bplist::{Plist, Value};
 /// A small file may hold a very large tree, so its size is looked at before the walk.
 const MOST_NODES: u64 = 100_000;
 
-fn print(label: &str, value: Value<'_>, depth: usize) {
+fn print(label: &str, value: Value<'_, '_>, depth: usize) {
     let indent = "  ".repeat(depth);
     match value {
         Value::Dict(dict) => {

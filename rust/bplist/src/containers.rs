@@ -12,32 +12,32 @@ const BLOCK: usize = 64;
 
 /// The object of a container, and the number of its members.
 #[derive(Clone, Copy)]
-pub(crate) struct Members<'a> {
-    pub(crate) session: &'a Session<'a>,
+pub(crate) struct Members<'p, 'f> {
+    pub(crate) session: &'p Session<'f>,
     pub(crate) object: u32,
     /// The number of members of an array or a set, or of pairs of a dictionary.
     pub(crate) count: u64,
 }
 
-impl<'a> Members<'a> {
+impl<'p, 'f> Members<'p, 'f> {
     fn len(self) -> usize {
         self.count as usize
     }
 
-    fn value(self, object: u32) -> Value<'a> {
+    fn value(self, object: u32) -> Value<'p, 'f> {
         match Value::of(self.session, object) {
             Some(value) => value,
             None => unreachable!("object {object} is a member of object {}", self.object),
         }
     }
 
-    fn get(self, index: usize) -> Option<Value<'a>> {
+    fn get(self, index: usize) -> Option<Value<'p, 'f>> {
         let mut member = [0];
         let found = known(self.session.members(self.object, index as u64, &mut member));
         (found == 1).then(|| self.value(member[0]))
     }
 
-    fn find(self, key: &str) -> Option<Value<'a>> {
+    fn find(self, key: &str) -> Option<Value<'p, 'f>> {
         let units: Vec<u16> = key.encode_utf16().collect();
         match self.session.find_key(self.object, &units) {
             Err(Status::NO_KEY) => None,
@@ -55,8 +55,8 @@ impl<'a> Members<'a> {
 
 /// An iterator over the objects of members. It asks for them in blocks.
 #[derive(Clone)]
-struct Objects<'a> {
-    of: Members<'a>,
+struct Objects<'p, 'f> {
+    of: Members<'p, 'f>,
     block: [u32; BLOCK],
     /// The position in the block, and the length of the block.
     next: usize,
@@ -65,8 +65,8 @@ struct Objects<'a> {
     behind: u64,
 }
 
-impl<'a> Objects<'a> {
-    fn new(of: Members<'a>) -> Objects<'a> {
+impl<'p, 'f> Objects<'p, 'f> {
+    fn new(of: Members<'p, 'f>) -> Objects<'p, 'f> {
         Objects {
             of,
             block: [0; BLOCK],
@@ -76,7 +76,7 @@ impl<'a> Objects<'a> {
         }
     }
 
-    fn next_value(&mut self) -> Option<Value<'a>> {
+    fn next_value(&mut self) -> Option<Value<'p, 'f>> {
         if self.next == self.filled {
             self.filled = known(self.of.session.members(
                 self.of.object,
@@ -102,19 +102,19 @@ impl<'a> Objects<'a> {
 
 /// An array.
 #[derive(Clone, Copy)]
-pub struct Array<'a>(pub(crate) Members<'a>);
+pub struct Array<'p, 'f>(pub(crate) Members<'p, 'f>);
 
 /// A set. Its members come in the order of the file.
 #[derive(Clone, Copy)]
-pub struct Set<'a>(pub(crate) Members<'a>);
+pub struct Set<'p, 'f>(pub(crate) Members<'p, 'f>);
 
 /// A dictionary. Its pairs come in the order of the file.
 #[derive(Clone, Copy)]
-pub struct Dict<'a>(pub(crate) Members<'a>);
+pub struct Dict<'p, 'f>(pub(crate) Members<'p, 'f>);
 
 macro_rules! container {
     ($name:ident, $iter:ident, $item:ty) => {
-        impl<'a> $name<'a> {
+        impl<'p, 'f> $name<'p, 'f> {
             /// Returns the number of members, or of pairs.
             pub fn len(&self) -> usize {
                 self.0.len()
@@ -131,30 +131,30 @@ macro_rules! container {
             }
 
             /// Iterates in the order of the file.
-            pub fn iter(&self) -> $iter<'a> {
+            pub fn iter(&self) -> $iter<'p, 'f> {
                 $iter(Objects::new(self.0))
             }
         }
 
-        impl<'a> IntoIterator for $name<'a> {
+        impl<'p, 'f> IntoIterator for $name<'p, 'f> {
             type Item = $item;
-            type IntoIter = $iter<'a>;
+            type IntoIter = $iter<'p, 'f>;
 
-            fn into_iter(self) -> $iter<'a> {
+            fn into_iter(self) -> $iter<'p, 'f> {
                 self.iter()
             }
         }
 
-        impl<'a> IntoIterator for &$name<'a> {
+        impl<'p, 'f> IntoIterator for &$name<'p, 'f> {
             type Item = $item;
-            type IntoIter = $iter<'a>;
+            type IntoIter = $iter<'p, 'f>;
 
-            fn into_iter(self) -> $iter<'a> {
+            fn into_iter(self) -> $iter<'p, 'f> {
                 self.iter()
             }
         }
 
-        impl Debug for $name<'_> {
+        impl Debug for $name<'_, '_> {
             /// Writes the number of the object and the number of members, but not the members: a small file may hold a
             /// very large tree.
             fn fmt(&self, f: &mut Formatter<'_>) -> fmt::Result {
@@ -164,45 +164,45 @@ macro_rules! container {
     };
 }
 
-container!(Array, Iter, Value<'a>);
-container!(Set, Iter, Value<'a>);
-container!(Dict, Pairs, (Text<'a>, Value<'a>));
+container!(Array, Iter, Value<'p, 'f>);
+container!(Set, Iter, Value<'p, 'f>);
+container!(Dict, Pairs, (Text<'f>, Value<'p, 'f>));
 
-impl<'a> Array<'a> {
+impl<'p, 'f> Array<'p, 'f> {
     /// Returns the member with this index, or `None` if the index is not below `len`.
-    pub fn get(&self, index: usize) -> Option<Value<'a>> {
+    pub fn get(&self, index: usize) -> Option<Value<'p, 'f>> {
         self.0.get(index)
     }
 }
 
-impl<'a> Dict<'a> {
+impl<'p, 'f> Dict<'p, 'f> {
     /// Returns the value for a key, or `None` if the dictionary has no such key.
     ///
     /// If the file was opened with [`sorted`](crate::Options::sorted), the call does a binary search. Otherwise it
     /// looks at one key after the other.
-    pub fn get(&self, key: &str) -> Option<Value<'a>> {
+    pub fn get(&self, key: &str) -> Option<Value<'p, 'f>> {
         self.0.find(key)
     }
 
     /// Iterates over the keys, in the order of the file.
-    pub fn keys(&self) -> impl ExactSizeIterator<Item = Text<'a>> + 'a {
+    pub fn keys(&self) -> impl ExactSizeIterator<Item = Text<'f>> + 'p {
         self.iter().map(|(key, _)| key)
     }
 
     /// Iterates over the values, in the order of the file.
-    pub fn values(&self) -> impl ExactSizeIterator<Item = Value<'a>> + 'a {
+    pub fn values(&self) -> impl ExactSizeIterator<Item = Value<'p, 'f>> + 'p {
         self.iter().map(|(_, value)| value)
     }
 }
 
 /// Iterates over the members of an array or a set.
 #[derive(Clone)]
-pub struct Iter<'a>(Objects<'a>);
+pub struct Iter<'p, 'f>(Objects<'p, 'f>);
 
-impl<'a> Iterator for Iter<'a> {
-    type Item = Value<'a>;
+impl<'p, 'f> Iterator for Iter<'p, 'f> {
+    type Item = Value<'p, 'f>;
 
-    fn next(&mut self) -> Option<Value<'a>> {
+    fn next(&mut self) -> Option<Value<'p, 'f>> {
         self.0.next_value()
     }
 
@@ -214,12 +214,12 @@ impl<'a> Iterator for Iter<'a> {
 
 /// Iterates over the pairs of a dictionary, as key and value.
 #[derive(Clone)]
-pub struct Pairs<'a>(Objects<'a>);
+pub struct Pairs<'p, 'f>(Objects<'p, 'f>);
 
-impl<'a> Iterator for Pairs<'a> {
-    type Item = (Text<'a>, Value<'a>);
+impl<'p, 'f> Iterator for Pairs<'p, 'f> {
+    type Item = (Text<'f>, Value<'p, 'f>);
 
-    fn next(&mut self) -> Option<(Text<'a>, Value<'a>)> {
+    fn next(&mut self) -> Option<(Text<'f>, Value<'p, 'f>)> {
         let key = self.0.next_value()?;
         let value = self.0.next_value()?;
         match key {
@@ -234,10 +234,10 @@ impl<'a> Iterator for Pairs<'a> {
     }
 }
 
-impl ExactSizeIterator for Iter<'_> {}
+impl ExactSizeIterator for Iter<'_, '_> {}
 
-impl ExactSizeIterator for Pairs<'_> {}
+impl ExactSizeIterator for Pairs<'_, '_> {}
 
-impl FusedIterator for Iter<'_> {}
+impl FusedIterator for Iter<'_, '_> {}
 
-impl FusedIterator for Pairs<'_> {}
+impl FusedIterator for Pairs<'_, '_> {}

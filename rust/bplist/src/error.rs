@@ -5,40 +5,131 @@ use std::fmt::{self, Debug, Display, Formatter};
 
 use crate::ffi::{self, Status, Verdict};
 
-/// The rule about circles of references. Its faults have no place.
-const CIRCLE: u32 = 23;
-
-/// The rules about certificates, except [`KEY_ORDER`].
-const CERTIFICATES: std::ops::RangeInclusive<u32> = 24..=27;
-
-/// The rule about key lists in a certificate.
-const KEY_ORDER: u32 = 32;
-
-/// A rule about property lists or certificates. Rules have numbers from 1 to 32.
-#[derive(Clone, Copy, PartialEq, Eq, Hash, PartialOrd, Ord)]
-pub struct Rule(u32);
+/// A rule about property lists or certificates. Rules have numbers from 1 to 32, in this order.
+#[derive(Clone, Copy, Debug, PartialEq, Eq, Hash, PartialOrd, Ord)]
+#[non_exhaustive]
+pub enum Rule {
+    /// A file has at most 4294967295 bytes.
+    TooLarge,
+    /// A file has at least 41 bytes: a header of 8, an object and a trailer of 32.
+    TooShort,
+    /// A file begins with the eight bytes bplist00.
+    Magic,
+    /// The trailer gives one object or more.
+    NoObjects,
+    /// The number of the top object is below the number of objects.
+    Top,
+    /// The offset table begins at place 9 or later, behind the header and an object.
+    TableEarly,
+    /// The offset table begins before the trailer, the last 32 bytes.
+    TableLate,
+    /// An entry of the offset table has 1 to 8 bytes.
+    OffsetSize,
+    /// A reference has 1 to 8 bytes.
+    RefSize,
+    /// The offset table and the trailer end exactly at the end of the file.
+    Length,
+    /// References are wide enough for the number of objects.
+    RefNarrow,
+    /// Entries of the offset table are wide enough for the place of the table.
+    OffsetNarrow,
+    /// Each entry of the offset table leads to a place before the table.
+    OffsetHigh,
+    /// An object begins at place 8 or later, behind the header.
+    OffsetLow,
+    /// An object begins with a byte that marks a kind.
+    Marker,
+    /// If the marker of data, a text or a container ends in f, its count follows as an integer of 1, 2, 4, 8 or 16 bytes.
+    Count,
+    /// An object ends before the offset table.
+    Extent,
+    /// Every byte of an ASCII text is below 0x80.
+    NotAscii,
+    /// A UID is at most 4294967295.
+    UidLarge,
+    /// A reference is the number of an object, below the number of objects.
+    RefHigh,
+    /// The keys of a dictionary are texts.
+    KeyKind,
+    /// The keys of a dictionary differ.
+    KeyTwice,
+    /// No chain of references that begins at the top comes back to an object of the chain.
+    Circle,
+    /// A certificate begins with the eight bytes bplcert1 or bplcert2.
+    CertMagic,
+    /// A certificate has as many bytes as its version and its number of heights ask for.
+    CertLength,
+    /// A certificate has one height for each object of the file.
+    CertCount,
+    /// The height of the top object is 1 or more.
+    TopNotVouched,
+    /// What an object of height 1 or more refers to has a height of 1 or more.
+    ChildNotVouched,
+    /// What an object of height 1 or more refers to has a smaller height.
+    HeightNotLess,
+    /// A path is empty or begins with /. Each ~ in it is followed by 0 or 1.
+    PathText,
+    /// Together the objects fit between the header and the offset table. lint adds up the reachable objects, check those of height 1 or more.
+    Overfull,
+    /// The key list of a dictionary is wholly there, and names the dictionary's keys in ascending order.
+    KeyOrder,
+}
 
 impl Rule {
+    /// All rules, in the order of their numbers.
+    pub const ALL: [Rule; 32] = [
+        Rule::TooLarge,
+        Rule::TooShort,
+        Rule::Magic,
+        Rule::NoObjects,
+        Rule::Top,
+        Rule::TableEarly,
+        Rule::TableLate,
+        Rule::OffsetSize,
+        Rule::RefSize,
+        Rule::Length,
+        Rule::RefNarrow,
+        Rule::OffsetNarrow,
+        Rule::OffsetHigh,
+        Rule::OffsetLow,
+        Rule::Marker,
+        Rule::Count,
+        Rule::Extent,
+        Rule::NotAscii,
+        Rule::UidLarge,
+        Rule::RefHigh,
+        Rule::KeyKind,
+        Rule::KeyTwice,
+        Rule::Circle,
+        Rule::CertMagic,
+        Rule::CertLength,
+        Rule::CertCount,
+        Rule::TopNotVouched,
+        Rule::ChildNotVouched,
+        Rule::HeightNotLess,
+        Rule::PathText,
+        Rule::Overfull,
+        Rule::KeyOrder,
+    ];
+
     /// Returns the number of the rule.
     pub fn number(self) -> u32 {
-        self.0
+        self as u32 + 1
     }
 
     /// Returns the name of the rule, for example `Marker`.
     pub fn name(self) -> String {
-        ffi::rule_name(self.0)
+        ffi::rule_name(self.number())
     }
 
     /// Returns what the rule requires, as one sentence, for example `The keys of a dictionary differ.`
     pub fn sentence(self) -> String {
-        ffi::rule_text(self.0)
+        ffi::rule_text(self.number())
     }
-}
 
-impl Debug for Rule {
-    /// Writes number and name, as in `Rule(3, Magic)`.
-    fn fmt(&self, f: &mut Formatter<'_>) -> fmt::Result {
-        write!(f, "Rule({}, {})", self.number(), self.name())
+    /// Returns the rule with a number of the library.
+    fn told(number: u32) -> Rule {
+        Rule::ALL[number as usize - 1]
     }
 }
 
@@ -54,14 +145,15 @@ pub struct Fault {
 impl Fault {
     /// Returns the fault that a verdict describes.
     fn told(file: &[u8], verdict: &Verdict) -> Result<Fault, Status> {
-        let circle = match verdict.rule {
-            CIRCLE => ffi::circle(file, verdict.circle)?,
+        let rule = Rule::told(verdict.rule);
+        let circle = match rule {
+            Rule::Circle => ffi::circle(file, verdict.circle)?,
             _ => Vec::new(),
         };
         Ok(Fault {
-            rule: Rule(verdict.rule),
+            rule,
             object: (verdict.has_object == 1).then_some(verdict.object),
-            place: (verdict.rule != CIRCLE).then_some(verdict.place),
+            place: (rule != Rule::Circle).then_some(verdict.place),
             circle,
         })
     }
@@ -90,7 +182,14 @@ impl Fault {
 
     /// Returns true if the certificate is at fault, and not the file.
     pub fn is_of_certificate(&self) -> bool {
-        CERTIFICATES.contains(&self.rule.0) || self.rule.0 == KEY_ORDER
+        matches!(
+            self.rule,
+            Rule::CertMagic
+                | Rule::CertLength
+                | Rule::CertCount
+                | Rule::TopNotVouched
+                | Rule::KeyOrder
+        )
     }
 }
 
@@ -135,7 +234,8 @@ impl Error {
         match status {
             Status::FAULT => match Fault::told(file, verdict) {
                 Ok(fault) => Error::Refused(fault),
-                Err(_) => Error::OutOfMemory,
+                Err(Status::MEMORY) => Error::OutOfMemory,
+                Err(_) => Error::Changed,
             },
             Status::OTHER_FILE => Error::Changed,
             _ => Error::OutOfMemory,

@@ -7,6 +7,7 @@
 use std::cell::UnsafeCell;
 use std::ffi::c_void;
 use std::ptr;
+use std::slice;
 
 /// The status that a call returns.
 #[derive(Clone, Copy, Debug, PartialEq, Eq)]
@@ -297,6 +298,40 @@ pub(crate) fn circle(file: &[u8], length: u64) -> Result<Vec<u32>, Status> {
         )
     };
     answer(status, objects)
+}
+
+/// Bytes, and what borrows from them.
+pub(crate) struct Owned<T> {
+    // Dropped before the bytes.
+    held: T,
+    octets: Vec<u8>,
+}
+
+impl<T> Owned<T> {
+    /// Makes what borrows from the bytes. Nothing but the result of `make` may keep the loan that it is given.
+    pub(crate) fn make<E>(
+        octets: Vec<u8>,
+        make: impl FnOnce(&'static [u8]) -> Result<T, E>,
+    ) -> Result<Owned<T>, E> {
+        // SAFETY: the bytes stay at this place until they are dropped, and nobody changes them. `held` is dropped
+        // before them, and is handed out only by `held`, for no longer than the loan of `self`.
+        let lent = unsafe { slice::from_raw_parts(octets.as_ptr(), octets.len()) };
+        Ok(Owned {
+            held: make(lent)?,
+            octets,
+        })
+    }
+
+    /// Lends what borrows from the bytes. Its callers give it to others with the lifetime of this loan.
+    pub(crate) fn held(&self) -> &T {
+        &self.held
+    }
+
+    pub(crate) fn into_octets(self) -> Vec<u8> {
+        let Owned { held, octets } = self;
+        drop(held);
+        octets
+    }
 }
 
 /// A file, and the handle that was opened with it.

@@ -22,23 +22,27 @@
 //!
 //! | to do this | items |
 //! |---|---|
-//! | open a file | [`Plist::open`], [`Options`], [`Plist`] |
+//! | open a file | [`Plist::open`], [`Options`], [`Plist`], [`OwnedPlist`] |
 //! | learn whether a file holds a value, and why not | [`lint`], [`looks_like`], [`Error`], [`Fault`], [`Rule`] |
 //! | read a value | [`Value`], [`Text`], [`Date`], [`Array`], [`Set`], [`Dict`] |
-//! | follow a path | [`Plist::at`], [`PathError`] |
+//! | follow a path | [`Plist::at`], [`Plist::find`], [`PathError`] |
+//! | make a struct of a file | `from_slice`, with the feature `serde` |
 //!
-//! Values borrow from the file and from its `Plist`. A value is read when it is asked for, and an iterator asks for its
+//! Data and texts borrow from the bytes of the file, and containers also from its `Plist`. A value is read when it is asked for, and an iterator asks for its
 //! members in blocks. Once a file is open, reading it cannot fail. An object may be a member of many others, so a walk
 //! over a small file may take very long. [`Plist::nodes`] gives the size of the tree before the walk.
 //!
 //! The crate is a layer over the C library bplist. The answers of the library are proved; this layer is tested. It has
-//! no dependencies. The build looks for `libbplist.a` in the directory that the environment variable `BPLIST_LIB_DIR`
+//! no dependencies but serde, with the feature `serde`. The build looks for `libbplist.a` in the directory that the environment variable `BPLIST_LIB_DIR`
 //! names, or with pkg-config. All unsafe code is in one module, `ffi`. The folder `examples` has two small programs.
 #![deny(unsafe_code)]
 #![warn(missing_docs)]
 
 #[forbid(unsafe_code)]
 mod containers;
+#[cfg(feature = "serde")]
+#[forbid(unsafe_code)]
+mod de;
 #[forbid(unsafe_code)]
 mod error;
 #[allow(unsafe_code)]
@@ -51,7 +55,9 @@ mod text;
 mod value;
 
 pub use containers::{Array, Dict, Iter, Pairs, Set};
+#[cfg(feature = "serde")]
+pub use de::{from_slice, DeserializeError};
 pub use error::{Error, Fault, PathError, Rule};
-pub use plist::{library_version, lint, looks_like, Options, Plist, Summary};
+pub use plist::{library_version, lint, looks_like, Found, Options, OwnedPlist, Plist, Summary};
 pub use text::{Text, Units};
 pub use value::{Date, Value};

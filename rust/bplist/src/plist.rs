@@ -3,7 +3,7 @@
 use std::fmt::{self, Debug, Formatter};
 
 use crate::error::{Error, PathError};
-use crate::ffi::{self, Session, Status, Verdict};
+use crate::ffi::{self, Owned, Session, Status, Verdict};
 use crate::value::{known, Value};
 
 /// What the linter found in a file that holds a value.
@@ -108,6 +108,75 @@ impl<'c> Options<'c> {
             Err((status, verdict)) => Err(Error::told(file, status, &verdict)),
         }
     }
+
+    /// Opens a file that the property list owns.
+    pub fn open_owned(&self, file: Vec<u8>) -> Result<OwnedPlist, Error> {
+        Ok(OwnedPlist(Owned::make(file, |file| self.open(file))?))
+    }
+}
+
+/// An open file that holds a value, together with its bytes. A struct can hold it, and a function can return it.
+///
+/// ```
+/// # fn main() -> Result<(), Box<dyn std::error::Error>> {
+/// struct Jobs(bplist::OwnedPlist);
+///
+/// let jobs = Jobs(bplist::OwnedPlist::open(std::fs::read("tests/data/jobs.plist")?)?);
+/// assert_eq!(jobs.0.plist().at("/jobs/1/id")?.as_int(), Some(42));
+/// # Ok(())
+/// # }
+/// ```
+pub struct OwnedPlist(Owned<Plist<'static>>);
+
+impl OwnedPlist {
+    /// Lints a file and opens it. [`Options::open_owned`] has other ways to open it.
+    pub fn open(file: Vec<u8>) -> Result<OwnedPlist, Error> {
+        Options::new().open_owned(file)
+    }
+
+    /// Returns the property list, which borrows the bytes.
+    pub fn plist(&self) -> &Plist<'_> {
+        self.0.held()
+    }
+
+    /// Returns the bytes of the file.
+    pub fn into_bytes(self) -> Vec<u8> {
+        self.0.into_octets()
+    }
+}
+
+impl Debug for OwnedPlist {
+    fn fmt(&self, f: &mut Formatter<'_>) -> fmt::Result {
+        self.plist().fmt(f)
+    }
+}
+
+/// Where a value stands in the file.
+#[derive(Clone, Copy, Debug, PartialEq, Eq)]
+#[non_exhaustive]
+pub struct Found {
+    /// The number of the object that holds the value.
+    pub object: u32,
+    /// The place of that object: the number of its first byte in the file, counted from 0.
+    pub place: u64,
+}
+
+/// The length of the trailer, with which a file ends.
+const TRAILER: usize = 32;
+
+/// Returns the entry of an object in the offset table. The trailer has the size of an entry, and the place of the table.
+fn place_of(file: &[u8], object: u32) -> u64 {
+    let trailer = &file[file.len() - TRAILER..];
+    let size = usize::from(trailer[6]);
+    let at = big_endian(&trailer[24..]) as usize + size * object as usize;
+    big_endian(&file[at..at + size])
+}
+
+/// Decodes a big-endian number of at most 8 bytes.
+fn big_endian(octets: &[u8]) -> u64 {
+    octets
+        .iter()
+        .fold(0, |number, &octet| number << 8 | u64::from(octet))
 }
 
 /// An open file that holds a value. It borrows the file, and takes 4 bytes of memory for each object.
@@ -135,7 +204,7 @@ impl<'f> Plist<'f> {
     }
 
     /// Returns the value of the file.
-    pub fn root(&self) -> Value<'_> {
+    pub fn root(&self) -> Value<'_, 'f> {
         match Value::of(&self.session, self.summary.top) {
             Some(value) => value,
             None => unreachable!("the top reaches itself"),
@@ -145,19 +214,34 @@ impl<'f> Plist<'f> {
     /// Returns the value that a path leads to. A path is a JSON Pointer (RFC 6901). The empty path leads to the root.
     /// Otherwise each step is `/` and a key, or `/` and an index of an array in decimal digits. `~0` stands for `~`,
     /// and `~1` for `/`.
-    pub fn at(&self, path: &str) -> Result<Value<'_>, PathError> {
+    pub fn at(&self, path: &str) -> Result<Value<'_, 'f>, PathError> {
+        let object = self.object_at(path)?;
+        match Value::of(&self.session, object) {
+            Some(value) => Ok(value),
+            None => unreachable!("the top reaches object {object}"),
+        }
+    }
+
+    /// Returns the object that a path leads to, and its place in the file. A path is as for [`at`](Plist::at).
+    pub fn find(&self, path: &str) -> Result<Found, PathError> {
+        let object = self.object_at(path)?;
+        Ok(Found {
+            object,
+            place: place_of(self.session.file(), object),
+        })
+    }
+
+    /// Returns the number of the object that a path leads to.
+    fn object_at(&self, path: &str) -> Result<u32, PathError> {
         match self.session.find(path) {
-            (Status::OK, found) => match Value::of(&self.session, found.object) {
-                Some(value) => Ok(value),
-                None => unreachable!("the top reaches object {}", found.object),
-            },
+            (Status::OK, found) => Ok(found.object),
             (status, found) => Err(PathError::told(status, found.step)),
         }
     }
 
     /// Returns the value of the object with this number, or `None` if the file has no checked object with that number.
     /// Objects that the top does not reach are checked only if a certificate gives them a height.
-    pub fn object(&self, number: u32) -> Option<Value<'_>> {
+    pub fn object(&self, number: u32) -> Option<Value<'_, 'f>> {
         Value::of(&self.session, number)
     }
 

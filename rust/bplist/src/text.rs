@@ -2,7 +2,9 @@
 
 use std::borrow::Cow;
 use std::char::{self, REPLACEMENT_CHARACTER};
+use std::cmp::Ordering;
 use std::fmt::{self, Debug, Display, Formatter, Write};
+use std::hash::{Hash, Hasher};
 use std::iter::FusedIterator;
 use std::str;
 
@@ -91,6 +93,27 @@ impl PartialEq for Text<'_> {
 }
 
 impl Eq for Text<'_> {}
+
+impl Hash for Text<'_> {
+    /// Texts of the same units have the same hash, however the file stores them.
+    fn hash<H: Hasher>(&self, state: &mut H) {
+        self.units().for_each(|unit| state.write_u16(unit));
+        state.write_usize(self.len());
+    }
+}
+
+impl Ord for Text<'_> {
+    /// Compares unit by unit.
+    fn cmp(&self, other: &Text<'_>) -> Ordering {
+        self.units().cmp(other.units())
+    }
+}
+
+impl PartialOrd for Text<'_> {
+    fn partial_cmp(&self, other: &Text<'_>) -> Option<Ordering> {
+        Some(self.cmp(other))
+    }
+}
 
 impl PartialEq<str> for Text<'_> {
     fn eq(&self, other: &str) -> bool {

@@ -1,4 +1,4 @@
-//! Values, which borrow from the file.
+//! Values, which borrow from the file and from its `Plist`.
 
 use std::time::{Duration, SystemTime};
 
@@ -9,10 +9,11 @@ use crate::text::Text;
 /// The number of seconds from 1970-01-01 00:00:00 UTC to 2001-01-01 00:00:00 UTC.
 const EPOCH: u64 = 978_307_200;
 
-/// A value of a property list.
+/// A value of a property list. Data and texts borrow from the bytes of the file, for `'f`. Containers also borrow from the
+/// `Plist`, for `'p`.
 #[derive(Clone, Copy, Debug)]
 #[non_exhaustive]
-pub enum Value<'a> {
+pub enum Value<'p, 'f> {
     /// Null, which means no value.
     Null,
     /// True or false.
@@ -24,17 +25,17 @@ pub enum Value<'a> {
     /// A point in time.
     Date(Date),
     /// Bytes, as they are in the file.
-    Data(&'a [u8]),
+    Data(&'f [u8]),
     /// A text.
-    Text(Text<'a>),
+    Text(Text<'f>),
     /// A number with which NSKeyedArchiver refers to an object of its archive.
     Uid(u32),
     /// An array.
-    Array(Array<'a>),
+    Array(Array<'p, 'f>),
     /// A set. Its members may be equal.
-    Set(Set<'a>),
+    Set(Set<'p, 'f>),
     /// A dictionary. Its keys are texts, and differ.
-    Dict(Dict<'a>),
+    Dict(Dict<'p, 'f>),
 }
 
 /// Unwraps the answer about an object of an open file. There is always an answer, because the file does not change.
@@ -42,9 +43,9 @@ pub(crate) fn known<T>(answer: Result<T, Status>) -> T {
     answer.unwrap_or_else(|status| unreachable!("{}", status.sentence()))
 }
 
-impl<'a> Value<'a> {
+impl<'p, 'f> Value<'p, 'f> {
     /// Returns the value of an object, or `None` if the file has no checked object with that number.
-    pub(crate) fn of(session: &'a Session<'a>, object: u32) -> Option<Value<'a>> {
+    pub(crate) fn of(session: &'p Session<'f>, object: u32) -> Option<Value<'p, 'f>> {
         let body = match session.face(object) {
             Err(Status::NO_OBJECT) => return None,
             answer => known(answer),
@@ -107,7 +108,7 @@ impl<'a> Value<'a> {
     }
 
     /// Returns the bytes if the value is data.
-    pub fn as_data(&self) -> Option<&'a [u8]> {
+    pub fn as_data(&self) -> Option<&'f [u8]> {
         match self {
             Value::Data(octets) => Some(octets),
             _ => None,
@@ -115,7 +116,7 @@ impl<'a> Value<'a> {
     }
 
     /// Returns the text if the value is one.
-    pub fn as_text(&self) -> Option<Text<'a>> {
+    pub fn as_text(&self) -> Option<Text<'f>> {
         match self {
             Value::Text(text) => Some(*text),
             _ => None,
@@ -131,7 +132,7 @@ impl<'a> Value<'a> {
     }
 
     /// Returns the array if the value is one.
-    pub fn as_array(&self) -> Option<Array<'a>> {
+    pub fn as_array(&self) -> Option<Array<'p, 'f>> {
         match self {
             Value::Array(array) => Some(*array),
             _ => None,
@@ -139,7 +140,7 @@ impl<'a> Value<'a> {
     }
 
     /// Returns the set if the value is one.
-    pub fn as_set(&self) -> Option<Set<'a>> {
+    pub fn as_set(&self) -> Option<Set<'p, 'f>> {
         match self {
             Value::Set(set) => Some(*set),
             _ => None,
@@ -147,7 +148,7 @@ impl<'a> Value<'a> {
     }
 
     /// Returns the dictionary if the value is one.
-    pub fn as_dict(&self) -> Option<Dict<'a>> {
+    pub fn as_dict(&self) -> Option<Dict<'p, 'f>> {
         match self {
             Value::Dict(dict) => Some(*dict),
             _ => None,

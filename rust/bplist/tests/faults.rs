@@ -2,7 +2,7 @@
 
 mod common;
 
-use bplist::{library_version, lint, looks_like, Error, Fault, Options, Plist};
+use bplist::{library_version, lint, looks_like, Error, Fault, Options, Plist, Rule};
 use common::file;
 
 fn fault<T: std::fmt::Debug>(answer: Result<T, Error>) -> Fault {
@@ -43,7 +43,7 @@ fn of_lint() {
     );
     assert_eq!(
         format!("{:?}", Error::Refused(short)),
-        "Refused(Fault { rule: Rule(2, TooShort), object: None, place: Some(0), circle: [] })"
+        "Refused(Fault { rule: TooShort, object: None, place: Some(0), circle: [] })"
     );
     assert_eq!(lint(&file(&[b"\x09"])).unwrap().reached, 1);
 }
@@ -98,4 +98,14 @@ fn version() {
         format!("{major}.{minor}.{patch}"),
         env!("CARGO_PKG_VERSION")
     );
+}
+
+/// The rules are those of the library, in its order.
+#[test]
+fn rules() {
+    for (number, rule) in (1..).zip(Rule::ALL) {
+        assert_eq!((rule.number(), rule.name()), (number, format!("{rule:?}")));
+        assert!(rule.sentence().ends_with('.'));
+    }
+    assert!(matches!(fault(lint(b"")).rule(), Rule::TooShort));
 }

@@ -2,8 +2,9 @@
 
 mod common;
 
-use bplist::{Options, PathError, Plist, Value};
+use bplist::{Options, OwnedPlist, PathError, Plist, Text, Value};
 use common::file;
+use std::collections::HashMap;
 use std::time::{Duration, SystemTime};
 
 /// An array of 200 members. They are objects 1 and 2 in turn, which are true and false.
@@ -168,4 +169,73 @@ fn threads() {
     std::thread::scope(|scope| {
         scope.spawn(move || assert_eq!(plist.root().as_array().unwrap().iter().count(), 200));
     });
+}
+
+/// Data and a text of a file whose property list is gone.
+fn lent(file: &[u8]) -> (&[u8], Text<'_>) {
+    let plist = Plist::open(file).unwrap();
+    let member = |index| plist.root().as_array().unwrap().get(index).unwrap();
+    (member(0).as_data().unwrap(), member(1).as_text().unwrap())
+}
+
+#[test]
+fn loans() {
+    let file = file(&[b"\xa2\x01\x02", b"\x41x", b"\x53abc"]);
+    let (data, text) = lent(&file);
+    assert_eq!((data, text.as_ascii()), (&b"x"[..], Some("abc")));
+}
+
+#[test]
+fn owned() {
+    let octets = file(&[b"\xa1\x01", b"\x53abc"]);
+    let plist = OwnedPlist::open(octets.clone()).unwrap();
+    let held = [plist];
+    assert_eq!(held[0].plist().at("/0").unwrap().as_text().unwrap(), "abc");
+    let sorted = Options::new()
+        .sorted(true)
+        .open_owned(octets.clone())
+        .unwrap();
+    let [plist] = held;
+    assert_eq!(format!("{plist:?}"), format!("{sorted:?}"));
+    assert_eq!(plist.into_bytes(), octets);
+    assert!(OwnedPlist::open(octets[1..].to_vec()).is_err());
+}
+
+#[test]
+fn places() {
+    let octets = file(&[b"\xd1\x01\x02", b"\x51a", b"\xa2\x01\x03", b"\x10\x07"]);
+    let plist = Plist::open(&octets).unwrap();
+    for (path, object, place) in [("", 0, 8), ("/a", 2, 13), ("/a/0", 1, 11), ("/a/1", 3, 16)] {
+        let found = plist.find(path).unwrap();
+        assert_eq!((found.object, found.place), (object, place), "{path}");
+    }
+    assert_eq!(plist.find("/b"), Err(PathError::NoKey { step: 0 }));
+    assert_eq!(plist.find("b"), Err(PathError::Text { place: 0 }));
+}
+
+#[test]
+fn hashes() {
+    let octets = file(&[
+        b"\xa4\x01\x02\x03\x04",
+        b"\x52ab",
+        b"\x62\x00a\x00b",
+        b"\x51b",
+        b"\x61\xd8\x00",
+    ]);
+    let plist = Plist::open(&octets).unwrap();
+    let texts: Vec<Text> = plist
+        .root()
+        .as_array()
+        .unwrap()
+        .iter()
+        .filter_map(|v| v.as_text())
+        .collect();
+    let counts = texts.iter().fold(HashMap::new(), |mut counts, text| {
+        *counts.entry(*text).or_insert(0) += 1;
+        counts
+    });
+    assert_eq!((counts.len(), counts[&texts[1]]), (3, 2));
+    let mut sorted = texts.clone();
+    sorted.sort();
+    assert_eq!(sorted, [texts[0], texts[1], texts[2], texts[3]]);
 }

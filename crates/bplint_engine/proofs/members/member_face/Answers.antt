@@ -12,12 +12,3 @@ returns-clause-exact g c =
     λ honest w m of is. let held = c.in_ok-member.ensures.exact honest w m of is in
     let shows = rw c.in_ok-member.ensures.reads at c.face.ensures.value in
     shows honest held.0 m held.1
-
-pub returns-clause-asks : goal.returns-clause-asks
-returns-clause-asks g c = λ honest w m of is.
-    let held = c.in_ok-member.ensures.exact honest w m of is in
-    let shows = rw c.in_ok-member.ensures.reads at c.face.ensures.asks in
-    omega (arith, c.in_ok-member.ensures.asks, shows honest held.0 m held.1)
-
-pub returns-in_err-member-clause-asks : goal.returns-in_err-member-clause-asks
-returns-in_err-member-clause-asks g c = λ honest w m of is. omega (arith, c.in_err-member.ensures.asks)

@@ -1,4 +1,3 @@
-use Rattle.std.proofs.Common.{arith}
 use Rattle.std.proofs.lemmas.Result.{err_from_is_err_and}
 use Rattle.bplist_objects.specs.Value.{leaf, text}
 use Rattle.bplint_engine.proofs.members.member_text.Goals as goal
@@ -17,12 +16,5 @@ returns-in-Text-clause-exact g c = λ honest w u of is.
 pub returns : goal.returns
 returns g c = record {
   reads = c.in_ok-units.ensures.reads;
-  asks = λ honest w u of is. omega (arith, c.in_ok-units.ensures.asks honest w (leaf (text u)) of is);
   exact = λ honest w u of is. absurd (c.in_default.not-Text u (c.in_ok-units.ensures.exact honest w (leaf (text u)) of is));
 }
-
-pub returns-in_err-units-clause-asks : goal.returns-in_err-units-clause-asks
-returns-in_err-units-clause-asks g c = λ honest w u of is. omega (arith, c.in_err-units.ensures.asks honest w (leaf (text u)) of is)
-
-pub returns-in-Text-clause-asks : goal.returns-in-Text-clause-asks
-returns-in-Text-clause-asks g c = λ honest w u of is. omega (arith, c.in_ok-units.ensures.asks honest w (leaf (text u)) of is)

@@ -14,7 +14,7 @@ returns-in-Err-clause-exact g c =
 pub returns-in-Ok-checked_for-clause-exact : goal.returns-in-Ok-checked_for-clause-exact
 returns-in-Ok-checked_for-clause-exact g c =
     λ honest. let f = (g.S.Source.means c.args.src).octets in
-    let told = rw (c.in-Ok-checked_for.ensures.handed, c.deref.ensures.value) at c.lines_for-made.ensures.exact in
+    let told = rw (c.in-Ok-checked_for.ensures.handed, c.deref-in-Ok-checked_for.ensures.value) at c.lines_for-made.ensures.exact in
     let (_, least) = c.in-Ok-checked_for.ensures.exact honest in
     queries_say c.args.style (LintSays f) f (bytes_of c.args.texts.now) _ _ _ _ c.in-Ok.ensures.1 c.in-Ok.ensures.2
     (lint_yes f _ _ least) (merely (lint_there f _ _ least)) (told honest)

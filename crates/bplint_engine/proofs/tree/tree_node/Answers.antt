@@ -49,25 +49,3 @@ returns-clause-exact g c = λ honest vouched w holds.
     let few = subst (λ n. length (tree_lines branch.style n w) ≤ c.in_ok-listing.listing.room) (sym begins.1) (omega (arith, counted, short, room, small)) in
     let sends = (rw c.in_ok-nodes.ensures.reads at c.in_ok-write_tree.ensures.exact) honest w (vouched, holds) few begins.3 in
     (joined_lines (tree_lines branch.style text w), ((low, small), refl, refl), rw begins.1 at sends)
-
-pub returns-in_err-write_tree-clause-asks : goal.returns-in_err-write_tree-clause-asks
-returns-in_err-write_tree-clause-asks g c = λ honest vouched w holds.
-    let begins = c.in_ok-listing.ensures in
-    let asks = (rw (c.in_ok-nodes.ensures.reads, begins.1) at c.in_err-write_tree.ensures.asks) honest w (vouched, holds) in
-    omega (arith, c.in_ok-nodes.ensures.asks honest, asks)
-
-pub returns-in_err-write_tree-clause-asks_long : goal.returns-in_err-write_tree-clause-asks_long
-returns-in_err-write_tree-clause-asks_long g c = λ honest vouched w holds long.
-    let counted = c.in_ok-nodes.ensures.exact honest vouched w holds in
-    absurd (long (omega (arith, counted), omega (arith, counted)))
-
-pub returns-clause-asks : goal.returns-clause-asks
-returns-clause-asks g c = λ honest vouched w holds.
-    let begins = c.in_ok-listing.ensures in
-    let asks = (rw (c.in_ok-nodes.ensures.reads, begins.1) at c.in_ok-write_tree.ensures.asks) honest w (vouched, holds) in
-    omega (arith, c.in_ok-nodes.ensures.asks honest, asks)
-
-pub returns-clause-asks_long : goal.returns-clause-asks_long
-returns-clause-asks_long g c = λ honest vouched w holds long.
-    let counted = c.in_ok-nodes.ensures.exact honest vouched w holds in
-    absurd (long (omega (arith, counted), omega (arith, counted)))

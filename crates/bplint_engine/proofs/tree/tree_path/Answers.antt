@@ -34,24 +34,3 @@ returns-in-Missing-clause-exact g c = λ honest v holds.
     (λ a h. subst (λ r. MatchResult r (λ x. NodeLists branch.style branch.limit branch.path.now x a) (λ missing. a ≡ gives SomeMissing (found_line branch.style (Err missing)))) (sym found) h)
     c.missing_output.ensures.made c.missing_output.ensures.refused in
     (sent_within (PathLists branch.style branch.limit branch.path.now c.args.steps.now v) None _ _ _ _ says c.send_output.ensures.sent)
-
-pub returns-in-At-clause-asks : goal.returns-in-At-clause-asks
-returns-in-At-clause-asks g c = λ honest v w holds to.
-    let found = rw c.in-At.is at (c.in_ok-node.ensures.exact honest v holds) in
-    let same : found.2.0 ≡ w = let both = sym found.2.1 ∙ to in cc both in
-    let held = subst (Holds c.args.checked.now.source.octets c.args.checked.now.frame c.in-At.node.object.0) same found.2.2 in
-    let asks = (rw c.in_ok-node.ensures.reads at c.tree_node.ensures.asks) honest found.1 w held in
-    omega (arith, c.in_ok-node.ensures.asks honest v holds, asks)
-
-pub returns-in-At-clause-asks_long : goal.returns-in-At-clause-asks_long
-returns-in-At-clause-asks_long g c = λ honest v w holds to long.
-    let found = rw c.in-At.is at (c.in_ok-node.ensures.exact honest v holds) in
-    let same : found.2.0 ≡ w = let both = sym found.2.1 ∙ to in cc both in
-    let held = subst (Holds c.args.checked.now.source.octets c.args.checked.now.frame c.in-At.node.object.0) same found.2.2 in
-    let asks = (rw c.in_ok-node.ensures.reads at c.tree_node.ensures.asks_long) honest found.1 w held long in
-    omega (arith, c.in_ok-node.ensures.asks honest v holds, asks)
-
-pub returns-in-At-clause-asks_missing : goal.returns-in-At-clause-asks_missing
-returns-in-At-clause-asks_missing g c = λ honest v missing holds to.
-    let found = rw c.in-At.is at (c.in_ok-node.ensures.exact honest v holds) in
-    let both = sym found.2.1 ∙ to in cc both

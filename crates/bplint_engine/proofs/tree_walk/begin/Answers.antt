@@ -7,7 +7,6 @@ use Rattle.bplint_lines.specs.declared.fault.RunFault.TheVariants.{Memory}
 use Rattle.bplint_engine.specs.Names.{name_in}
 use Rattle.bplint_engine.proofs.LowerFaults.{unread_excused}
 use Rattle.bplint_engine.proofs.SinkLines.{line_fails, line_stopped}
-use Rattle.bplint_engine.proofs.TreeAsks.{container_asks, container_face, face_within, leaf_asks, of_container}
 use Rattle.bplint_engine.proofs.TreeSteps.{begun_container}
 use Rattle.bplint_engine.specs.declared.tree_walk.Opened.{Opened}
 use Rattle.bplint_engine.proofs.tree_walk.begin.Goals as goal
@@ -43,33 +42,3 @@ returns-clause-exact g c = λ honest w held left stands.
     let o : Opened = record { head = c.in_ok-head.head; members = c.in-Some.members; count = c.in-Some.count; next = 0; name = c.args.at.name } in
     begun_container c.args.style file _ _ c.args.listing.now _ o w left (c.args.at.node.object.0, held.0, held.1, heads) is refl c.requires.name.1
     line.0 c.in_ok-members.ensures.room c.in_ok-members.ensures.names (c.in_ok-push.ensures.items ∙ ap (λ l. l ++ o ∷ []) c.in_ok-members.ensures.stack) stands
-
-pub returns-in_err-members-clause-asks : goal.returns-in_err-members-clause-asks
-returns-in_err-members-clause-asks g c = λ honest w held. omega (arith, face_within w, c.in_err-members.ensures.asks honest w held)
-
-pub returns-in_default-clause-asks : goal.returns-in_default-clause-asks
-returns-in_default-clause-asks g c = λ honest w held. omega (arith, face_within w, c.in_ok-members.ensures.asks honest w held)
-
-pub returns-in_err-head-clause-asks : goal.returns-in_err-head-clause-asks
-returns-in_err-head-clause-asks g c = λ honest w held.
-    let is = rw c.in-Some.is at (c.in_ok-members.ensures.exact honest w held).1 in
-    omega (arith, of_container _ _ w is, container_face _ _ w is, c.in_ok-members.ensures.asks honest w held, c.in_err-head.ensures.asks)
-
-pub returns-in_err-push-clause-asks : goal.returns-in_err-push-clause-asks
-returns-in_err-push-clause-asks g c = λ honest w held.
-    let is = rw c.in-Some.is at (c.in_ok-members.ensures.exact honest w held).1 in
-    omega (arith, of_container _ _ w is, container_face _ _ w is, c.in_ok-members.ensures.asks honest w held, c.in_ok-head.ensures.asks)
-
-pub returns-clause-asks : goal.returns-clause-asks
-returns-clause-asks g c = λ honest w held.
-    let is = rw c.in-Some.is at (c.in_ok-members.ensures.exact honest w held).1 in
-    omega (arith, of_container _ _ w is, container_face _ _ w is, c.in_ok-members.ensures.asks honest w held, c.in_ok-head.ensures.asks)
-
-pub returns-clause-asks_on : goal.returns-clause-asks_on
-returns-clause-asks_on g c = λ honest w held left stands.
-    let file = c.args.checked.now in
-    let is = rw c.in-Some.is at (c.in_ok-members.ensures.exact honest w held).1 in
-    let heads = (rw c.in_ok-members.ensures.reads at c.in_ok-head.ensures.exact) honest held.0 in
-    let o : Opened = record { head = c.in_ok-head.head; members = c.in-Some.members; count = c.in-Some.count; next = 0; name = c.args.at.name } in
-    let items = ap reverse (c.in_ok-push.ensures.items ∙ ap (λ l. l ++ o ∷ []) c.in_ok-members.ensures.stack) ∙ reverse-append c.args.listing.now.stack.items (o ∷ []) in
-    container_asks file _ _ _ o w left items (c.args.at.node.object.0, held.0, held.1, heads) is refl (omega (arith, c.in_ok-members.ensures.asks honest w held, c.in_ok-head.ensures.asks)) stands

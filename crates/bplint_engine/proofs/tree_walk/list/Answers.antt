@@ -1,13 +1,11 @@
-use Rattle.std.proofs.Common.{arith, rules, ◌≡◌, ◌++◌, ◌∷◌, [], append-nil, ap, ◌∙◌, refl, subst}
+use Rattle.std.proofs.Common.{rules, ◌≡◌, ◌++◌, ◌∷◌, [], append-nil, ap, ◌∙◌, refl, subst}
 use Rattle.std.specs.Prelude.{reverse}
 use Rattle.std.proofs.lemmas.List.{reverse-append}
 use Rattle.std.proofs.lemmas.Result.{err_from_is_err_and}
 use Rattle.bplint_engine.specs.declared.tree_walk.Listing.{Listing}
-use Rattle.bplint_engine.specs.ListAsks.{AsksOn, walk_bytes}
 use Rattle.bplint_engine.specs.Names.{name_in}
 use Rattle.bplint_engine.specs.Tree.{tree_lines}
 use Rattle.bplint_engine.specs.TreeWalks.{ListsOnIn}
-use Rattle.bplint_engine.proofs.TreeAsks.{asks_all, asks_failed, asks_more}
 use Rattle.bplint_engine.proofs.TreeSteps.{step_fail, step_more}
 use Rattle.bplist_cursor.proofs.SameFiles.{same_file}
 use Rattle.bplint_engine.proofs.tree_walk.list.Goals as goal
@@ -15,7 +13,6 @@ use Rattle.bplint_engine.proofs.tree_walk.list.Goals as goal
 pub loop-opened-init : goal.loop-opened-init
 loop-opened-init g c = record {
   same = c.in_ok-begin.ensures.reads;
-  asks = λ t w held. asks_all c.args.checked.now _ _ (walk_bytes w) (c.in_ok-begin.ensures.asks_on t w held 0 (rw c.requires.begins refl));
   stack = c.in_ok-begin.ensures.stack;
   lines = λ t w held. subst (ListsOnIn c.args.style c.args.checked.now _ _ _ _) (append-nil (tree_lines c.args.style (name_in c.args.listing.now.names c.args.top.name) w))
       (c.in_ok-begin.ensures.exact t w held [] (rw c.requires.begins refl));
@@ -30,8 +27,6 @@ loop-opened-preserved g c =
     let popped : Listing = record { alloc = was.alloc; stack = c.pop.new.self; names = was.names; line = was.line; room = was.room; sink = was.sink } in
     record {
       same = same_file c.args.checked.now c.in_ok-step.ensures.reads i.same;
-      asks = λ t w held. asks_more c.args.checked.now c.loop-opened.checked _ (c.in-Some.opened ∷ reverse c.pop.new.self.items) _ (walk_bytes w) i.same t
-          (subst (λ os. AsksOn c.args.checked.now c.loop-opened.checked.asked os (walk_bytes w)) turned (i.asks t w held)) c.in_ok-step.ensures.asks_on;
       stack = rw i.same at c.in_ok-step.ensures.stack;
       lines = λ t w held.
           step_more c.args.style c.args.checked.now c.loop-opened.checked i.same (g.W.Write.contents c.args.out.now) (g.W.Write.contents c.loop-opened.out) (g.W.Write.contents c.step.new.out)
@@ -50,15 +45,3 @@ returns-in_err-step-clause-exact g c = λ honest w held few.
     rw (p.1, p.2) (step_fail c.args.style c.args.checked.now c.loop-opened.checked i.same (g.W.Write.contents c.args.out.now) (g.W.Write.contents c.loop-opened.out) (g.W.Write.contents c.step.new.out)
     c.args.listing.now was popped (c.in-Some.opened ∷ reverse c.pop.new.self.items) (tree_lines c.args.style (name_in c.args.listing.now.names c.args.top.name) w) c.in_err-step.field-0.0
     turned refl refl (i.lines honest w held) honest c.in_err-step.ensures.exact few)
-
-pub returns-in_err-step-clause-asks : goal.returns-in_err-step-clause-asks
-returns-in_err-step-clause-asks g c = λ honest w held.
-    let i = c.loop-opened.invariant in
-    let was = c.loop-opened.listing in
-    let items : was.stack.items ≡ c.pop.new.self.items ++ c.in-Some.opened ∷ [] = search rules in
-    let turned = ap reverse items ∙ reverse-append c.pop.new.self.items (c.in-Some.opened ∷ []) in
-    asks_failed c.args.checked.now c.loop-opened.checked _ (c.in-Some.opened ∷ reverse c.pop.new.self.items) (walk_bytes w) i.same honest
-    (subst (λ os. AsksOn c.args.checked.now c.loop-opened.checked.asked os (walk_bytes w)) turned (i.asks honest w held)) c.in_err-step.ensures.asks
-
-pub returns-clause-asks : goal.returns-clause-asks
-returns-clause-asks g c = λ honest w held. let on = (c.loop-opened.invariant.asks honest w held).2 in omega (arith, on)

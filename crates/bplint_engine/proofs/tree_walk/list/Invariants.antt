@@ -2,7 +2,6 @@ use Rattle.std.proofs.Common.{◌+◌, ◌*◌, IsTrue, length}
 use Rattle.std.specs.Prelude.{reverse}
 use Rattle.bplist_objects.specs.Value.{Value}
 use Rattle.bplist_cursor.specs.Found.{IsHeld}
-use Rattle.bplint_engine.specs.ListAsks.{AsksOn, walk_bytes}
 use Rattle.bplint_engine.specs.Names.{name_in}
 use Rattle.bplint_engine.specs.Tree.{tree_lines}
 use Rattle.bplint_engine.specs.TreeWalks.{AreOpen, ListsOnIn}
@@ -10,12 +9,10 @@ use Rattle.bplist_cursor.specs.Kept.{IsSameFile}
 use Rattle.bplint_engine.proofs.tree_walk.list.Given as goal
 
 -- the file is unchanged and the stack can be read; over an honest source a first part of the lines was put in, and the
--- stack still has to list the rest, and what it still asks for and what was asked for is no more than all
+-- stack still has to list the rest
 abbrev pub invariant-loop-opened : goal.invariant-loop-opened
 invariant-loop-opened g l = record {
   same : IsSameFile l.fn.checked l.checked;
-  asks : IsTrue l.fn.checked.source.honest → (w : Value) → IsHeld l.fn.checked l.fn.top.node.object.0 w
-      → AsksOn l.fn.checked l.checked.asked (reverse l.listing.stack.items) (walk_bytes w);
   stack : AreOpen l.fn.checked.frame l.listing.names (reverse l.listing.stack.items);
   lines : IsTrue l.fn.checked.source.honest → (w : Value) → IsHeld l.fn.checked l.fn.top.node.object.0 w
       → ListsOnIn l.fn.style l.fn.checked (g.W.Write.contents l.fn.out) (g.W.Write.contents l.out) l.fn.listing l.listing (tree_lines l.fn.style (name_in l.fn.listing.names l.fn.top.name) w);

@@ -2,7 +2,6 @@ use Rattle.std.proofs.Common.{arith, ◌∙◌, Some, ap, sym}
 use Rattle.std.proofs.lemmas.Result.{err_from_is_err_and}
 use Rattle.bplint_lines.specs.MemberNames.{key_name}
 use Rattle.bplint_engine.specs.Names.{name_in}
-use Rattle.bplint_engine.proofs.TreeAsks.{pair_name}
 use Rattle.bplint_engine.proofs.TreeLines.{dict_named}
 use Rattle.bplint_engine.proofs.tree_walk.name_value.Goals as goal
 
@@ -30,27 +29,3 @@ returns-clause-exact g c = λ honest w of is.
       there.4 path ∙ ap (λ n. Some (n, there.1)) (ap (key_name c.args.style path c.args.opened.now.next) (sym same) ∙ sym c.in_ok-name.ensures.1),
       held honest w there.1 of there.3,
     )
-
-pub returns-in_err-units-clause-asks : goal.returns-in_err-units-clause-asks
-returns-in_err-units-clause-asks g c = λ honest w of is.
-    let dict = rw c.requires.dict at is in
-    let there = dict_named c.args.style _ c.args.opened.now.next w dict c.requires.within in
-    omega (arith, pair_name _ _ w there.0 dict there.2, c.in_err-units.ensures.asks honest w there.0 of there.2)
-
-pub returns-in_err-node-clause-asks : goal.returns-in_err-node-clause-asks
-returns-in_err-node-clause-asks g c = λ honest w of is.
-    let dict = rw c.requires.dict at is in
-    let there = dict_named c.args.style _ c.args.opened.now.next w dict c.requires.within in
-    omega (arith, pair_name _ _ w there.0 dict there.2, c.in_ok-units.ensures.asks honest w there.0 of there.2, c.in_err-node.ensures.asks)
-
-pub returns-in_err-name-clause-asks : goal.returns-in_err-name-clause-asks
-returns-in_err-name-clause-asks g c = λ honest w of is.
-    let dict = rw c.requires.dict at is in
-    let there = dict_named c.args.style _ c.args.opened.now.next w dict c.requires.within in
-    omega (arith, pair_name _ _ w there.0 dict there.2, c.in_ok-units.ensures.asks honest w there.0 of there.2, c.in_ok-node.ensures.asks)
-
-pub returns-clause-asks : goal.returns-clause-asks
-returns-clause-asks g c = λ honest w of is.
-    let dict = rw c.requires.dict at is in
-    let there = dict_named c.args.style _ c.args.opened.now.next w dict c.requires.within in
-    omega (arith, pair_name _ _ w there.0 dict there.2, c.in_ok-units.ensures.asks honest w there.0 of there.2, c.in_ok-node.ensures.asks)

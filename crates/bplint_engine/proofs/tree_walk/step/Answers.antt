@@ -10,8 +10,6 @@ use Rattle.bplint_engine.specs.Names.{name_in}
 use Rattle.bplint_engine.specs.Tree.{joined_lines, tree_lines}
 use Rattle.bplint_engine.specs.TreeWalks.{AllLinesLeftIn}
 use Rattle.bplint_engine.proofs.Puts.{cursor_stops, excused_stops}
-use Rattle.bplint_engine.specs.ListAsks.{AllBytesLeftIn}
-use Rattle.bplint_engine.proofs.TreeAsks.{ended_asks, name_within, named_asks, step_asks}
 use Rattle.bplint_engine.proofs.TreeSteps.{left_next, open_in_all, step_ends, step_goes}
 use Rattle.bplint_engine.proofs.tree_walk.step.Goals as goal
 
@@ -54,52 +52,3 @@ returns-clause-exact g c = λ honest left stands.
     let mid : Listing = record { alloc = kept.alloc; stack = c.push.new.self; names = kept.names; line = kept.line; room = kept.room; sink = kept.sink } in
     step_goes c.args.style file (g.W.Write.contents c.args.out.now) (g.W.Write.contents c.begin.new.out) c.begin.result c.args.listing.now mid c.begin.new.listing left (tree_lines c.args.style name member.0) next.rest
     next.is c.in_ok-at.ensures.rest.sink c.in_ok-at.ensures.rest.room (subst (λ os. AllLinesLeftIn c.args.style file kept.names os next.rest) (sym items) pushed) begins
-
-pub returns-then-is_done-clause-asks_on : goal.returns-then-is_done-clause-asks_on
-returns-then-is_done-clause-asks_on g c = λ honest left stands.
-    ended_asks c.args.checked.now c.args.opened (reverse c.args.listing.now.stack.items) left stands
-
-pub returns-in_err-at-clause-asks : goal.returns-in_err-at-clause-asks
-returns-in_err-at-clause-asks g c = λ honest left stands.
-    let on : c.args.opened.next < c.args.opened.count = first_of (search rules, grind (arith, common_steps)) in
-    let of = stands.2 in
-    let is = stands.4 in
-    let own = of.3 in
-    omega (arith, is, own, name_within c.args.style _ _ of.0 _ of.2 on, c.in_err-at.ensures.asks honest of.0 of.1 of.2)
-
-pub returns-in_err-push-clause-asks : goal.returns-in_err-push-clause-asks
-returns-in_err-push-clause-asks g c = λ honest left stands.
-    let on : c.args.opened.next < c.args.opened.count = first_of (search rules, grind (arith, common_steps)) in
-    let of = stands.2 in
-    let is = stands.4 in
-    let own = of.3 in
-    omega (arith, is, own, name_within c.args.style _ _ of.0 _ of.2 on, c.in_ok-at.ensures.asks honest of.0 of.1 of.2)
-
-pub returns-clause-asks : goal.returns-clause-asks
-returns-clause-asks g c = λ honest left stands.
-    let file = c.args.checked.now in
-    let o = c.args.opened in
-    let of = stands.2 in
-    let member = c.in_ok-at.ensures.exact honest of.0 of.1 of.2 in
-    let next = named_asks file c.args.style (name_in c.args.listing.now.names o.name) o (reverse c.args.listing.now.stack.items) stands.0 stands.1 left of.0 _ member.0 of.1 of.2 of.3 stands.3 stands.4 member.1 in
-    let begins = (rw c.in_ok-at.ensures.reads at c.begin.ensures.asks) honest member.0 member.2 in
-    let all = next.2 in
-    omega (arith, all, begins, c.in_ok-at.ensures.asks honest of.0 of.1 of.2)
-
-pub returns-clause-asks_on : goal.returns-clause-asks_on
-returns-clause-asks_on g c =
-    let file = c.args.checked.now in
-    let o = c.args.opened in
-    let kept = c.name_member.new.listing in
-    let on : Opened = record { head = o.head; members = o.members; count = o.count; next = o.next + 1; name = o.name } in
-    let items : reverse c.push.new.self.items ≡ on ∷ reverse c.args.listing.now.stack.items =
-    ap reverse c.in_ok-push.ensures.items ∙ reverse-append kept.stack.items (on ∷ []) ∙ ap (λ l. on ∷ reverse l) c.in_ok-at.ensures.rest.stack in
-    on_ok_weaker c.begin.result
-    (λ begins honest left stands.
-    let of = stands.2 in
-    let member = c.in_ok-at.ensures.exact honest of.0 of.1 of.2 in
-    let next = named_asks file c.args.style (name_in c.args.listing.now.names o.name) o (reverse c.args.listing.now.stack.items) stands.0 stands.1 left of.0 _ member.0 of.1 of.2 of.3 stands.3 stands.4 member.1 in
-    let pushed = next.1 on refl refl refl refl in
-    step_asks file c.name_member.new.checked.asked _ _ of.0 member.0 o.next next.0 left (c.in_ok-at.ensures.asks honest of.0 of.1 of.2) next.2
-    ((rw c.in_ok-at.ensures.reads at begins) honest member.0 member.2 next.0 (subst (λ os. AllBytesLeftIn file os next.0) (sym items) pushed)))
-    c.begin.ensures.asks_on

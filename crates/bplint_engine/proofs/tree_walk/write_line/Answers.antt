@@ -22,15 +22,3 @@ members_of-requires g c = rw c.len-length.ensures c.in_ok-shown.ensures.room
 
 pub returns-clause-exact : goal.returns-clause-exact
 returns-clause-exact g c = grind (arith, common_steps)
-
-pub returns-in_err-shown-clause-asks : goal.returns-in_err-shown-clause-asks
-returns-in_err-shown-clause-asks g c = λ honest w held. c.in_err-shown.ensures.asks honest held.0 w held.1
-
-pub returns-in_err-make_line-clause-asks : goal.returns-in_err-make_line-clause-asks
-returns-in_err-make_line-clause-asks g c = λ honest w held. c.in_ok-shown.ensures.asks honest held.0 w held.1
-
-pub returns-in_err-put-clause-asks : goal.returns-in_err-put-clause-asks
-returns-in_err-put-clause-asks g c = λ honest w held. c.in_ok-shown.ensures.asks honest held.0 w held.1
-
-pub returns-clause-asks : goal.returns-clause-asks
-returns-clause-asks g c = λ honest w held. c.in_ok-shown.ensures.asks honest held.0 w held.1

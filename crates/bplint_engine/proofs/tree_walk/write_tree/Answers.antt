@@ -1,6 +1,5 @@
 use Rattle.std.proofs.Common.{arith, rules, ◌≡◌, Err}
 use Rattle.bplint_lines.specs.declared.fault.RunFault.TheVariants.{Write}
-use Rattle.bplint_engine.proofs.LineLengths.{walk_listed}
 use Rattle.bplint_engine.proofs.Puts.{flush_cut, flushed}
 use Rattle.bplint_engine.proofs.tree_walk.write_tree.Goals as goal
 
@@ -14,15 +13,3 @@ pub returns-clause-exact : goal.returns-clause-exact
 returns-clause-exact g c = λ honest w held few begins.
     let takes = rw c.whole.ensures.1 at c.in_ok-list.ensures.exact in
     flushed begins (takes honest w held few) c.in_ok-flush.ensures.taken c.in_ok-flush.ensures.empty
-
-pub returns-in_err-list-clause-asks : goal.returns-in_err-list-clause-asks
-returns-in_err-list-clause-asks g c = λ honest w held.
-    omega (arith, walk_listed c.args.style c.args.listing.names w, c.in_err-list.ensures.asks honest w held)
-
-pub returns-in_err-flush-clause-asks : goal.returns-in_err-flush-clause-asks
-returns-in_err-flush-clause-asks g c = λ honest w held.
-    omega (arith, walk_listed c.args.style c.args.listing.names w, c.in_ok-list.ensures.asks honest w held)
-
-pub returns-clause-asks : goal.returns-clause-asks
-returns-clause-asks g c = λ honest w held.
-    omega (arith, walk_listed c.args.style c.args.listing.names w, c.in_ok-list.ensures.asks honest w held)

@@ -9,7 +9,7 @@ use Rattle.bplist_ascii.proofs.SearchSteps.{no_text_of, texts_more, has_text, no
 use Rattle.bplist_ascii.proofs.formless.first_without_text.Goals as goal
 
 pub loop-node-init : goal.loop-node-init
-loop-node-init g c = record { same = refl; near = omega arith; asked = omega arith; so_far = λ honest n v held shown j l. absurd (omega (arith, l)) }
+loop-node-init g c = record { same = refl; near = omega arith; so_far = λ honest n v held shown j l. absurd (omega (arith, l)) }
 
 pub returns-in_err-node-clause-exact : goal.returns-in_err-node-clause-exact
 returns-in_err-node-clause-exact g c = λ honest n v held none shown.
@@ -34,7 +34,6 @@ pub loop-node-preserved : goal.loop-node-preserved
 loop-node-preserved g c = record {
   same = search rules;
   near = let within = rw c.in-Some.is at c.in_ok-node.ensures.within in omega (arith, within);
-  asked = omega (arith, c.loop-node.invariant.asked, c.in_ok-node.ensures.asks);
   so_far = λ honest n v held shown.
       let file = c.args.checked.now in
       let head = c.args.head.now in
@@ -52,12 +51,3 @@ returns-clause-exact g c = λ honest n v held none shown.
     let head = c.args.head.now in
     let member = subst (IsMember file head c.loop-node.i) (none_from c.in_ok-node.field-0 c.in_default.not-Some) ((rw c.loop-node.invariant.same at c.in_ok-node.ensures.reference) honest) in
     absurd (not_all file head n v held shown c.requires.container c.loop-node.i member (c.loop-node.invariant.so_far honest n v held shown) none)
-
-pub returns-in_err-node-clause-asks : goal.returns-in_err-node-clause-asks
-returns-in_err-node-clause-asks g c = omega (arith, c.loop-node.invariant.asked, c.loop-node.invariant.near, c.in_err-node.ensures.asks)
-
-pub returns-then-has_no_form-clause-asks : goal.returns-then-has_no_form-clause-asks
-returns-then-has_no_form-clause-asks g c = omega (arith, c.loop-node.invariant.asked, c.loop-node.invariant.near, c.in_ok-node.ensures.asks)
-
-pub returns-clause-asks : goal.returns-clause-asks
-returns-clause-asks g c = omega (arith, c.loop-node.invariant.asked, c.loop-node.invariant.near, c.in_ok-node.ensures.asks)

@@ -1,7 +1,6 @@
 use Rattle.std.proofs.Common.{rules, arith, ◌≡◌, Err}
 use Rattle.std.proofs.lemmas.Result.{err_from_is_err_and}
 use Rattle.bplist_cursor.proofs.StepReferences.{content_of_value}
-use Rattle.bplist_ascii.proofs.SearchAsks.{refs_few}
 use Rattle.bplist_ascii.proofs.SearchSteps.{own_kind}
 use Rattle.bplist_cursor.proofs.SameFiles.{same_file}
 use Rattle.bplist_cursor.specs.Kept.{IsSameFile}
@@ -34,7 +33,6 @@ returns-else-height-clause-exact g c = λ honest v held none.
 pub returns-in_default : goal.returns-in_default
 returns-in_default g c = record {
   reads = c.in_ok-head.ensures.reads;
-  asks = λ honest e takes. omega (arith, c.in_ok-head.ensures.asks);
   exact = λ honest v held none.
       let file = c.args.checked.now in
       let head = c.in_ok-head.head in
@@ -42,24 +40,3 @@ returns-in_default g c = record {
       (c.in_ok-head.ensures.exact honest held.0) held.1 none;
   lower = tt;
 }
-
-pub returns-in_err-part-in-Array-clause-asks : goal.returns-in_err-part-in-Array-clause-asks
-returns-in_err-part-in-Array-clause-asks g c = λ honest e takes.
-    let file = c.args.checked.now in
-    let low = (rw c.in_ok-head.ensures.reads at c.frame-bounds.ensures.checked).safe.safe.ref_low in
-    let few = refs_few file.source.octets file.frame c.args.node.object.0 e c.in_ok-head.head low (c.in_ok-head.ensures.shape honest) takes in
-    omega (arith, few, c.in_ok-head.ensures.asks, c.in_err-part-in-Array.ensures.asks)
-
-pub returns-then-height-clause-asks : goal.returns-then-height-clause-asks
-returns-then-height-clause-asks g c = λ honest e takes.
-    let file = c.args.checked.now in
-    let low = (rw c.in_ok-head.ensures.reads at c.frame-bounds.ensures.checked).safe.safe.ref_low in
-    let few = refs_few file.source.octets file.frame c.args.node.object.0 e c.in_ok-head.head low (c.in_ok-head.ensures.shape honest) takes in
-    omega (arith, few, c.in_ok-head.ensures.asks, c.in_ok-part-in-Array.ensures.asks)
-
-pub returns-else-height-clause-asks : goal.returns-else-height-clause-asks
-returns-else-height-clause-asks g c = λ honest e takes.
-    let file = c.args.checked.now in
-    let low = (rw c.in_ok-head.ensures.reads at c.frame-bounds.ensures.checked).safe.safe.ref_low in
-    let few = refs_few file.source.octets file.frame c.args.node.object.0 e c.in_ok-head.head low (c.in_ok-head.ensures.shape honest) takes in
-    omega (arith, few, c.in_ok-head.ensures.asks, c.in_ok-part-in-Array.ensures.asks)

@@ -1,4 +1,4 @@
-use Rattle.std.proofs.Common.{rules, arith, ◌≤◌, length, take, refl, sym, ap, ◌∙◌}
+use Rattle.std.proofs.Common.{rules, arith, ◌≤◌, length, take, sym, ap, ◌∙◌}
 use Rattle.std.proofs.lemmas.List.{take_all}
 use Rattle.std.specs.List.{list_all}
 use Rattle.bplist_objects.specs.Units.{units_of}
@@ -7,9 +7,6 @@ use Rattle.bplist_objects.proofs.Units.{length-units_at}
 use Rattle.std.specs.Char.{is_ascii_alphanumeric}
 use Rattle.bplist_cert.specs.CheckedFile.{meaning_of}
 use Rattle.bplist_ascii.proofs.WriteSteps.{part_not_unquoted, all_more, all_is_unquoted}
-use Rattle.bplist_objects.specs.Announced.{item_size}
-use Rattle.bplist_cursor.proofs.PassSteps.{a_block_more}
-use Rattle.bplist_ascii.proofs.AskSteps.{all_units}
 use Rattle.bplist_ascii.proofs.leaves.is_unquoted.Goals as goal
 
 pub returns-then-not-are_plain-clause-exact : goal.returns-then-not-are_plain-clause-exact
@@ -27,7 +24,6 @@ loop-units-preserved g c =
     record {
       same = search rules;
       of = c.in_ok-read.ensures.same ∙ i.of;
-      asked = a_block_more _ _ _ c.loop-units.units.next _ (item_size 1 c.args.head.now.kind) i.asked (rw i.of at c.in_ok-read.ensures.asks_block);
       so_far = λ honest.
           ap (λ n. list_all is_ascii_alphanumeric (take n us)) (sym block.long)
           ∙ all_more is_ascii_alphanumeric us c.loop-units.units.next (length c.block.result.now) (i.so_far honest) (ap (list_all is_ascii_alphanumeric) (sym (block.units honest)) ∙ sym c.if-not-are_plain.ensures);
@@ -41,18 +37,3 @@ returns-clause-exact g c = λ honest.
     let end = c.in_ok-read.ensures.end c.if-branch.false in
     let all : length us ≤ c.loop-units.units.next = omega (arith, long, end.1, ap (λ h. h.count) i.of) in
     sym (all_is_unquoted us (omega (arith, long, c.if-head-eq0.false)) (ap (list_all is_ascii_alphanumeric) (sym (take_all c.loop-units.units.next us all)) ∙ i.so_far honest))
-
-pub returns-in_err-read-clause-asks : goal.returns-in_err-read-clause-asks
-returns-in_err-read-clause-asks g c =
-    let i = c.loop-units.invariant in
-    all_units c.args.head.now.kind _ _ _ c.loop-units.units.next _ c.args.head.now.count c.requires.text.kind refl i.asked (rw i.of at c.in_err-read.ensures.asks)
-
-pub returns-then-not-are_plain-clause-asks : goal.returns-then-not-are_plain-clause-asks
-returns-then-not-are_plain-clause-asks g c =
-    let i = c.loop-units.invariant in
-    all_units c.args.head.now.kind _ _ _ c.loop-units.units.next _ c.args.head.now.count c.requires.text.kind refl i.asked (rw i.of at c.in_ok-read.ensures.asks)
-
-pub returns-clause-asks : goal.returns-clause-asks
-returns-clause-asks g c =
-    let i = c.loop-units.invariant in
-    all_units c.args.head.now.kind _ _ _ c.loop-units.units.next _ c.args.head.now.count c.requires.text.kind refl i.asked (rw i.of at c.in_ok-read.ensures.asks)

@@ -45,7 +45,6 @@ loop-done-preserved g c =
     record {
       same = search rules;
       reached = omega arith;
-      asked = omega (arith, len, c.loop-done.invariant.asked, c.in_ok-body_bytes.ensures.asks);
       so_far = text_more _ _ c.loop-done.invariant.so_far c.in_ok-write_digits.ensures.adds (λ honest.
           ap (λ x. flat_map hex_digits (take c.loop-done.done all) ++ flat_map hex_digits x)
           ((rw c.loop-done.invariant.same at c.in_ok-body_bytes.ensures.filled) honest ∙ ap (part f (c.args.head.now.body + c.loop-done.done)) len
@@ -59,13 +58,3 @@ returns-clause-adds g c =
     let all = part f c.args.head.now.body c.args.head.now.count in
     let long = length-take c.args.head.now.count (drop c.args.head.now.body f) in
     text_under (λ _. ap (flat_map hex_digits) (take_all c.loop-done.done all (omega (arith, long)))) c.loop-done.invariant.so_far
-
-pub returns-in_err-body_bytes-clause-asks : goal.returns-in_err-body_bytes-clause-asks
-returns-in_err-body_bytes-clause-asks g c =
-    let len : length (take c.min-now.result c.loop-done.buffer) ≡ c.min-now.result = length-take-le c.min-now.result c.loop-done.buffer (omega arith) in
-    omega (arith, len, c.loop-done.invariant.asked, c.in_err-body_bytes.ensures.asks)
-
-pub returns-in_err-write_digits-clause-asks : goal.returns-in_err-write_digits-clause-asks
-returns-in_err-write_digits-clause-asks g c =
-    let len : length (take c.min-now.result c.loop-done.buffer) ≡ c.min-now.result = length-take-le c.min-now.result c.loop-done.buffer (omega arith) in
-    omega (arith, len, c.loop-done.invariant.asked, c.in_ok-body_bytes.ensures.asks)

@@ -1,4 +1,4 @@
-use Rattle.std.proofs.Common.{◌≤◌, ◌+◌, ◌-◌, take, IsTrue}
+use Rattle.std.proofs.Common.{◌≤◌, ◌-◌, take, IsTrue}
 use Rattle.std.specs.List.{flat_map}
 use Rattle.bplist_octets.specs.Octets.{part}
 use Rattle.bplist_ascii.specs.BoundedWrites.{hex_digits}
@@ -13,7 +13,6 @@ invariant-loop-done g l =
     record {
       same : IsSameFile file l.checked;
       reached : l.done ≤ l.head.count;
-      asked : l.checked.asked ≤ file.asked + l.done;
       so_far : AddsText (g.W.Write.contents l.fn.out) (g.W.Write.contents l.out) l.fn.sink l.sink l.fn.room l.room
           (IsTrue file.source.honest) (flat_map hex_digits (take l.done (part file.source.octets l.head.body l.head.count)));
     }

@@ -9,9 +9,6 @@ use Rattle.bplist_objects.proofs.Units.{length-units_at}
 use Rattle.bplist_cert.specs.CheckedFile.{meaning_of}
 use Rattle.bplist_ascii.specs.BoundedWrites.{styled, fits}
 use Rattle.bplist_ascii.proofs.WriteSteps.{on_err, adds_nothing, adds_some, adds_fit, adds_within, adds_fail, text_more, text_adds, flat_part, flat_parts, all_in_part, length-unquoted, text_under}
-use Rattle.bplist_objects.specs.Announced.{item_size}
-use Rattle.bplist_cursor.proofs.PassSteps.{a_block_more}
-use Rattle.bplist_ascii.proofs.AskSteps.{all_units}
 use Rattle.bplist_ascii.proofs.leaves.write_text_body.Goals as goal
 
 pub loop-sink-init : goal.loop-sink-init
@@ -21,7 +18,6 @@ loop-sink-init g c =
     record {
       same = refl;
       of = c.of-units.ensures.of;
-      asked = omega (arith, start);
       so_far = record {
         bytes = [];
         adds = adds_nothing _ _ _;
@@ -68,7 +64,6 @@ loop-sink-preserved g c =
     record {
       same = search rules;
       of = c.in_ok-read.ensures.same ∙ i.of;
-      asked = a_block_more _ _ _ from _ (item_size 1 c.args.text.now.head.kind) i.asked (rw i.of at c.in_ok-read.ensures.asks_block);
       so_far = text_more _ _ i.so_far c.in_ok-write_units.ensures.adds (λ honest.
           ap (λ x. flat_map f (take from us) ++ flat_map f x) (block.units honest)
           ∙ flat_part f us from (length lent)
@@ -88,21 +83,3 @@ returns-clause-adds g c =
     let end = c.in_ok-read.ensures.end c.if-branch.false in
     let all : length us ≤ c.loop-sink.units.next = omega (arith, long, end.1, ap (λ h. h.count) i.of) in
     text_under (λ _. ap (flat_map (styled c.args.text.now.style)) (take_all c.loop-sink.units.next us all)) i.so_far
-
-pub returns-in_err-read-clause-asks : goal.returns-in_err-read-clause-asks
-returns-in_err-read-clause-asks g c =
-    let i = c.loop-sink.invariant in
-    let head = c.args.text.now.head in
-    all_units head.kind _ _ _ c.loop-sink.units.next _ head.count c.requires.text.kind refl i.asked (rw i.of at c.in_err-read.ensures.asks)
-
-pub returns-in_err-write_units-clause-asks : goal.returns-in_err-write_units-clause-asks
-returns-in_err-write_units-clause-asks g c =
-    let i = c.loop-sink.invariant in
-    let head = c.args.text.now.head in
-    all_units head.kind _ _ _ c.loop-sink.units.next _ head.count c.requires.text.kind refl i.asked (rw i.of at c.in_ok-read.ensures.asks)
-
-pub returns-clause-asks : goal.returns-clause-asks
-returns-clause-asks g c =
-    let i = c.loop-sink.invariant in
-    let head = c.args.text.now.head in
-    all_units head.kind _ _ _ c.loop-sink.units.next _ head.count c.requires.text.kind refl i.asked (rw i.of at c.in_ok-read.ensures.asks)

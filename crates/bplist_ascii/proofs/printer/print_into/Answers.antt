@@ -1,11 +1,9 @@
 use Rattle.std.proofs.Common.{rules, arith, ◌≡◌, ◌≢◌, ◌<◌, ◌≤◌, inl, inr, length, refl, sym, ap, ◌∙◌, subst, Some, None, Err}
 use Rattle.std.specs.Prelude.{⊤}
-use Rattle.std.proofs.Math.Logic.{∥∥₁_elim}
 use Rattle.std.proofs.lemmas.Result.{err_from_is_err_and}
 use Rattle.bplist_cursor.specs.declared.sizes.Form.TheVariants.{NoForm, Length}
 use Rattle.bplist_cursor.specs.Forms.{form_of}
 use Rattle.bplist_cursor.specs.OldStyle.{value_text}
-use Rattle.bplist_cursor.proofs.PassSteps.{within_prop}
 use Rattle.bplist_cursor.proofs.TextParts.{text_formed}
 use Rattle.bplist_octets.specs.Sending.{Takes}
 use Rattle.bplist_ascii.specs.Printed.{HasText}
@@ -77,57 +75,3 @@ returns-in_ok-write_value-in-Some-Length-clause-exact g c = λ honest vouched v 
       subst (Takes (g.W.Write.contents c.args.out.now) (g.W.Write.contents c.write_value.new.out) c.args.sink.now c.write_value.new.sink) formed.1
           (c.in_ok-write_value-in-Some-Length.ensures.exact honest v (vouched, h) formed.0),
     )
-
-pub returns-in_err-part-in-Some-NoForm-clause-asks : goal.returns-in_err-part-in-Some-NoForm-clause-asks
-returns-in_err-part-in-Some-NoForm-clause-asks g c = λ honest vouched v h text is.
-    let form = (c.requires.measured honest).form c.args.node.object.0 v vouched h in
-    let both : Some NoForm ≡ Some (form_of v) = ap Some (sym c.in-Some-NoForm.field-0-is) ∙ c.in-Some-NoForm.ensures ∙ form in
-    let none = no_text_of (value_text v) (cc both) in
-    cc (none, is)
-
-pub returns-in_ok-part-in-Some-NoForm-clause-asks : goal.returns-in_ok-part-in-Some-NoForm-clause-asks
-returns-in_ok-part-in-Some-NoForm-clause-asks g c = λ honest vouched v h text is.
-    let form = (c.requires.measured honest).form c.args.node.object.0 v vouched h in
-    let both : Some NoForm ≡ Some (form_of v) = ap Some (sym c.in-Some-NoForm.field-0-is) ∙ c.in-Some-NoForm.ensures ∙ form in
-    let none = no_text_of (value_text v) (cc both) in
-    cc (none, is)
-
-pub returns-in_err-write_value-in-Some-Length-clause-asks : goal.returns-in_err-write_value-in-Some-Length-clause-asks
-returns-in_err-write_value-in-Some-Length-clause-asks g c = λ honest vouched v h text is.
-    let form = (c.requires.measured honest).form c.args.node.object.0 v vouched h in
-    let both : Some (Length c.in-Some-Length.length) ≡ Some (form_of v) = ap Some (sym c.in-Some-Length.field-0-is) ∙ c.in-Some-Length.ensures ∙ form in
-    let t = text_of_length (value_text v) c.in-Some-Length.length (cc both) in
-    let same : text ≡ t.0 = cc (is, t.1) in
-    let formed = text_formed v t.0 t.1 in
-    omega (arith, c.in_err-write_value-in-Some-Length.ensures.asks honest v (vouched, h) formed.0, ap length formed.1, ap length same, t.2, c.if-length-limit.false, c.if-length.false)
-
-pub returns-in_ok-write_value-in-Some-Length-clause-asks : goal.returns-in_ok-write_value-in-Some-Length-clause-asks
-returns-in_ok-write_value-in-Some-Length-clause-asks g c = λ honest vouched v h text is.
-    let form = (c.requires.measured honest).form c.args.node.object.0 v vouched h in
-    let both : Some (Length c.in-Some-Length.length) ≡ Some (form_of v) = ap Some (sym c.in-Some-Length.field-0-is) ∙ c.in-Some-Length.ensures ∙ form in
-    let t = text_of_length (value_text v) c.in-Some-Length.length (cc both) in
-    let same : text ≡ t.0 = cc (is, t.1) in
-    let formed = text_formed v t.0 t.1 in
-    omega (arith, c.in_ok-write_value-in-Some-Length.ensures.asks honest v (vouched, h) formed.0, ap length formed.1, ap length same, t.2, c.if-length-limit.false, c.if-length.false)
-
-pub returns-in_err-part-in-Some-NoForm-clause-asks_search : goal.returns-in_err-part-in-Some-NoForm-clause-asks_search
-returns-in_err-part-in-Some-NoForm-clause-asks_search g c = λ honest vouched v h none.
-    ∥∥₁_elim (c.frame-frame.ensures.checked.accepted honest) (within_prop _ _) (λ a. c.in_err-part-in-Some-NoForm.ensures.asks honest a.valid v (vouched, h) none)
-
-pub returns-in_ok-part-in-Some-NoForm-clause-asks_search : goal.returns-in_ok-part-in-Some-NoForm-clause-asks_search
-returns-in_ok-part-in-Some-NoForm-clause-asks_search g c = λ honest vouched v h none.
-    ∥∥₁_elim (c.frame-frame.ensures.checked.accepted honest) (within_prop _ _) (λ a. c.in_ok-part-in-Some-NoForm.ensures.asks honest a.valid v (vouched, h) none)
-
-pub returns-in_err-write_value-in-Some-Length-clause-asks_search : goal.returns-in_err-write_value-in-Some-Length-clause-asks_search
-returns-in_err-write_value-in-Some-Length-clause-asks_search g c = λ honest vouched v h none.
-    let form = (c.requires.measured honest).form c.args.node.object.0 v vouched h in
-    let both : Some (Length c.in-Some-Length.length) ≡ Some (form_of v) = ap Some (sym c.in-Some-Length.field-0-is) ∙ c.in-Some-Length.ensures ∙ form in
-    let t = text_of_length (value_text v) c.in-Some-Length.length (cc both) in
-    cc (none, t.1)
-
-pub returns-in_ok-write_value-in-Some-Length-clause-asks_search : goal.returns-in_ok-write_value-in-Some-Length-clause-asks_search
-returns-in_ok-write_value-in-Some-Length-clause-asks_search g c = λ honest vouched v h none.
-    let form = (c.requires.measured honest).form c.args.node.object.0 v vouched h in
-    let both : Some (Length c.in-Some-Length.length) ≡ Some (form_of v) = ap Some (sym c.in-Some-Length.field-0-is) ∙ c.in-Some-Length.ensures ∙ form in
-    let t = text_of_length (value_text v) c.in-Some-Length.length (cc both) in
-    cc (none, t.1)

@@ -1,4 +1,4 @@
-use Rattle.std.proofs.Common.{rules, arith, ◌≡◌, ◌≤◌, ◌++◌, length, Err, refl, sym, ap, ◌∙◌, append_assoc}
+use Rattle.std.proofs.Common.{rules, ◌≡◌, ◌++◌, Err, refl, sym, ap, ◌∙◌, append_assoc}
 use Rattle.std.proofs.lemmas.Result.{IfErr-weaker, on_ok_weaker, err_from_is_err_and}
 use Rattle.bplist_octets.specs.Octets.{part}
 use Rattle.bplist_objects.specs.Units.{units_of}
@@ -7,7 +7,6 @@ use Rattle.bplist_cursor.specs.OldStyle.{plain}
 use Rattle.bplist_cursor.proofs.StepReferences.{content_of_value}
 use Rattle.bplist_ascii.specs.Walks.{opening_of, text_from}
 use Rattle.bplist_ascii.proofs.WriteSteps.{on_err, adds_some, read_fails, fails_under, text_adds, adds_nothing, adds_fit, adds_fail}
-use Rattle.bplist_ascii.proofs.AskSteps.{data_long, units_long}
 use Rattle.bplist_ascii.proofs.WalkSteps.{shows, shows_text, shows_container, shows_none, text_opens, stack_push, safe_push}
 use Rattle.bplist_ascii.specs.declared.printer.PrintFault.TheVariants.{Memory}
 use Rattle.bplist_ascii.proofs.walk.begin.Goals as goal
@@ -111,49 +110,7 @@ returns-in_default g c = record {
       let head = c.in_ok-head.head in
       shows_none file.source.octets file.frame head.kind head.count head.body v c.in_default.not-Ascii c.in_default.not-Wide c.in_default.not-Bytes c.in_default.not-Array c.in_default.not-Dict
       (shows file.source.octets file.frame head c.args.node.object.0 v (c.in_ok-head.ensures.exact honest held.0) held.1 formed);
-  asks = λ honest v held formed. omega (arith, c.in_ok-head.ensures.asks);
-  asks_on = tt;
   adds = tt;
   falls = tt;
   bounded = adds_fit (adds_nothing (g.W.Write.contents c.args.out.now) c.args.sink.now c.args.walk.now.room);
 }
-
-pub returns-in-Ascii-clause-asks : goal.returns-in-Ascii-clause-asks
-returns-in-Ascii-clause-asks g c = λ honest v held formed.
-    let file = c.args.checked.now in
-    let f = file.source.octets in
-    let head = c.in_ok-head.head in
-    let safe = c.in_ok-head.ensures.body in
-    let same : plain v ≡ text_of_units (units_of f head) = shows_text f file.frame head.kind head.count head.body v c.in-Ascii.is (shows f file.frame head c.args.node.object.0 v (c.in_ok-head.ensures.exact honest held.0) held.1 formed) in
-    let long : head.count ≤ length (text_of_units (units_of f head)) = units_long f head.kind head.count head.body c.in-Ascii.is (omega (arith, safe.body, safe.within)) in
-    omega (arith, ap length same, long, c.in_ok-head.ensures.asks, c.write_text.ensures.asks)
-
-pub returns-in-Ascii-clause-asks_on : goal.returns-in-Ascii-clause-asks_on
-returns-in-Ascii-clause-asks_on g c =
-    let f = c.args.checked.now.source.octets in
-    let head = c.in_ok-head.head in
-    let safe = c.in_ok-head.ensures.body in
-    let long : head.count ≤ length (text_of_units (units_of f head)) = units_long f head.kind head.count head.body c.in-Ascii.is (omega (arith, safe.body, safe.within)) in
-    on_ok_weaker c.write_text.result
-    (λ adds honest v held formed. let counted = (text_adds adds honest).counted in omega (arith, counted, long, c.in_ok-head.ensures.asks, c.write_text.ensures.asks))
-    (rw c.in_ok-head.ensures.reads at c.write_text.ensures.adds)
-
-pub returns-in-Bytes-clause-asks : goal.returns-in-Bytes-clause-asks
-returns-in-Bytes-clause-asks g c = λ honest v held formed.
-    let file = c.args.checked.now in
-    let f = file.source.octets in
-    let head = c.in_ok-head.head in
-    let safe = c.in_ok-head.ensures.body in
-    let same : plain v ≡ text_of_bytes (part f head.body head.count) = rw c.in-Bytes.is at (shows f file.frame head c.args.node.object.0 v (c.in_ok-head.ensures.exact honest held.0) held.1 formed) in
-    let long : head.count ≤ length (text_of_bytes (part f head.body head.count)) = data_long f head.count head.body (omega (arith, rw c.in-Bytes.is at safe.body, safe.within)) in
-    omega (arith, ap length same, long, c.in_ok-head.ensures.asks, c.write_data.ensures.asks)
-
-pub returns-in-Bytes-clause-asks_on : goal.returns-in-Bytes-clause-asks_on
-returns-in-Bytes-clause-asks_on g c =
-    let f = c.args.checked.now.source.octets in
-    let head = c.in_ok-head.head in
-    let safe = c.in_ok-head.ensures.body in
-    let long : head.count ≤ length (text_of_bytes (part f head.body head.count)) = data_long f head.count head.body (omega (arith, rw c.in-Bytes.is at safe.body, safe.within)) in
-    on_ok_weaker c.write_data.result
-    (λ adds honest v held formed. let counted = (text_adds adds honest).counted in omega (arith, counted, long, c.in_ok-head.ensures.asks, c.write_data.ensures.asks))
-    (rw c.in_ok-head.ensures.reads at c.write_data.ensures.adds)

@@ -1,5 +1,4 @@
-use Rattle.std.proofs.Common.{rules, arith, ◌≡◌, ◌+◌, ◌++◌, length, Err, refl, ap, subst}
-use Rattle.std.proofs.lemmas.List.{length-append}
+use Rattle.std.proofs.Common.{rules, arith, ◌≡◌, ◌+◌, ◌++◌, Err, refl, subst}
 use Rattle.std.proofs.lemmas.Result.{IfErr-weaker, on_ok_weaker, on_err_weaker, err_from_is_err_and}
 use Rattle.bplist_objects.proofs.Bounds.{refs_within}
 use Rattle.bplist_cursor.specs.OldStyle.{plain}
@@ -106,27 +105,3 @@ returns-clause-adds g c = on_ok_weaker c.begin.result (λ adds. (_, adds_more c.
 
 pub returns-clause-bounded : goal.returns-clause-bounded
 returns-clause-bounded g c = on_err_weaker c.begin.result (λ bounded. adds_within _ _ _ c.in_ok-write.ensures.adds bounded) c.begin.ensures.bounded
-
-pub returns-in_default-clause-asks_on : goal.returns-in_default-clause-asks_on
-returns-in_default-clause-asks_on g c =
-    on_ok_weaker c.write.result (λ adds honest left stands. let counted = adds.counted in omega (arith, counted, c.in_ok-node.ensures.asks)) c.write.ensures.adds
-
-pub returns-clause-asks : goal.returns-clause-asks
-returns-clause-asks g c = λ honest left stands.
-    let file = c.args.checked.now in
-    let o = c.args.opened in
-    let q = goes_on file _ _ c.in-Some.node left stands (subst (IsMember file o.head o.next) c.in-Some.is (c.in_ok-node.ensures.reference honest)) in
-    let asked = (rw c.in_ok-node.ensures.reads at c.begin.ensures.asks) honest q.value (rw c.in-Some.is at c.in_ok-node.ensures.vouched, q.holds) q.formed in
-    omega (arith, asked, c.in_ok-node.ensures.asks, ap length q.is, length-append (separator_of o.head.kind o.next) (plain q.value ++ q.rest), length-append (plain q.value) q.rest)
-
-pub returns-clause-asks_on : goal.returns-clause-asks_on
-returns-clause-asks_on g c =
-    let file = c.args.checked.now in
-    let o = c.args.opened in
-    let separator = c.in_ok-write.ensures.adds.counted in
-    on_ok_weaker c.begin.result
-    (λ on honest left stands.
-    let q = goes_on file _ _ c.in-Some.node left stands (subst (IsMember file o.head o.next) c.in-Some.is (c.in_ok-node.ensures.reference honest)) in
-    let asked = on honest q.value (rw c.in-Some.is at c.in_ok-node.ensures.vouched, q.holds) q.formed in
-    omega (arith, asked, separator, c.in_ok-node.ensures.asks))
-    (rw c.in_ok-node.ensures.reads at c.begin.ensures.asks_on)

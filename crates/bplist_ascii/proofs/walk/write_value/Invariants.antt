@@ -1,4 +1,4 @@
-use Rattle.std.proofs.Common.{IsTrue, ◌+◌, ◌*◌, ◌≤◌}
+use Rattle.std.proofs.Common.{IsTrue}
 use Rattle.bplist_objects.specs.Value.{Value}
 use Rattle.bplist_cursor.specs.Found.{IsHeld}
 use Rattle.bplist_cursor.specs.OldStyle.{IsFormed, plain}
@@ -14,8 +14,6 @@ invariant-loop-opened g l = record {
   same : IsSameFile l.fn.checked l.checked;
   heads : AreSafe l.fn.checked.frame l.walk.stack.items;
   some : AddsSome (g.W.Write.contents l.fn.out) (g.W.Write.contents l.out) l.fn.sink l.sink l.fn.walk.room l.walk.room;
-  asked : IsTrue l.fn.checked.source.honest → (v : Value) → IsHeld l.fn.checked l.fn.node.object.0 v → IsFormed v
-      → l.checked.asked + 40 * l.walk.room ≤ l.fn.checked.asked + 40 * l.fn.walk.room;
   printing : IsTrue l.fn.checked.source.honest → (v : Value) → IsHeld l.fn.checked l.fn.node.object.0 v → IsFormed v
       → GoesOn l.fn.checked (g.W.Write.contents l.fn.out) (g.W.Write.contents l.out) l.fn.sink l.sink l.fn.walk.room l.walk.room l.walk.stack.items (plain v);
 }

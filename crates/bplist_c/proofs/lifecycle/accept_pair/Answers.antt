@@ -11,10 +11,10 @@ pub returns-in-Ok : goal.returns-in-Ok
 returns-in-Ok c =
     let checked = c.in-Ok.checked in
     let is = c.in-Ok.ensures in
-    let lint = lint_of checked.frame checked.certificate (record { reached = 0; references = 0 }) in (
+    let lint = lint_of checked.frame checked.certificate (record { reached = 0; used = record { octets = 0 }; references = 0 }) in (
       Ok lint,
       is_pair c.args.file checked is.0 is.3 c.args.certificate.now is.1 is.2,
-      accepts c.args.file checked is.3 lint c.with_verdict.result refl c.with_verdict.ensures,
+      accepts c.args.file checked is.3 lint c.with_verdict.result refl (rw c.new.ensures at c.with_verdict.ensures),
     )
 
 pub returns-in-Err-Fault : goal.returns-in-Err-Fault

@@ -50,7 +50,7 @@ returns-clause-exact g c = λ honest.
     let count : length heights ≡ F.objects = grind (arith, common_steps) in
     let height = get_or_read heights F.top.0 c.index.result.now (rw count c.frame-frame.ensures.framed.safe.top) (rw c.frame-frame.ensures.frame at c.index.ensures) 0 in
     let some : 0 < slice_index heights F.top.0 = omega (arith, height, c.if-index-eq0.false) in
-    rw (c.yes.ensures, c.frame-frame.ensures.frame) (linted_yes f F framed c.args.reached s (let roomy = c.requires.fits.roomy in omega (arith, roomy.room, roomy.references)) heights count walked some)
+    (linted_yes f F framed c.args.reached s (let roomy = c.requires.fits.roomy in omega (arith, roomy.room, roomy.references)) heights count walked some)
 
 pub circle-requires-clause-heights : goal.circle-requires-clause-heights
 circle-requires-clause-heights g c = rw (c.new-objects.ensures.means, c.new-objects.ensures.view, c.in_ok-heights.ensures.reads, c.frame-frame.ensures.frame, c.deref-then-index-eq0.ensures.value) (λ honest.

@@ -10,7 +10,7 @@ returns-in_err-frame-clause-exact g c = λ honest.
     let p = err_from_is_err_and c.from_residual.result c.from_residual.ensures.1 in
     rw (p.1, p.2) (check_means _ _ (IsFileCircle f) c.in_err-frame.field-0.0 (λ fault h. h) (c.in_err-frame.ensures.exact honest))
 
-pub returns-in_err-lint-clause-exact : goal.returns-in_err-lint-clause-exact
-returns-in_err-lint-clause-exact g c = λ honest.
-    let p = err_from_is_err_and c.from_residual-in_err-lint.result c.from_residual-in_err-lint.ensures.1 in
-    rw (p.1, p.2) (fault_passed _ _ (c.new-file.ensures.means ∙ c.in_ok-frame.ensures.reads) c.in_err-lint.field-0.0 c.in_err-lint.ensures.exact honest)
+pub returns-in_err-certificate-clause-exact : goal.returns-in_err-certificate-clause-exact
+returns-in_err-certificate-clause-exact g c = λ honest.
+    let p = err_from_is_err_and c.from_residual-in_err-certificate.result c.from_residual-in_err-certificate.ensures.1 in
+    rw (p.1, p.2) (fault_passed _ _ (c.new-file.ensures.means ∙ c.in_ok-frame.ensures.reads) c.in_err-certificate.field-0.0 c.in_err-certificate.ensures.exact honest)

@@ -1,31 +1,24 @@
-use Rattle.std.proofs.Common.{◌≡◌, ◌∙◌, subst}
-use Rattle.std.proofs.lemmas.Result.{err_from_is_err_and}
-use Rattle.bplist_octets.specs.Meaning.{Meaning}
-use Rattle.bplist_objects.specs.Framed.{HonestlyIn}
-use Rattle.bplist_cert.specs.Refusals.{GivesRefusal}
-use Rattle.bplist_lint.specs.FileFault.{IsFileFault, IsFileCircle}
-use Rattle.bplist_lint.specs.Linted.{IsLintedBy}
-use Rattle.bplist_lint.specs.Refusals.{Lints}
-use Rattle.bplist_lint.proofs.Passes.{check_means}
-use Rattle.bplist_lint.proofs.linter.lint_opened.Goals.{then-count-objects, else-count-objects}
+use Rattle.std.proofs.Common.{subst, sym}
+use Rattle.bplist_objects.specs.declared.frame.Frame.{Frame}
+use Rattle.bplist_objects.specs.Framed.{frame_in}
+use Rattle.bplist_cert.specs.Lists.{Lists}
+use Rattle.bplist_lint.specs.declared.linter.Keys.{Keys}
+use Rattle.bplist_lint.specs.Upgraded.{IsLintedWith}
+use Rattle.bplist_lint.proofs.linter.lint_opened.Goals.{in-Classes+in_ok-certificate-in-Classes, in-Ranks+in_ok-certificate-in-Ranks}
 use Rattle.bplist_lint.proofs.linter.lint_opened.Goals as goal
 
-pub returns-in_err-heights-clause-exact : goal.returns-in_err-heights-clause-exact
-returns-in_err-heights-clause-exact g c = λ honest.
-    let m = g.P.Source.means c.args.src.now in
-    let same : g.P.Source.means c.known_classes.new.src ≡ m = c.in_ok-classes.ensures.reads ∙ elim c.if-count-objects.branch [
-      | then-count-objects b ↦ rw b.src-is (b.forget_places.ensures.same ∙ c.in_ok-reached.ensures.reads)
-      | else-count-objects b ↦ rw b.src-is c.in_ok-reached.ensures.reads
-    ] in
-    let p = err_from_is_err_and c.from_residual-in_err-heights.result c.from_residual-in_err-heights.ensures.1 in
-    let told = subst (λ (n : Meaning). HonestlyIn n (λ f F. GivesRefusal (IsFileFault f) c.in_err-heights.field-0.0)) same c.in_err-heights.ensures.exact honest in
-    rw (p.1, p.2) (check_means _ _ (IsFileCircle m.octets) c.in_err-heights.field-0.0 (λ fault h. h) told)
-
 pub returns-clause-exact : goal.returns-clause-exact
-returns-clause-exact g c =
-    let m = g.P.Source.means c.args.src.now in
-    let same : g.P.Source.means c.check_keys.new.src ≡ m = c.in_ok-heights.ensures.reads ∙ (c.in_ok-classes.ensures.reads ∙ elim c.if-count-objects.branch [
-      | then-count-objects b ↦ rw b.src-is (b.forget_places.ensures.same ∙ c.in_ok-reached.ensures.reads)
-      | else-count-objects b ↦ rw b.src-is c.in_ok-reached.ensures.reads
-    ]) in
-    subst (λ (n : Meaning). HonestlyIn n (λ f F. Lints (IsLintedBy f F) (IsFileFault f) (IsFileCircle f) c.finish.result)) same c.finish.ensures.exact
+returns-clause-exact g c = λ honest.
+    let f = (g.P.Source.means c.args.src.now).octets in
+    let F : Frame = frame_in (g.P.Source.means c.args.src.now) in
+    let tally = c.in_ok-reached.reached.tally in
+    elim c.match-keys.branch [
+      | in-Classes+in_ok-certificate-in-Classes w ↦
+          subst (λ (made : Lists). IsLintedWith c.args.keys f F made tally) (sym w.certificate-is)
+          (subst (λ (keys : Keys). IsLintedWith keys f F w.in_ok-certificate-in-Classes.certificate tally) (sym w.in-Classes.is)
+          ((rw c.in_ok-reached.ensures.reads at w.in_ok-certificate-in-Classes.ensures.exact) honest))
+      | in-Ranks+in_ok-certificate-in-Ranks w ↦
+          subst (λ (made : Lists). IsLintedWith c.args.keys f F made tally) (sym w.certificate-is)
+          (subst (λ (keys : Keys). IsLintedWith keys f F w.in_ok-certificate-in-Ranks.certificate tally) (sym w.in-Ranks.is)
+          ((rw c.in_ok-reached.ensures.reads at w.in_ok-certificate-in-Ranks.ensures.exact) honest))
+    ]

@@ -5,7 +5,9 @@ use Rattle.std.proofs.lemmas.Result.{err_from_is_err_and}
 use Rattle.bplist_objects.specs.declared.frame.Frame.{Frame}
 use Rattle.bplist_objects.specs.declared.head.Kind.TheVariants as kinds
 use Rattle.bplist_objects.specs.Framed.{frame_in}
-use Rattle.bplist_objects.proofs.HeadTies.{shape_announced}
+use Rattle.bplist_objects.proofs.FirstFaults.{no_shape}
+use Rattle.bplist_objects.proofs.HeadTies.{shape_announced, shape_tie}
+use Rattle.bplist_cert.proofs.CheckSteps.{object_refused}
 use Rattle.bplist_objects.proofs.FrameTies.{numbered}
 use Rattle.bplist_lint.proofs.KeyLists.{have_ranks}
 use Rattle.bplist_cert.proofs.AcceptedCertificates.{vouched_keys}
@@ -27,18 +29,21 @@ returns-then-ne-clause-exact g c = λ honest named heights starts ranked given v
     let is : c.in-Some.kind ≡ kinds.Dict = same_Some _ _ kind ∙ dict in
     false≢true (sym (rw is at c.ne.ensures) ∙ c.if-ne.true))
 
-pub returns-in_default-2-clause-exact : goal.returns-in_default-2-clause-exact
-returns-in_default-2-clause-exact g c = λ honest named heights starts ranked given valid v room l.
+pub returns-in_err-head-clause-exact : goal.returns-in_err-head-clause-exact
+returns-in_err-head-clause-exact g c = λ honest named heights starts ranked given valid v room l.
+    let f = (g.P.Source.means c.args.src.now).octets in
+    let F : Frame = frame_in (g.P.Source.means c.args.src.now) in
     let s = (valid.vouched c.args.n v).spells in
-    absurd ((rw (c.in_default-2.is, c.in_ok-kind.ensures.reads) at c.in_ok-head.ensures.shape) honest s.shape s.has)
+    let p = err_from_is_err_and c.from_residual-in_err-head.result c.from_residual-in_err-head.ensures.1 in
+    rw (p.1, p.2) (object_refused _ _ c.in_err-head.field-0.0 (λ fault h. absurd (no_shape f F c.args.n fault s.shape h s.has)) ((rw c.in_ok-kind.ensures.reads at c.in_err-head.ensures.rules) honest))
 
 pub returns-then-head-start-clause-exact : goal.returns-then-head-start-clause-exact
 returns-then-head-start-clause-exact g c = λ honest named heights starts ranked given valid v room l.
     let f = (g.P.Source.means c.args.src.now).octets in
     let F : Frame = frame_in (g.P.Source.means c.args.src.now) in
     let n = c.args.n in
-    let head = c.in-Some-2.head in
-    let shape = (rw (c.in-Some-2.is, c.in_ok-kind.ensures.reads) at c.in_ok-head.ensures.shape) honest in
+    let head = c.in_ok-head.head in
+    let shape = (shape_tie f F n valid.frame c.requires.within head).0 ((rw c.in_ok-kind.ensures.reads at c.in_ok-head.ensures.rules) honest) in
     let has = shape_announced f F n head shape in
     let begin : c.len-start.result ≡ length c.args.lists.now.positions.items = omega (arith, c.args.lists.now.positions.ok.0, c.len-start.ensures) in
     let fits = listed_room f F heights n starts c.args.lists.now.positions.items l v room head shape c.in-Dict.is (numbered valid.frame).ref_size.0 valid.room in
@@ -49,8 +54,8 @@ returns-in_err-list-in-Dict-clause-exact g c = λ honest named heights starts ra
     let f = (g.P.Source.means c.args.src.now).octets in
     let F : Frame = frame_in (g.P.Source.means c.args.src.now) in
     let n = c.args.n in
-    let head = c.in-Some-2.head in
-    let shape = (rw (c.in-Some-2.is, c.in_ok-kind.ensures.reads) at c.in_ok-head.ensures.shape) honest in
+    let head = c.in_ok-head.head in
+    let shape = (shape_tie f F n valid.frame c.requires.within head).0 ((rw c.in_ok-kind.ensures.reads at c.in_ok-head.ensures.rules) honest) in
     let has = shape_announced f F n head shape in
     let keys = vouched_keys f F heights valid n v head has c.in-Dict.is in
     let have = have_ranks f F named c.args.lists.now.ranks.table.items ranked n given head has c.in-Dict.is keys.0 keys.1 in
@@ -62,8 +67,8 @@ returns-in_ok-list-in-Dict-clause-exact g c = λ honest named heights starts ran
     let f = (g.P.Source.means c.args.src.now).octets in
     let F : Frame = frame_in (g.P.Source.means c.args.src.now) in
     let n = c.args.n in
-    let head = c.in-Some-2.head in
-    let shape = (rw (c.in-Some-2.is, c.in_ok-kind.ensures.reads) at c.in_ok-head.ensures.shape) honest in
+    let head = c.in_ok-head.head in
+    let shape = (shape_tie f F n valid.frame c.requires.within head).0 ((rw c.in_ok-kind.ensures.reads at c.in_ok-head.ensures.rules) honest) in
     let has = shape_announced f F n head shape in
     let keys = vouched_keys f F heights valid n v head has c.in-Dict.is in
     let have = have_ranks f F named c.args.lists.now.ranks.table.items ranked n given head has c.in-Dict.is keys.0 keys.1 in
@@ -80,8 +85,8 @@ returns-in_default-kind g c = record {
       let f = (g.P.Source.means c.args.src.now).octets in
       let F : Frame = frame_in (g.P.Source.means c.args.src.now) in
       let n = c.args.n in
-      let head = c.in-Some-2.head in
-      let shape = (rw (c.in-Some-2.is, c.in_ok-kind.ensures.reads) at c.in_ok-head.ensures.shape) honest in
+      let head = c.in_ok-head.head in
+      let shape = (shape_tie f F n valid.frame c.requires.within head).0 ((rw c.in_ok-kind.ensures.reads at c.in_ok-head.ensures.rules) honest) in
       let has = shape_announced f F n head shape in
       listed_other f F heights n starts c.args.lists.now.positions.items l v room head shape c.in_default-kind.not-Dict;
 }

@@ -52,3 +52,6 @@ returns-in-NoRule c = ap sentence_of (sym c.in-NoRule.is)
 
 pub returns-in-NoStatus : goal.returns-in-NoStatus
 returns-in-NoStatus c = ap sentence_of (sym c.in-NoStatus.is)
+
+pub returns-in-Unpaired : goal.returns-in-Unpaired
+returns-in-Unpaired c = ap sentence_of (sym c.in-Unpaired.is)

@@ -1,2 +1,0 @@
-pub mod CountedSteps
-pub mod WalkedFolders

@@ -1,5 +1,0 @@
-mod Findings
-mod Layouts
-mod Orders
-mod RowOrder
-mod MapText

@@ -1,4 +1,0 @@
-pub mod Layout
-pub mod Lines
-pub mod Map
-pub mod Rows

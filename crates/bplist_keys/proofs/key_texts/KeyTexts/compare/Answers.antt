@@ -1,0 +1,20 @@
+use Rattle.std.proofs.Common.{sym, ◌∙◌, inl, inr, Less, Equal, Greater}
+use Rattle.std.proofs.lemmas.Bool.{cases_order}
+use Rattle.std.specs.Cmp.{nat_cmp_is}
+use Rattle.bplist_objects.proofs.UnitOrder.{compare_units-less, ne_not_equal}
+use Rattle.bplist_keys.proofs.FrontLaws.{front_less}
+use Rattle.bplist_keys.proofs.key_texts.KeyTexts.compare.Goals as goal
+
+pub returns-then-is_ne : goal.returns-then-is_ne
+returns-then-is_ne c = λ text first second.
+    let m = c.args.first.now.number in
+    let n = c.args.second.now.number in
+    let us = text c.args.first.now.object in
+    let vs = text c.args.second.now.object in
+    elim (cases_order m n) [
+      | inl same ↦ absurd (ne_not_equal c.cmp-order.result (sym c.if-is_ne.ensures) (c.cmp-order.ensures ∙ sym (nat_cmp_is m n Equal same)))
+      | inr apart ↦ elim apart [
+        | inl low ↦ c.cmp-order.ensures ∙ sym (nat_cmp_is m n Less low) ∙ sym (front_less us vs m n first.front second.front low)
+        | inr high ↦ c.cmp-order.ensures ∙ sym (nat_cmp_is m n Greater high) ∙ sym (compare_units-less vs us (front_less vs us n m second.front first.front high))
+      ]
+    ]

@@ -1,0 +1,53 @@
+use Rattle.std.proofs.Common.{◌≡◌, ◌<◌, ℕ, length, refl, sym, ap, ◌∙◌, subst, inl, inr, arith}
+use Rattle.std.proofs.lemmas.Bool.{cases_eq}
+use Rattle.std.proofs.lemmas.List.{length-set}
+use Rattle.bplist_objects.specs.declared.frame.Frame.{Frame}
+use Rattle.bplist_objects.specs.Framed.{frame_in}
+use Rattle.bplist_objects.specs.Units.{units_of}
+use Rattle.bplist_keys.specs.declared.sorting.Item.{Item}
+use Rattle.bplist_keys.specs.Groups.{item_at}
+use Rattle.bplist_keys.specs.Texts.{HasTextShape, text_units}
+use Rattle.bplist_keys.proofs.HeldTexts.{held_more}
+use Rattle.bplist_keys.proofs.Merging.{put_here, put_other}
+use Rattle.bplist_keys.proofs.TextUnits.{text_units-head}
+use Rattle.bplist_keys.proofs.key_texts.KeyTexts.read.Goals as goal
+
+pub returns-in_default-clause-ready : goal.returns-in_default-clause-ready
+returns-in_default-clause-ready g c = λ honest shapes k low.
+    let m = g.P.Source.means c.args.src.now in
+    let v = c.loop-k.invariant in
+    subst (HasTextShape m.octets (frame_in m)) (sym (v.objects k)) (shapes k (omega (arith, low, v.all)))
+
+pub returns-then-head-saturating_sub-clause-ready : goal.returns-then-head-saturating_sub-clause-ready
+returns-then-head-saturating_sub-clause-ready g c = λ honest shapes k low.
+    let m = g.P.Source.means c.args.src.now in
+    let v = c.loop-k.invariant in
+    subst (HasTextShape m.octets (frame_in m)) (sym (v.objects k)) (shapes k (omega (arith, low, v.all)))
+
+pub loop-k-preserved : goal.loop-k-preserved
+loop-k-preserved g c =
+    let m = g.P.Source.means c.args.src.now in
+    let f = m.octets in
+    let F : Frame = frame_in m in
+    let v = c.loop-k.invariant in
+    let k = c.loop-k.k in
+    let xs = c.loop-k.items in
+    let own = item_at xs k in
+    let head = c.in-Some.head in
+    let pushed = c.in_ok-number.ensures in
+    let x : Item = record { object = own.object; group = k; number = c.in_ok-number.number } in
+    let room : k < length xs = omega (arith, c.loop-k-test.true, v.all) in
+    record {
+      same = pushed.reads ∙ c.in_ok-head.ensures.reads ∙ v.same;
+      all = length-set xs k x ∙ v.all;
+      objects = λ j. elim (cases_eq j k) [
+        | inl e ↦ rw (e, put_here xs k x room) (v.objects k)
+        | inr d ↦ ap (λ (y : Item). y.object) (put_other xs k j x d) ∙ v.objects j
+      ];
+      held = λ honest shapes.
+          let has = (rw (v.same, c.in-Some.is) at c.in_ok-head.ensures.exact) honest in
+          let is = text_units-head f F own.object head has in
+          let text = (rw (c.in_ok-head.ensures.reads, v.same) at pushed.text) honest in
+          let front = (rw (c.in_ok-head.ensures.reads, v.same) at pushed.front) honest in
+          held_more (units_of f head) c.loop-k.texts c.push-in-loop-k.new.self text (text_units f F) xs k x room (sym is) front refl (v.held honest shapes);
+    }
