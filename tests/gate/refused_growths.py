@@ -6,7 +6,8 @@ Runs programs with one request for memory refused: the first, then the second, a
 BPLINT: each run in which a request was refused ends with status 4, and with `memory` on standard error, after the name of
 FILE with `-H`. Nothing is written, or by the commands of `PARTLY` a first part of the answer, and OUT is unchanged. The last
 run is the first one without a refusal. A list that std collects is an exception: std first asks for room for all items, and
-if that is refused, it grows the list item by item. The words of each command and the objects of a circle are such lists.
+if that is refused, it grows the list item by item. The words of each command and the objects of a circle are such lists. A
+page of FILE is another exception: without memory for it, its bytes are read each time.
 
 CALLS is bplist_calls, which makes each call of the library twice on the same value. If a request of the first call is
 refused, that call returns `Memory`, and the second returns the same as without a refusal. If the request for the text of the
@@ -31,7 +32,7 @@ from helpers.tables import escaped  # noqa: E402
 
 SOURCE = pathlib.Path(__file__).with_name("refuse_growth.c")
 MOST_GROWTHS = 10_000
-UNTOUCHED = b"as it was"
+UNTOUCHED = b"bplcert as it was"  # what `certify` may replace
 MEMORY = b"Err(Memory)"
 
 FILES = {
@@ -88,6 +89,8 @@ PATHS = ["map", "--paths"]
 
 # In how many growths a run of a row may give its usual answer, since std collects so many lists; 1 in all others.
 COLLECTED = {"circle-below-top": 2}
+# In how many more if FILE is read by pages: their table, the list of them, and the bytes of each.
+PAGES = 4
 
 # What else is run on a row.
 MORE = {"doubling-64-text": ["print FILE CERT " + 62 * "/0" + " 13"]}
@@ -160,7 +163,7 @@ class Stage:
 
     def run(self, program, words, refused):
         """Runs bplint, and says whether a growth was refused."""
-        self.paths["OUT"].write_bytes(UNTOUCHED)
+        self.paths["OUT"].write_bytes(untouched(words))
         reading, writing = os.pipe()
         words = [str(self.paths.get(word, os.fsdecode(escaped(word)))) for word in words]
         ran = subprocess.run(
@@ -206,16 +209,21 @@ def blocks(output):
     return read
 
 
+def untouched(words):
+    """What OUT holds before a run."""
+    return UNTOUCHED.hex().encode() if "--hex" in words else UNTOUCHED
+
+
 def is_refusal(words, ran, usual):
     wrote_nothing = usual.stdout.startswith(ran.stdout) if words[0] in PARTLY else ran.stdout == b""
     says_memory = ran.stderr == b"memory\n" or "-H" in words and ran.stderr.endswith(b"/file: memory\n")
-    return ran.status == 4 and says_memory and wrote_nothing and ran.out == UNTOUCHED
+    return ran.status == 4 and says_memory and wrote_nothing and ran.out == untouched(words)
 
 
 def command_outcome(stage, program, row, words):
     usual, _ = stage.run(program, words, 0)
     name = " ".join(words)
-    spared = COLLECTED.get(row, 1) + (words[:2] == PATHS)
+    spared = COLLECTED.get(row, 1) + (words[:2] == PATHS) + (0 if "--hex" in words else PAGES)
     for refused in range(1, MOST_GROWTHS):
         ran, was_refused = stage.run(program, words, refused)
         if not was_refused:
