@@ -11,9 +11,9 @@ use std::alloc::{AllocError, Global};
 /// The length of a trailer in bytes.
 const TRAILER: u64 = 32;
 
-/// Returns the line with the length of a file. If the file begins with `bplist00` and has room for a trailer, the line
-/// also gives the numbers of the trailer. A second line says what the file looks like, if it is no sound one and this
-/// is known. If memory for that line is refused, it is left out.
+/// Returns the line with the length of a file. If the file begins with `bplist00` and its last bytes can be a trailer,
+/// the line also gives the numbers of the trailer. A second line says what the file looks like, if it is no sound one
+/// and this is known. If memory for that line is refused, it is left out.
 pub(crate) fn file_lines<S: Source>(alloc: Global, src: &mut S) -> Result<String, Failure>
     ensures reads { OnlyReads (failed_to_read result) (S.means src.old) (S.means src.new) }
 {
@@ -31,7 +31,7 @@ fn hint_line(alloc: Global, hint: Hint) -> Result<String, AllocError> {
     format!(in alloc; "  looks like: {words}\n")
 }
 
-/// Returns the line with the length of a file, and the numbers of its trailer if it has one.
+/// The last bytes of a file that was cut are no trailer: they give a table or objects for which the file has no room.
 fn file_line<S: Source>(alloc: Global, src: &mut S) -> Result<String, Failure>
     ensures reads { OnlyReads (failed_to_read result) (S.means src.old) (S.means src.new) }
 {
@@ -46,6 +46,9 @@ fn file_line<S: Source>(alloc: Global, src: &mut S) -> Result<String, Failure>
     }
     let mut trailer = [0u8; 32];
     src.read_at(length - TRAILER, &mut trailer)?;
+    if sized(&trailer[8..16]) > length || sized(&trailer[24..32]) > length {
+        return Ok(length_line(alloc, length)?);
+    }
     Ok(numbers_line(alloc, length, &trailer)?)
 }
 
