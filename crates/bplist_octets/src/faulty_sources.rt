@@ -2,9 +2,11 @@
 //!
 //! Both are public, so that other crates can test what their calls do with such a source.
 
-ghost use Rattle.std.specs.Prelude.{◌≡◌, ◌+◌, ◌≤◌, zero, suc, length, true, [], OnOk, Some, None, ◌-◌};
+ghost use Rattle.std.specs.Prelude.{◌≡◌, ◌+◌, ◌≤◌, zero, suc, length, true, [], IsTrue, OnOk, Some, None, ◌-◌};
 ghost use Rattle.std.specs.Prelude.{nat_lt, if◌then◌else◌};
 ghost use Rattle.std.specs.Option.{option_map_or};
+ghost use Rattle.std.specs.Result.{result_err};
+ghost use Rattle.bplist_octets.specs.Meaning.{OnlyReads};
 ghost use Rattle.bplist_octets.specs.Octets.{part};
 ghost use Rattle.bplist_octets.specs.declared.source.ReadFault.TheVariants.{Device};
 
@@ -36,8 +38,27 @@ impl<'a> Source for FaultySource<'a> {
         self.octets.len() as u64
     }
 
-    fn read_at(&mut self, at: u64, into: &mut [u8]) -> Result<(), ReadFault> {
-        self.read(at, into)
+    fn read_at(&mut self, at: u64, into: &mut [u8]) -> Result<(), ReadFault>
+        requires { at + length into.old ≤ length (⟦<FaultySource<'a> as Source>⟧.means self.old).octets }
+        ensures reads { OnlyReads (result_err result) (⟦<FaultySource<'a> as Source>⟧.means self.old)
+            (⟦<FaultySource<'a> as Source>⟧.means self.new) }
+        ensures filled { OnOk result (IsTrue (⟦<FaultySource<'a> as Source>⟧.means self.old).honest
+            → into.new ≡ part (⟦<FaultySource<'a> as Source>⟧.means self.old).octets at (length into.old)) }
+        ensures asks { ⟦<FaultySource<'a> as Source>⟧.asked self.new
+            ≤ ⟦<FaultySource<'a> as Source>⟧.asked self.old + length into.old }
+        ensures answer { result ≡ (elim self.old.before [ Some zero ↦ Err Device | _ ↦ Ok tt ]) }
+        ensures turn { self.new
+            ≡ record self.old { before = elim self.old.before [ Some (suc n) ↦ Some n | _ ↦ None ] } }
+    {
+        match self.before {
+            Some(0) => {
+                self.before = None;
+                return Err(ReadFault::Device);
+            }
+            Some(n) => self.before = Some(n - 1),
+            None => {}
+        }
+        SliceSource::new(self.octets).read_at(at, into)
     }
 }
 
@@ -51,26 +72,6 @@ impl<'a> FaultySource<'a> {
             octets,
             before: Some(fails),
         }
-    }
-
-    /// Fills `into` with the bytes from place `at` on, all of which must be inside the source. Returns
-    /// `Device` if this is the read that fails.
-    pub fn read(&mut self, at: u64, into: &mut [u8]) -> Result<(), ReadFault>
-        requires { at + length into.old ≤ length self.old.octets.now }
-        ensures filled { OnOk result (into.new ≡ part self.old.octets.now at (length into.old)) }
-        ensures answer { result ≡ (elim self.old.before [ Some zero ↦ Err Device | _ ↦ Ok tt ]) }
-        ensures turn { self.new ≡ record self.old { before = elim self.old.before [ Some (suc n) ↦ Some n | _ ↦ None ] } }
-    {
-        match self.before {
-            Some(0) => {
-                self.before = None;
-                return Err(ReadFault::Device);
-            }
-            Some(n) => self.before = Some(n - 1),
-            None => {}
-        }
-        SliceSource::new(self.octets).read(at, into);
-        Ok(())
     }
 }
 
@@ -99,9 +100,27 @@ impl<'a> Source for ShiftingSource<'a> {
         self.first.len() as u64
     }
 
-    fn read_at(&mut self, at: u64, into: &mut [u8]) -> Result<(), ReadFault> {
-        self.read(at, into);
-        Ok(())
+    fn read_at(&mut self, at: u64, into: &mut [u8]) -> Result<(), ReadFault>
+        requires { at + length into.old ≤ length (⟦<ShiftingSource<'a> as Source>⟧.means self.old).octets }
+        ensures reads { OnlyReads (result_err result) (⟦<ShiftingSource<'a> as Source>⟧.means self.old)
+            (⟦<ShiftingSource<'a> as Source>⟧.means self.new) }
+        ensures filled { OnOk result (IsTrue (⟦<ShiftingSource<'a> as Source>⟧.means self.old).honest
+            → into.new ≡ part (⟦<ShiftingSource<'a> as Source>⟧.means self.old).octets at (length into.old)) }
+        ensures asks { ⟦<ShiftingSource<'a> as Source>⟧.asked self.new
+            ≤ ⟦<ShiftingSource<'a> as Source>⟧.asked self.old + length into.old }
+        ensures never_fails { result ≡ Ok tt }
+        ensures turn { self.new.left ≡ self.old.left - 1 }
+        ensures same { (self.new.first.now ≡ self.old.first.now) × (self.new.second.now ≡ self.old.second.now) }
+        ensures shows { into.new
+            ≡ part (if nat_lt 0 self.old.left then self.old.first.now else self.old.second.now) at (length into.old) }
+    {
+        let octets = if self.left > 0 {
+            self.left -= 1;
+            self.first
+        } else {
+            self.second
+        };
+        SliceSource::new(octets).read_at(at, into)
     }
 }
 
@@ -119,22 +138,5 @@ impl<'a> ShiftingSource<'a> {
             second,
             left: reads,
         }
-    }
-
-    /// Fills `into` with the bytes from place `at` on, all of which must be inside the source: those of the first slice
-    /// while reads from it are left, and then those of the second.
-    pub fn read(&mut self, at: u64, into: &mut [u8])
-        requires { at + length into.old ≤ length self.old.first.now }
-        ensures turn { self.new.left ≡ self.old.left - 1 }
-        ensures same { (self.new.first.now ≡ self.old.first.now) × (self.new.second.now ≡ self.old.second.now) }
-        ensures shows { into.new ≡ part (if nat_lt 0 self.old.left then self.old.first.now else self.old.second.now) at (length into.old) }
-    {
-        let octets = if self.left > 0 {
-            self.left -= 1;
-            self.first
-        } else {
-            self.second
-        };
-        SliceSource::new(octets).read(at, into);
     }
 }
