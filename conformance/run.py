@@ -1,17 +1,17 @@
 #!/usr/bin/env python3
 """run.py [options] COMMAND..
 
-Runs COMMAND on every file of cases.tsv, and compares its exit status with the expected answer: 0 if COMMAND accepts the file,
-anything else if it refuses it. The word {} in COMMAND is replaced by the file's name; without it the name becomes the last
-word.
+Runs COMMAND on every file of cases.tsv, and compares its exit status with the expected answer: 0 if COMMAND accepts the
+file, anything else if it refuses it. The word {} in COMMAND is replaced by the file's name; without it the name becomes
+the last word.
 
     python3 run.py bplint lint --quiet
     python3 run.py --values sh -c 'my-parser --spell "$0"'
 
-If the project that made this suite is stricter or laxer about a file than the format asks, the file has the basis `profile`.
-Another answer to such a file is printed as a choice and does not count; with --strict it counts. With --values, COMMAND
-prints the value as README.md spells it, and run.py compares it too. With --refused-if REGEX, COMMAND also refuses a
-file if it prints a text that REGEX fits; this is for commands whose status is always 0.
+If the project that made this suite is stricter or laxer about a file than the format asks, the file has the basis
+`profile`. Another answer to such a file is printed as a choice and does not count; with --strict it counts. With
+--values, COMMAND prints the value as README.md spells it, and run.py compares it too. With --refused-if REGEX, COMMAND
+also refuses a file if it prints a text that REGEX fits; this is for commands whose status is always 0.
 
 COMMAND is first tried on a sound file and on a broken one. If it cannot be started, or answers one of them wrong,
 run.py says so in one line and ends with status 2.

@@ -7,11 +7,11 @@
     with bplist.open("Info.plist") as plist:
         print(plist.value["CFBundleName"], plist.at("/UIRequiredDeviceCapabilities/0"))
 
-Each call lints the file. If it holds no value, the call raises `Refused`, with the first broken rule. `load` and `loads`
-return the tree that plistlib's calls of these names return, and `to_python` that of the file at a path. `open` and
-`view` return a `Plist`, whose containers are read on access: a dictionary is a `collections.abc.Mapping`, an array is a
-`Sequence`, and a set is iterable. Leaves are those of plistlib; `bplist.values` lists them, and the few that plistlib
-does not have.
+Each call lints the file. If it holds no value, the call raises `Refused`, with the first broken rule. `load` and
+`loads` return the tree that plistlib's calls of these names return, and `to_python` that of the file at a path. `open`
+and `view` return a `Plist`, whose containers are read on access: a dictionary is a `collections.abc.Mapping`, an array
+is a `Sequence`, and a set is iterable. Leaves are those of plistlib; `bplist.values` lists them, and the few that
+plistlib does not have.
 
 The package calls the C library libbplist, which has a proved core.
 """

@@ -47,8 +47,9 @@ def complain(line: str) -> None:
 
 
 def bytes_of(name: str, paths: collections.abc.Iterable[str] = ()) -> bytes | bplist._bplist.MappedFile:
-    """The bytes of a file, or of standard input for `-`. The paths are checked when it is open and not yet read: a wrong path
-    is said before a fault of the bytes, but not of a file that cannot be opened. Standard input is open from the start."""
+    """The bytes of a file, or of standard input for `-`. The paths are checked when it is open and not yet read: a
+    wrong path is said before a fault of the bytes, but not of a file that cannot be opened. Standard input is open from
+    the start."""
     try:
         file = None if name == "-" else open(name, "rb", buffering=0)
     except IsADirectoryError:
@@ -245,8 +246,8 @@ def reader() -> argparse.ArgumentParser:
 
 
 def main(words: collections.abc.Sequence[str] | None = None) -> int:
-    """Runs a command, and returns its exit status: 0 for yes, 1 for no, 2 for wrong words, 3 for a failed read or write,
-    4 for refused memory."""
+    """Runs a command, and returns its exit status: 0 for yes, 1 for no, 2 for wrong words, 3 for a failed read or
+    write, 4 for refused memory."""
     if sys.stderr is None:
         # It is closed, and argparse would write to standard output.
         sys.stderr = open(os.devnull, "w")

@@ -14,7 +14,8 @@ class Error(Exception):
 
 
 class Refused(Error, ValueError):
-    """The file holds no value, or the certificate is not valid for it. `except plistlib.InvalidFileException` catches it.
+    """The file holds no value, or the certificate is not valid for it. `except plistlib.InvalidFileException` catches
+    it.
 
     rule: the name of the first broken rule, for example `Marker`.
     number: its number, 1 to 32.
@@ -58,7 +59,8 @@ class Refused(Error, ValueError):
 
 
 def _be_caught() -> None:
-    """Makes `Refused` one of plistlib's exceptions, if somebody has loaded plistlib: `except` looks at the bases of a class."""
+    """Makes `Refused` one of plistlib's exceptions, if somebody has loaded plistlib: `except` looks at the bases of a
+    class."""
     theirs = getattr(sys.modules.get("plistlib"), "InvalidFileException", None)
     if theirs is not None and theirs not in Refused.__bases__:
         Refused.__bases__ = (Error, theirs)

@@ -180,8 +180,8 @@ def open(path: Path, *, map: bool = False, certificate: Octets | None = None, so
 
     certificate: a certificate from `bplint certify` or `Plist.certificate`. The file is checked against it instead of
     being linted. The bytes may come from anywhere: if they are no valid certificate of the file, `Refused` is raised.
-    sorted_keys: sort the keys of each dictionary now, so that a key is found by binary search. Otherwise they are sorted
-    when the look-ups in large dictionaries have taken as long as that takes.
+    sorted_keys: sort the keys of each dictionary now, so that a key is found by binary search. Otherwise they are
+    sorted when the look-ups in large dictionaries have taken as long as that takes.
     map: map the file into memory instead of reading it, which saves memory. The file must then not change while the
     property list is open. If it is written to, the values that are read are meaningless. If it is cut short, reading
     past the new end ends the interpreter with SIGBUS.
@@ -203,7 +203,8 @@ def load(
     limit: int = NODES,
 ) -> typing.Any:
     """Returns the whole tree of a file object, as plistlib.load does. It is read from where it stands to its end. If it
-    has `peek`, as what `open(path, "rb")` returns, and its first bytes refuse it, it is not read further than a megabyte.
+    has `peek`, as what `open(path, "rb")` returns, and its first bytes refuse it, it is not read further than a
+    megabyte.
 
     fmt: None or plistlib.FMT_BINARY. This package loads binary property lists alone.
     dict_type: what makes the dictionaries.

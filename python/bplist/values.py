@@ -79,8 +79,8 @@ class _Rebuilt:
     """Makes trees again, with other dictionaries, or with dates that have a time zone. Makes each container once, after
     its members, and keeps the way to it in a list instead of recursing.
 
-    No function in it uses the variables of another: CPython 3.11 loses the arguments of one whose variables are used so, if
-    it is refused memory for them."""
+    No function in it uses the variables of another: CPython 3.11 loses the arguments of one whose variables are used
+    so, if it is refused memory for them."""
 
     def __init__(self, dict_type: type[collections.abc.MutableMapping[str, typing.Any]], aware_datetime: bool):
         self.dict_type = dict_type
@@ -312,8 +312,8 @@ class Dict(Container, MappingBase):
 
 
 def uid_class() -> tuple[type[plistlib.UID], str | None]:
-    """The class of UIDs, and the name of its only attribute, or None if it has others. It is asked for at the first UID: to
-    load plistlib takes several times as long as to load this package."""
+    """The class of UIDs, and the name of its only attribute, or None if it has others. It is asked for at the first
+    UID: to load plistlib takes several times as long as to load this package."""
     import plistlib
 
     return plistlib.UID, "data" if vars(plistlib.UID(7)) == {"data": 7} else None

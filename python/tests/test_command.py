@@ -1,4 +1,5 @@
-"""`python -m bplist lint|ls|show` has the lines and statuses of `bplint`, as the tables have them and the built program."""
+"""`python -m bplist lint|ls|show` has the lines and statuses of `bplint`, as the tables have them and the built
+program."""
 import contextlib
 import io
 import os
@@ -141,8 +142,8 @@ class Command(unittest.TestCase):
         self.assertEqual((ran.returncode, ran.stderr), (3, b""))
 
     def test_closed(self):
-        """Standard input, output and error may be closed: to read or write there fails. Standard input can be given twice,
-        and ends the first time."""
+        """Standard input, output and error may be closed: to read or write there fails. Standard input can be given
+        twice, and ends the first time."""
         there = f"{shlex.quote(self.path)}"
         sound, ended = "ok reached 7 height 3 top dict\n", "-: fault TooShort object none place 0\n"
         for line, status, said, complained in (

@@ -122,7 +122,8 @@ class Tables(unittest.TestCase):
             self.assertFalse(hasattr(container, name), name)
 
     def test_dict(self):
-        """Each method of a dict that does not change it gives the same of a dictionary of a file, by value or exception."""
+        """Each method of a dict that does not change it gives the same of a dictionary of a file, by value or
+        exception."""
         self.see_calls(DICT_CALLS, dict, PAIRS)
 
     def test_list(self):
@@ -199,7 +200,8 @@ class Sorting(unittest.TestCase):
         return time.process_time() - begun
 
     def test_linear(self):
-        """What goes over a large dictionary by its keys takes about as long as with sorted keys, not a thousand times."""
+        """What goes over a large dictionary by its keys takes about as long as with sorted keys, not a thousand
+        times."""
         sorted_keys = bplist.view(self.file, sorted_keys=True).value
         wanted = {f"key number {i}": i for i in range(self.count)}
         calls = [dict, lambda v: [v[k] for k in v], lambda v: [k in v for k in v], lambda v: v == wanted]
@@ -211,7 +213,8 @@ class Sorting(unittest.TestCase):
                 self.assertLess(self.seconds(lambda: call(plist.value)), 20 * quick + 0.5)
 
     def test_when(self):
-        """The 14th look-up sorts, as LIBRARY.md says. Then answers are the same, and the certificate has sorted keys."""
+        """The 14th look-up sorts, as LIBRARY.md says. Then answers are the same, and the certificate has sorted
+        keys."""
         with bplist.view(self.file) as plist:
             for _ in range(13):
                 self.assertEqual(plist.value["key number 777"], 777)

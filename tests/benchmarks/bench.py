@@ -2,17 +2,19 @@
 """bench.py [--hostile] [--beside OTHER] PROGRAM [WORD..]
 
 Times PROGRAM on large property lists, and prints how many times as long as reading the file once (`cat` to nothing) it
-takes: the best of ten runs, with all rows in turn; and the peak memory of a run. If gcc and libplist's headers are installed,
-libplist's parse of the same file is timed too. OTHER is another bplint, for example of an earlier commit. With it, each row
-ends with the ratio to the time of OTHER in the same run. With words, only the files whose name has one of them are timed.
+takes: the best of ten runs, with all rows in turn; and the peak memory of a run. If gcc and libplist's headers are
+installed, libplist's parse of the same file is timed too. OTHER is another bplint, for example of an earlier commit.
+With it, each row ends with the ratio to the time of OTHER in the same run. With words, only the files whose name has
+one of them are timed.
 
 FILE is read through the program's windows; `-` (standard input) is read whole, so that the run is over a slice.
 
-With --hostile the files are those of the hostile families (tests/helpers/families.py), of about 1, 4 and 16 MB. For each call
-the script prints the processor time, the least of three runs or of one that takes more than 2 seconds; by which factor it grows
-from one size to the next; and how many times as long it takes as OTHER's call, which need not be bplint's: any program with the
-commands `lint`, `certify [--sorted]` and `check`, and with their lines, will do. `get` is compared with OTHER's `check`. A run
-is stopped after 20 seconds of processor time, and then the larger files are left out.
+With --hostile the files are those of the hostile families (tests/helpers/families.py), of about 1, 4 and 16 MB. For
+each call the script prints the processor time, the least of three runs or of one that takes more than 2 seconds; by
+which factor it grows from one size to the next; and how many times as long it takes as OTHER's call, which need not be
+bplint's: any program with the commands `lint`, `certify [--sorted]` and `check`, and with their lines, will do. `get`
+is compared with OTHER's `check`. A run is stopped after 20 seconds of processor time, and then the larger files are
+left out.
 """
 import argparse
 import dataclasses

@@ -1,15 +1,16 @@
 #!/usr/bin/env python3
 """bench_library.py LIBRARY WHEEL [--beside OTHER] [WORD..]
 
-Times reading property lists: from Python by the package `bplist` of WHEEL and by plistlib, and from C by libbplist and by
-libplist, if gcc and libplist's headers are installed (Debian: `libplist-dev`). LIBRARY is the folder in which `make lib`
-leaves the library. OTHER is a wheel of another version, which is timed in the same run. With words, only the files whose
-name has one of them are timed.
+Times reading property lists: from Python by the package `bplist` of WHEEL and by plistlib, and from C by libbplist and
+by libplist, if gcc and libplist's headers are installed (Debian: `libplist-dev`). LIBRARY is the folder in which `make
+lib` leaves the library. OTHER is a wheel of another version, which is timed in the same run. With words, only the files
+whose name has one of them are timed.
 
-Each row is a process of its own, which measures the time from opening the file to its end, and its peak of memory. It reads
-three values; or builds the whole tree; or walks over all values, reading each on access. plistlib always builds the tree. The
-time is the best of fifteen runs, or of forty if the file is short, and the peak is the greatest. Each round runs all rows, in a
-new order. In brackets is the time as a fraction of plistlib's. All rows must read the same three values.
+Each row is a process of its own, which measures the time from opening the file to its end, and its peak of memory. It
+reads three values; or builds the whole tree; or walks over all values, reading each on access. plistlib always builds
+the tree. The time is the best of fifteen runs, or of forty if the file is short, and the peak is the greatest. Each
+round runs all rows, in a new order. In brackets is the time as a fraction of plistlib's. All rows must read the same
+three values.
 """
 import compileall
 import dataclasses

@@ -1,12 +1,12 @@
 #!/usr/bin/env python3
 """bench_orders.py LIBRARY WHEEL
 
-Times opening property lists in four ways: linted, linted with sorted keys, with a certificate, and with a sorted one; and one
-look-up afterwards. LIBRARY is the folder in which `make lib` leaves the library. Each value has two files: with its keys in
-ascending order, and in an order like that of a hash table, as Apple's writers write it.
+Times opening property lists in four ways: linted, linted with sorted keys, with a certificate, and with a sorted one;
+and one look-up afterwards. LIBRARY is the folder in which `make lib` leaves the library. Each value has two files: with
+its keys in ascending order, and in an order like that of a hash table, as Apple's writers write it.
 
-Prints the table of docs/LIBRARY.md: processor time in milliseconds for opening and in microseconds for a look-up, in C and in
-Python, the least of fifteen rounds.
+Prints the table of docs/LIBRARY.md: processor time in milliseconds for opening and in microseconds for a look-up, in C
+and in Python, the least of fifteen rounds.
 """
 import pathlib
 import plistlib

@@ -1,10 +1,10 @@
 #!/usr/bin/env python3
 """page.py [--quick] PROGRAM LIBRARY WHEEL
 
-Times PROGRAM, the library in the folder LIBRARY, the package of WHEEL, and other readers, and writes docs/BENCHMARKS.md,
-docs/speed.svg and the figures of README.md. Other readers are timed if they are installed (Debian: gcc, libplist-dev, cargo,
-librust-plist-dev). It takes ten minutes on a quiet machine. With --quick it runs each row once, on small hostile files, to
-try the script.
+Times PROGRAM, the library in the folder LIBRARY, the package of WHEEL, and other readers, and writes
+docs/BENCHMARKS.md, docs/speed.svg and the figures of README.md. Other readers are timed if they are installed (Debian:
+gcc, libplist-dev, cargo, librust-plist-dev). It takes ten minutes on a quiet machine. With --quick it runs each row
+once, on small hostile files, to try the script.
 
 The rows of the last table are those of build.tsv: timed.py writes one.
 """

@@ -1,8 +1,8 @@
 #!/usr/bin/env python3
 """build_library.py
 
-Builds the static C library from the libraries that `rt ci` left. `rt lib` would prove all of them again, because it takes only
-libraries that it built itself.
+Builds the static C library from the libraries that `rt ci` left. `rt lib` would prove all of them again, because it
+takes only libraries that it built itself.
 """
 import os
 import pathlib

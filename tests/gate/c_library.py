@@ -75,7 +75,8 @@ RACED = {
 }
 RACE_MILLISECONDS = 1500
 
-# Values for the program of docs/LIBRARY.md, which reads 64 members at a time: some have none, and some end with a block.
+# Values for the program of docs/LIBRARY.md, which reads 64 members at a time: some have none, and some end with a
+# block.
 WALKED = [{}, "text", *([True] * count for count in (0, 1, 63, 64, 65, 128))]
 
 # What the example prints of a file under a path.
@@ -118,7 +119,8 @@ def symbols(library, *flags):
 
 def ends():
     """The exports and functions of bplist_c with an instruction that ends the process. The crates below take any source
-    of bytes: by their contracts a file that changes leads to none of theirs, as where something is divided by a size."""
+    of bytes: by their contracts a file that changes leads to none of theirs, as where something is divided by a
+    size."""
     ran = subprocess.run(["objdump", "-d", "--no-show-raw-insn", LIBRARY], capture_output=True, text=True, check=True)
     name = ""
     for line in ran.stdout.splitlines():
@@ -254,7 +256,8 @@ class Tests:
         self.count(f"print_value {file} {path}", "" if right else f"{ran}")
 
     def walk_by_page(self):
-        """The program of docs/LIBRARY.md prints a line for each member of an array, and none of an empty value or a text."""
+        """The program of docs/LIBRARY.md prints a line for each member of an array, and none of an empty value or a
+        text."""
         text = next(piece.text for piece in pieces_of("docs/LIBRARY.md") if piece.name == "members.c")
         program = built(self.folder, self.file("members.c", text.encode()), f"-I{ROOT / 'include'}", LIBRARY)
         for value in WALKED:

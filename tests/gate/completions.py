@@ -2,9 +2,10 @@
 """completions.py PROGRAM
 
 Drives the completions of bash, zsh and fish, as far as these are installed, with PROGRAM as `bplint`. `bplint help`
-offers the commands, `--explain=` its words, and after a FILE (and a CERT) a word that begins with `/` is completed by the paths of that file,
-also where a key has blanks or quotes. bash gives the candidates of its function, and fish those of `complete -C`. In
-zsh, and in bash too, lines are typed into a terminal with a tab, and the completed command answers.
+offers the commands, `--explain=` its words, and after a FILE (and a CERT) a word that begins with `/` is completed by
+the paths of that file, also where a key has blanks or quotes. bash gives the candidates of its function, and fish those
+of `complete -C`. In zsh, and in bash too, lines are typed into a terminal with a tab, and the completed command
+answers.
 
 A line of a shell counts as one test. The last line is `N passed, M failed`.
 """

@@ -14,8 +14,8 @@ release, not those of the tree.
 - Removing what was installed leaves no file and no folder.
 - lintian finds no error, and no file names a folder of the build. README.md names the glibc that the symbols need.
 
-If a tool is missing, nothing is tested. The last line is `N passed, M failed`, then with `, 1 skipped`. The exit status is
-1 if a test failed.
+If a tool is missing, nothing is tested. The last line is `N passed, M failed`, then with `, 1 skipped`. The exit status
+is 1 if a test failed.
 """
 import dataclasses
 import filecmp
@@ -50,7 +50,8 @@ UNREAD = [".git", "crates", "dist", "rust", "tests"]
 
 @dataclasses.dataclass
 class Installed:
-    """Where the files of a release stand: bin, share and the like below `prefix`, the library in its folder `library`."""
+    """Where the files of a release stand: bin, share and the like below `prefix`, the library in its folder
+    `library`."""
 
     name: str
     prefix: pathlib.Path

@@ -1,9 +1,10 @@
 #!/usr/bin/env python3
 """each_rule.py PROGRAM
 
-Tests the texts of the rules against the rules: for each rule a file that breaks it as the example of `explain WORD` says, and
-one that just keeps it. PROGRAM must name the rule and its place for the first, and find the second sound. It must print the
-example as this script has it. The last line is `N passed, M failed`, and the exit status is 1 if one failed.
+Tests the texts of the rules against the rules: for each rule a file that breaks it as the example of `explain WORD`
+says, and one that just keeps it. PROGRAM must name the rule and its place for the first, and find the second sound. It
+must print the example as this script has it. The last line is `N passed, M failed`, and the exit status is 1 if one
+failed.
 """
 import pathlib
 import subprocess
@@ -52,7 +53,8 @@ def data(length):
 
 
 def over_one_another(gap):
-    """An array whose reference, the byte 08, is also the object false; and so many bytes behind it that no object has."""
+    """An array whose reference, the byte 08, is also the object false; and so many bytes behind it that no object
+    has."""
     return HEADER + b"\xa1\x08" + bytes(gap) + b"\x08" * 8 + b"\x09" + trailer(1, 1, 9, 0, 10 + gap)
 
 
@@ -65,8 +67,8 @@ def key_list(*positions):
     return certificate(2, 1, 1, 1, 1, magic=b"bplcert2", lists=bytes(20) + b"".join(number(it, 4) for it in positions))
 
 
-# Of each rule: its word; its example; what breaks it, with object and place; and what just keeps it. A pair of bytes is a file
-# and a certificate; a file and a text are a file and a path.
+# Of each rule: its word; its example; what breaks it, with object and place; and what just keeps it. A pair of bytes is
+# a file and a certificate; a file and a text are a file and a path.
 RULES = [
     ("TooLarge", "a file of 4294967296 bytes, place 4294967296", [(Hole(1 << 32), "none place 4294967296")],
      [But(Hole((1 << 32) - 1), "fault Magic object none place 0")]),

@@ -3,10 +3,10 @@
 
 Tests what no row of a table can say of the program beside other programs: on a terminal a fault has lines below it; a
 reader that goes away ends a run without a word; `certify` opens no pipe to see what it holds, and says of a certificate
-that it is too long; lists of names go from one run to the next, whatever the names are, and a name that is not UTF-8 is answered for itself;
-OUT is never a standard descriptor; `textconv` bounds its bytes; and git shows binary, XML,
-broken and empty property lists by `textconv`. The last line is `N passed, M failed`, with a number of skipped tests if git
-is missing.
+that it is too long; lists of names go from one run to the next, whatever the names are, and a name that is not UTF-8 is
+answered for itself; OUT is never a standard descriptor; `textconv` bounds its bytes; and git shows binary, XML, broken
+and empty property lists by `textconv`. The last line is `N passed, M failed`, with a number of skipped tests if git is
+missing.
 """
 import argparse
 import json

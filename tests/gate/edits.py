@@ -1,10 +1,10 @@
 #!/usr/bin/env python3
 """edits.py [--all | CRATE [EDIT..]]
 
-Tries must-fail edits, and says what refuses each. Without arguments it tries the edits right in tests/edits/CRATE, which
-the gate tries in addition to those of `rt ci`. With CRATE it tries all edits of the crate, or those named, also from
-crates/CRATE/must-fail and tests/edits/CRATE/more. With --all it does so for every crate. It prints one line for each edit:
-the edit, its function, the verdict and the goals. The verdicts:
+Tries must-fail edits, and says what refuses each. Without arguments it tries the edits right in tests/edits/CRATE,
+which the gate tries in addition to those of `rt ci`. With CRATE it tries all edits of the crate, or those named, also
+from crates/CRATE/must-fail and tests/edits/CRATE/more. With --all it does so for every crate. It prints one line for
+each edit: the edit, its function, the verdict and the goals. The verdicts:
 
   false    the prover found values for which a goal of the edited function is false
   open     a goal that the prover decides without help stays open
@@ -13,14 +13,14 @@ the edit, its function, the verdict and the goals. The verdicts:
   unread   the prover could not read the function, which says nothing either
   PROVED   nothing refuses the edit
 
-An edit is named FUNCTION--what, by the function that it changes. It passes if the verdict is one of the first three. The
-last line is `N passed, M failed`, and the exit status is 1 if one failed.
+An edit is named FUNCTION--what, by the function that it changes. It passes if the verdict is one of the first three.
+The last line is `N passed, M failed`, and the exit status is 1 if one failed.
 
 Edits of different functions are tried together, in a copy of the crate that begins from what its last check kept, so a
 crate takes only a few checks. Crates are tried side by side. Functions that no edit of a check changes are not proved
-there: their proofs are holes, and a caller relies on their contracts. An edit that is not refused this way is tried once
-more with all proofs as they are. The crates below must be built in their present state. If they are not, a verdict would
-say nothing, and the script gives none.
+there: their proofs are holes, and a caller relies on their contracts. An edit that is not refused this way is tried
+once more with all proofs as they are. The crates below must be built in their present state. If they are not, a verdict
+would say nothing, and the script gives none.
 """
 import concurrent.futures
 import dataclasses
@@ -84,13 +84,14 @@ class Edit:
         self.file, self.first, self.last = self.pairs[0][0], 1, sys.maxsize
 
     def owner(self, before, is_inside):
-        """What a function's name begins with: its module, at the root the crate, or the type of the impl that began last."""
+        """What a function's name begins with: its module, at the root the crate, or the type of the impl that began
+        last."""
         if not is_inside:
             return self.crate if self.file in ("src/lib.rt", "src/main.rt") else self.file[4:-3].replace("/", "::")
         head = next(it for it in reversed(before) if it.startswith("impl"))
         trait, told, kind, argument = IMPL.match(head).groups()
-        # An impl for one argument, as that of Checked<SliceSource<'a>>, has the argument's name too. A parameter has one
-        # letter. The name of u32 is U32.
+        # An impl for one argument, as that of Checked<SliceSource<'a>>, has the argument's name too. A parameter has
+        # one letter. The name of u32 is U32.
         return kind[0].upper() + kind[1:] + (trait or "") + (told or "") + (f"+{argument}" if argument and len(argument) > 1 else "")
 
     def goals(self, lines):
@@ -137,7 +138,8 @@ def rounds(edits):
 
 
 def turned(edits, folder):
-    """The texts of the files that the edits change. Each finds its place in the text as it is, whatever the others write."""
+    """The texts of the files that the edits change. Each finds its place in the text as it is, whatever the others
+    write."""
     places = {}
     for edit in edits:
         for file, old, new in edit.pairs:
@@ -155,7 +157,8 @@ def turned(edits, folder):
 
 
 def functions(folder):
-    """The (file, name, proof folder) of each function of the crate in the folder with a body of its own, tests left out."""
+    """The (file, name, proof folder) of each function of the crate in the folder with a body of its own, tests left
+    out."""
     for path in sorted(folder.glob("src/**/*.rt")):
         file = str(path.relative_to(folder))
         lines = path.read_text().split("\n#[cfg(test)]")[0].split("\n")
@@ -199,7 +202,8 @@ def line(edit, goals):
 
 def tried(kit, crate, edits):
     """Each edit with its goals. A check leaves goals out, and does not try a function that calls one which another edit
-    spoils: those edits are tried again, with no hole, together as long as that decides some of them, and then each alone."""
+    spoils: those edits are tried again, with no hole, together as long as that decides some of them, and then each
+    alone."""
     with tempfile.TemporaryDirectory(prefix="edits-") as kept:
         if (work := pathlib.Path(crate.folder, "out/incremental")).is_dir():
             shutil.copytree(work, kept, dirs_exist_ok=True)
@@ -215,7 +219,8 @@ def tried(kit, crate, edits):
 
 
 def check(kit, crate, edits, kept, is_short):
-    """The lines of a check of the crate with these edits, over what the folder keeps. A short one proves nothing else."""
+    """The lines of a check of the crate with these edits, over what the folder keeps. A short one proves nothing
+    else."""
     flags = ["--jobs", "1", "--allow-holes"]
     for edit in edits:
         flags += ["--only", edit.path] if edit.path else []

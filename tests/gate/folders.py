@@ -1,11 +1,10 @@
 #!/usr/bin/env python3
 """folders.py PROGRAM [--files N]
 
-Tests what no table can show of `lint --recursive`. Only the names of the files take memory for each file: N files, 2,000
-unless given, in one folder and in folders of 100. A file or folder that may not be read has a line, and does not end the run.
-The line of counts is written without being asked for if standard error is a terminal. A name of any bytes takes one line.
-A file with a hole of terabytes keeps nothing reading.
-The last line is `N passed, M failed`.
+Tests what no table can show of `lint --recursive`. Only the names of the files take memory for each file: N files,
+2,000 unless given, in one folder and in folders of 100. A file or folder that may not be read has a line, and does not
+end the run. The line of counts is written without being asked for if standard error is a terminal. A name of any bytes
+takes one line. A file with a hole of terabytes keeps nothing reading. The last line is `N passed, M failed`.
 """
 import argparse
 import os

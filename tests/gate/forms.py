@@ -3,15 +3,15 @@
 
 Shows that no hostile file makes any command large, slow or loud.
 
-PROGRAM is bplint. It runs each command that growth.py does not count, in all its forms, on each hostile family. The system
-counts the bytes that it reads and writes, and its largest memory. For each byte of the file a command may read and write as
-many bytes as `READ` and `WRITTEN` allow, with `BESIDE` bytes more, and it gets `MEMORY` bytes for its data, with `RESIDENT`
-bytes more: it has to answer all the same. The commands of `LISTINGS` write each value with its path, so that their answer may
-grow with the square of the file's length: their files are short, and their answer has no bound, but their memory does. `MORE`
-names the families for which a command may do more, and how much.
+PROGRAM is bplint. It runs each command that growth.py does not count, in all its forms, on each hostile family. The
+system counts the bytes that it reads and writes, and its largest memory. For each byte of the file a command may read
+and write as many bytes as `READ` and `WRITTEN` allow, with `BESIDE` bytes more, and it gets `MEMORY` bytes for its
+data, with `RESIDENT` bytes more: it has to answer all the same. The commands of `LISTINGS` write each value with its
+path, so that their answer may grow with the square of the file's length: their files are short, and their answer has no
+bound, but their memory does. `MORE` names the families for which a command may do more, and how much.
 
-One command on one family counts as one test. The last line is `N passed, M failed`. With --table it prints what each command
-does on files of about SIZE bytes instead.
+One command on one family counts as one test. The last line is `N passed, M failed`. With --table it prints what each
+command does on files of about SIZE bytes instead.
 """
 import concurrent.futures
 import os
@@ -56,8 +56,8 @@ LISTINGS = {
 
 READ, WRITTEN, MEMORY = 16, 64, 64
 
-# By command and family: bytes read, written, and of memory for each byte of the file. Where a path has as many bytes as a
-# third of the file, 64 paths are longer than the file, and each step of a path takes memory of its own.
+# By command and family: bytes read, written, and of memory for each byte of the file. Where a path has as many bytes as
+# a third of the file, 64 paths are longer than the file, and each step of a path takes memory of its own.
 LONG_PATHS = {
     "one_long_key": (READ + PATHS, WRITTEN, MEMORY),
     "dictionaries_in_dictionaries": (READ + 2 * PATHS, 2 * WRITTEN, 1024),

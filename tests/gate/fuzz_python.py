@@ -3,13 +3,14 @@
 fuzz_python.py --file FILE
 
 Builds the Python extension with ASAN and UBSAN, and makes all calls of the package on N files (20,000): those of
-conformance/, of tests/vectors and of other writers, each with some bytes changed. A file may be refused. If it is opened,
-the whole tree equals what a walk by single reads gives, and what plistlib loads if plistlib takes the file too; keys and
-paths lead to the same values, containers have the same plain values, certificates open the file again, damaged ones are refused, and a closed property list says
-so. One case in ten maps the file and changes it while it is open: then a call may also raise an exception of the package.
+conformance/, of tests/vectors and of other writers, each with some bytes changed. A file may be refused. If it is
+opened, the whole tree equals what a walk by single reads gives, and what plistlib loads if plistlib takes the file too;
+keys and paths lead to the same values, containers have the same plain values, certificates open the file again, damaged
+ones are refused, and a closed property list says so. One case in ten maps the file and changes it while it is open:
+then a call may also raise an exception of the package.
 
-The same seed makes the same cases. What fails is printed with the first 2,000 bytes of its file in hexadecimal; with --file
-the calls are made on a file alone. FOLDER has libbplist.a. The last line is `N passed, M failed`.
+The same seed makes the same cases. What fails is printed with the first 2,000 bytes of its file in hexadecimal; with
+--file the calls are made on a file alone. FOLDER has libbplist.a. The last line is `N passed, M failed`.
 """
 import argparse
 import collections

@@ -3,19 +3,20 @@
 
 Shows, without a clock, that no call reads a file again and again.
 
-CALLS is bplist_calls. It counts the bytes that `lint` asks its source for, and, if the file holds a value, those of `check`
-with a certificate of version 1, of `upgrade`, and of `check` with a certificate of version 2. PROGRAM is bplint. It reads
-FILE through its windows, and the system counts the bytes that `lint`, `certify --sorted`, `check` and `get` read. `check`
-also reads pairs that it refuses.
+CALLS is bplist_calls. It counts the bytes that `lint` asks its source for, and, if the file holds a value, those of
+`check` with a certificate of version 1, of `upgrade`, and of `check` with a certificate of version 2. PROGRAM is
+bplint. It reads FILE through its windows, and the system counts the bytes that `lint`, `certify --sorted`, `check` and
+`get` read. `check` also reads pairs that it refuses.
 
-A call may ask for at most `EACH` bytes for each byte of the file and `BESIDE` bytes more. For a few hostile families `EACH_OF`
-allows more. At 256 kB a call may ask for at most `TIMES` times as many as at 64 kB, or as `FREE` for each byte of the smaller
-file. If the file is more than four times as long, because its numbers have more bytes, that limit grows with it. A command may
-read at most `EACH` bytes for each byte of a file of 1 MB. The limits of `EACH` also hold for the files of both tables of runs.
-On a usual file the limits are those of the quick ways alone (`USUAL_EACH`), which read no dictionary again.
+A call may ask for at most `EACH` bytes for each byte of the file and `BESIDE` bytes more. For a few hostile families
+`EACH_OF` allows more. At 256 kB a call may ask for at most `TIMES` times as many as at 64 kB, or as `FREE` for each
+byte of the smaller file. If the file is more than four times as long, because its numbers have more bytes, that limit
+grows with it. A command may read at most `EACH` bytes for each byte of a file of 1 MB. The limits of `EACH` also hold
+for the files of both tables of runs. On a usual file the limits are those of the quick ways alone (`USUAL_EACH`), which
+read no dictionary again.
 
-One call on one family, or on all files of the tables, counts as one test. The calls of `KNOWN` grow faster today: they are
-named and not counted. The last line is `N passed, M failed`.
+One call on one family, or on all files of the tables, counts as one test. The calls of `KNOWN` grow faster today: they
+are named and not counted. The last line is `N passed, M failed`.
 """
 import concurrent.futures
 import os
@@ -33,8 +34,8 @@ from helpers.layout import path_in  # noqa: E402
 from helpers.spelled import write  # noqa: E402
 from helpers.tables import all_runs  # noqa: E402
 
-# By call: what CALLS counts, in this order, and then what PROGRAM reads. A window reads at least 1,024 bytes, so a command
-# reads more than its call asks for.
+# By call: what CALLS counts, in this order, and then what PROGRAM reads. A window reads at least 1,024 bytes, so a
+# command reads more than its call asks for.
 EACH = {
     "lint": 10,
     "check-1": 4,
@@ -48,8 +49,8 @@ EACH = {
 }
 CALLS = [call for call in EACH if "FILE" not in call]
 
-# By family: what it needs more of. A key list that is not in the order of the file costs three reads for each key. Keys that
-# lie in one another are compared with each other.
+# By family: what it needs more of. A key list that is not in the order of the file costs three reads for each key. Keys
+# that lie in one another are compared with each other.
 EACH_OF = {
     "keys_of_one_fingerprint": {"check FILE, version 2": 140, "get FILE": 140},
     "keys_of_our_fingerprint": {"check FILE, version 2": 140, "get FILE": 140},
@@ -69,8 +70,8 @@ SIZES = 1 << 16, 1 << 18
 READ_SIZE = 1 << 20  # the windows hold a file of 128 kB whole
 FREE = 4
 
-# By family. What stands here and grows no faster is said, so that it can be taken out. The comments have seconds, and bytes
-# read for each byte of the file.
+# By family. What stands here and grows no faster is said, so that it can be taken out. The comments have seconds, and
+# bytes read for each byte of the file.
 FILE_CALLS = [call for call in EACH if "FILE" in call]
 KNOWN = {
     "keys_over_regions": ["check FILE, version 1", "check FILE, version 2"],

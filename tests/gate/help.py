@@ -1,10 +1,10 @@
 #!/usr/bin/env python3
 """help.py PROGRAM
 
-Compares what `--help` of PROGRAM and of its subcommands says with the manual page, the completions and docs/RULES.md: the
-subcommands, the flags of each and their letters, and what `explain` says of each rule by its word and its number. `--hex`
-names the operands that each subcommand has, and a command line that lacks a certificate is told of `show`. The last line is
-`N passed, M failed`. The exit status is 1 if one failed.
+Compares what `--help` of PROGRAM and of its subcommands says with the manual page, the completions and docs/RULES.md:
+the subcommands, the flags of each and their letters, and what `explain` says of each rule by its word and its number.
+`--hex` names the operands that each subcommand has, and a command line that lacks a certificate is told of `show`. The
+last line is `N passed, M failed`. The exit status is 1 if one failed.
 """
 import pathlib
 import re

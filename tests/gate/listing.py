@@ -1,11 +1,12 @@
 #!/usr/bin/env python3
 """listing.py PROGRAM
 
-Tests `bplint ls --recursive` and `bplint show --raw`, on each file of tests/vectors that holds a value and on files of other
-writers (tests/helpers/writers.py). The lines of `ls -R` are those of a plain walk over the file's bytes, of a walk with `ls`
-from container to container, and of a walk over what plistlib loads. With `--utf8` and `--objects` they are those of a plain
-walk too. The limit is tried at the number of nodes and one below. `show --raw` gives the bytes of data and texts, and the
-digits and words of numbers and booleans. Files that differ in one key alone have different listings with `--utf8`.
+Tests `bplint ls --recursive` and `bplint show --raw`, on each file of tests/vectors that holds a value and on files of
+other writers (tests/helpers/writers.py). The lines of `ls -R` are those of a plain walk over the file's bytes, of a
+walk with `ls` from container to container, and of a walk over what plistlib loads. With `--utf8` and `--objects` they
+are those of a plain walk too. The limit is tried at the number of nodes and one below. `show --raw` gives the bytes of
+data and texts, and the digits and words of numbers and booleans. Files that differ in one key alone have different
+listings with `--utf8`.
 
 One file counts as one test. Without plistutil its files are skipped. The last line is `N passed, M failed`, with
 `, K skipped` if some were.
@@ -41,7 +42,8 @@ def run(program, *words):
 
 
 def key_name(name, index, units, utf8=False):
-    """The name of a key's value: its index where the key is no text that a line can show, and the key behind it in UTF-8."""
+    """The name of a key's value: its index where the key is no text that a line can show, and the key behind it in
+    UTF-8."""
     key = text_of(units)
     if UNSHOWN.search(key) or any("\ud800" <= char <= "\udfff" for char in key):
         return f"[{index}]{quoted_utf8(units) if utf8 else ''}"
@@ -137,7 +139,8 @@ class Tree:
 
 
 def walk_with_ls(program, path, tree):
-    """The lines from container to container, by `ls`; None for what has no path. Also how many containers there were."""
+    """The lines from container to container, by `ls`; None for what has no path. Also how many containers there
+    were."""
     lines, stack, asked = [f"\t{tree.line(tree.plist.top)}"], [""], 0
     blocks = {}
     while stack:

@@ -2,9 +2,10 @@
 """map.py PROGRAM
 
 Compares `bplint map` with a plain computation: on each file of tests/vectors, on files of other writers
-(tests/helpers/writers.py), on each hostile family (tests/helpers/families.py), and on damaged and overlapping files. The verdict of `lint` is taken from PROGRAM. Places, ends,
-rules 14 to 20, heights, gaps, overlaps and the paths of `--paths` are computed here, and each byte of the file has to be in
-some line. Without plistutil its files are skipped. The last line is `N passed, M failed`, with `, K skipped` if some were.
+(tests/helpers/writers.py), on each hostile family (tests/helpers/families.py), and on damaged and overlapping files.
+The verdict of `lint` is taken from PROGRAM. Places, ends, rules 14 to 20, heights, gaps, overlaps and the paths of
+`--paths` are computed here, and each byte of the file has to be in some line. Without plistutil its files are skipped.
+The last line is `N passed, M failed`, with `, K skipped` if some were.
 """
 import pathlib
 import random
@@ -73,7 +74,8 @@ def wanted_map(plist, note):
 
 
 def miscounted(plist, text):
-    """The first byte that the lines do not account for once: in a gap or in objects, and in an overlap where in several."""
+    """The first byte that the lines do not account for once: in a gap or in objects, and in an overlap where in
+    several."""
     spans = {"gap": [0] * (plist.table + 1), "overlap": [0] * (plist.table + 1), "object": [0] * (plist.table + 1)}
     for line in text.split("\n")[1:-1]:
         place, end, number, kind, *_ = line.split("\t")

@@ -1,12 +1,12 @@
 #!/usr/bin/env python3
 """memory.py PROGRAM
 
-Shows that `lint` takes at most 16 bytes of memory for each object and a constant, and for a faulty file a quarter of its
-length more. Where keys were made to have one fingerprint, it takes up to 32 more for each and 2 for each of their units.
-`lint` runs with a limit of that size on the data of its process, and has to give its answer. The files are the hostile
-families, and usual ones of some 400,000 objects: keys that share one value, keys with values, numbers, texts, and
-dictionaries. For the usual ones memory has to be refused if the limit is 8 bytes for each object. One run counts as one test.
-The last line is `N passed, M failed`.
+Shows that `lint` takes at most 16 bytes of memory for each object and a constant, and for a faulty file a quarter of
+its length more. Where keys were made to have one fingerprint, it takes up to 32 more for each and 2 for each of their
+units. `lint` runs with a limit of that size on the data of its process, and has to give its answer. The files are the
+hostile families, and usual ones of some 400,000 objects: keys that share one value, keys with values, numbers, texts,
+and dictionaries. For the usual ones memory has to be refused if the limit is 8 bytes for each object. One run counts as
+one test. The last line is `N passed, M failed`.
 
 The family `ring` is left out: the line that names its circle takes more memory than `lint`.
 """

@@ -1,11 +1,11 @@
 #!/usr/bin/env python3
 """out_files.py PROGRAM
 
-Tests which files `certify` replaces. OUT is one of many files, under each name that leads to it: its own, one with `./`, an
-absolute one, a link and a hard link. A file that is neither empty nor a certificate keeps its bytes, and so does FILE under
-every name, with `--hex` and `--sorted` too; one line names OUT, and the status is 2. With `--force`, and if OUT is empty, new
-or a certificate, it holds the certificate afterwards. A pipe and a device are written to. If `lint` says no, OUT is neither
-made nor emptied, and the fault of FILE is answered.
+Tests which files `certify` replaces. OUT is one of many files, under each name that leads to it: its own, one with
+`./`, an absolute one, a link and a hard link. A file that is neither empty nor a certificate keeps its bytes, and so
+does FILE under every name, with `--hex` and `--sorted` too; one line names OUT, and the status is 2. With `--force`,
+and if OUT is empty, new or a certificate, it holds the certificate afterwards. A pipe and a device are written to. If
+`lint` says no, OUT is neither made nor emptied, and the fault of FILE is answered.
 
 One run of the program counts as one test. The last line is `N passed, M failed`.
 """

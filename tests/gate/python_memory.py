@@ -1,10 +1,10 @@
 #!/usr/bin/env python3
 """python_memory.py
 
-Makes each call of the Python package again and again, with the first request for memory refused, then the second, and so on.
-Each call returns what it returns otherwise, or raises MemoryError. It leaves no block of memory, and no reference to what
-outlives it. python_package.py runs this script on the installed package, with refuse_growth.c in front of malloc and with
-PYTHONMALLOC=malloc_debug. The last line is `N passed, M failed`.
+Makes each call of the Python package again and again, with the first request for memory refused, then the second, and
+so on. Each call returns what it returns otherwise, or raises MemoryError. It leaves no block of memory, and no
+reference to what outlives it. python_package.py runs this script on the installed package, with refuse_growth.c in
+front of malloc and with PYTHONMALLOC=malloc_debug. The last line is `N passed, M failed`.
 """
 import collections
 import ctypes
@@ -84,8 +84,8 @@ CALLS = {
     "plain, other types": lambda: PLIST.plain(dict_type=collections.OrderedDict, aware_datetime=True),
     "load": lambda: bplist.load(io.BytesIO(FILE)),
     "loads": lambda: bplist.loads(FILE),
-    # What copy.copy calls. Its own code is left out: CPython 3.11 loses the arguments of a function, here of copy._reconstruct,
-    # if memory for the cell of a variable that an inner function uses is refused.
+    # What copy.copy calls. Its own code is left out: CPython 3.11 loses the arguments of a function, here of
+    # copy._reconstruct, if memory for the cell of a variable that an inner function uses is refused.
     "copy": lambda: VALUE["list"].__reduce__(),
     "walk": lambda: walked(VALUE),
     "walk, odd values": lambda: repr(walked(OPEN_ODD.value)),
@@ -134,7 +134,8 @@ def tried(call, number):
 
 
 def is_refused(given, wanted):
-    """Whether a call says that memory was refused. CPython may lose the exception, or the text of one, as it raises it."""
+    """Whether a call says that memory was refused. CPython may lose the exception, or the text of one, as it raises
+    it."""
     lost = isinstance(given, SystemError) and str(given) == "error return without exception set"
     bare = isinstance(given, Exception) and type(given) is type(wanted) and not given.args
     return isinstance(given, MemoryError) or lost or bare

@@ -1,18 +1,18 @@
 #!/usr/bin/env python3
 """python_package.py [WHEEL]
 
-Tests the Python package from its wheel, not from the source tree. Without WHEEL it makes one by `make pack-wheel`. Installs
-the wheel without an index into a new environment of the Python that runs this script, and runs there
+Tests the Python package from its wheel, not from the source tree. Without WHEEL it makes one by `make pack-wheel`.
+Installs the wheel without an index into a new environment of the Python that runs this script, and runs there
 
 - the tests of python/tests, in Python's development mode;
 - python_memory.py, with each request for memory refused in turn;
 - the tests of values and edges again, under valgrind if it is installed.
 
-The wheel's tag has to name the newest glibc that a symbol of its module needs. The module may link only the C library, and
-export only the function that makes it: another libbplist in the process is not called in its place. At last fuzz_python.py
-makes all calls on 20,000 changed files, with an extension built from the sources. Without mypy or valgrind, the tests that
-need it are skipped, and without gcc, objdump or pip all of them. The last line is `N passed, M failed`, with `, K skipped` if
-some were.
+The wheel's tag has to name the newest glibc that a symbol of its module needs. The module may link only the C library,
+and export only the function that makes it: another libbplist in the process is not called in its place. At last
+fuzz_python.py makes all calls on 20,000 changed files, with an extension built from the sources. Without mypy or
+valgrind, the tests that need it are skipped, and without gcc, objdump or pip all of them. The last line is `N passed, M
+failed`, with `, K skipped` if some were.
 """
 import os
 import pathlib

@@ -1,10 +1,10 @@
 #!/usr/bin/env python3
 """real_files.py PROGRAM
 
-Makes property lists with other writers, Python's plistlib and libplist's plistutil, and runs PROGRAM on them: `lint` says yes,
-`check` accepts what `certify` and `certify --sorted` write, `get` gives the leaves, and `ls` from the top down lists exactly
-the values. One file counts as one test. Without plistutil its files are skipped by name. The last line is
-`N passed, M failed`, with `, K skipped` if some were.
+Makes property lists with other writers, Python's plistlib and libplist's plistutil, and runs PROGRAM on them: `lint`
+says yes, `check` accepts what `certify` and `certify --sorted` write, `get` gives the leaves, and `ls` from the top
+down lists exactly the values. One file counts as one test. Without plistutil its files are skipped by name. The last
+line is `N passed, M failed`, with `, K skipped` if some were.
 """
 import os
 import pathlib

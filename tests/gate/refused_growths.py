@@ -3,15 +3,16 @@
 
 Runs programs with one request for memory refused: the first, then the second, and so on.
 
-BPLINT: each run in which a request was refused ends with status 4, and with `memory` on standard error, after the name of
-FILE with `-H`. Nothing is written, or by the commands of `PARTLY` a first part of the answer, and OUT is unchanged. The last
-run is the first one without a refusal. A list that std collects is an exception: std first asks for room for all items, and
-if that is refused, it grows the list item by item. The words of each command and the objects of a circle are such lists. A
-page of FILE is another exception: without memory for it, its bytes are read each time.
+BPLINT: each run in which a request was refused ends with status 4, and with `memory` on standard error, after the name
+of FILE with `-H`. Nothing is written, or by the commands of `PARTLY` a first part of the answer, and OUT is unchanged.
+The last run is the first one without a refusal. A list that std collects is an exception: std first asks for room for
+all items, and if that is refused, it grows the list item by item. The words of each command and the objects of a circle
+are such lists. A page of FILE is another exception: without memory for it, its bytes are read each time.
 
 CALLS is bplist_calls, which makes each call of the library twice on the same value. If a request of the first call is
-refused, that call returns `Memory`, and the second returns the same as without a refusal. If the request for the text of the
-answer is refused, bplist_calls ends and names memory. Each call of `EVER` takes memory for some file, and no other call does.
+refused, that call returns `Memory`, and the second returns the same as without a refusal. If the request for the text
+of the answer is refused, bplist_calls ends and names memory. Each call of `EVER` takes memory for some file, and no
+other call does.
 
 One subcommand, or one call, on one file counts as one test. Without gcc nothing is run. The last line is
 `N passed, M failed`, with `, K skipped` if some were.
@@ -195,8 +196,8 @@ class Stage:
 
 
 def blocks(output):
-    """The calls in what bplist_calls writes, among which each growth that is told stands as a zero byte. The last is left out
-    where it has no answers."""
+    """The calls in what bplist_calls writes, among which each growth that is told stands as a zero byte. The last is
+    left out where it has no answers."""
     before, *parts = output.split(b"call ")
     grown, read = before.count(b"\0"), []
     for part in parts:

@@ -2,9 +2,9 @@
 """run_library.py [--only PREFIX] TABLE PROGRAM
 
 Gives all rows of TABLE to PROGRAM, one request on each line, and prints every answer that differs. It also lets PROGRAM
-count the bytes that each call asks its source for, and prints every count above the bound of the call. A
-last test lowers a bound below its count, and wants that to be noticed. The last line is `N passed, M failed`. The exit
-status is 1 if one failed. tests/vectors/README.md describes the columns, and the page of bplist_calls the form of a request.
+count the bytes that each call asks its source for, and prints every count above the bound of the call. A last test
+lowers a bound below its count, and wants that to be noticed. The last line is `N passed, M failed`. The exit status is
+1 if one failed. tests/vectors/README.md describes the columns, and the page of bplist_calls the form of a request.
 """
 import argparse
 import os

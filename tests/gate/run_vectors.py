@@ -1,9 +1,9 @@
 #!/usr/bin/env python3
 """run_vectors.py [--jobs N] [--only PREFIX] TABLE PROGRAM
 
-Runs PROGRAM on each row of TABLE and on the runs that follow from it, several at once. Prints every difference in standard
-output, standard error, exit status and OUT. The last line is `N passed, M failed`. The exit status is 1 if one failed.
-tests/vectors/README.md describes the columns, and says which runs follow from a row.
+Runs PROGRAM on each row of TABLE and on the runs that follow from it, several at once. Prints every difference in
+standard output, standard error, exit status and OUT. The last line is `N passed, M failed`. The exit status is 1 if one
+failed. tests/vectors/README.md describes the columns, and says which runs follow from a row.
 """
 import argparse
 import concurrent.futures
@@ -124,7 +124,8 @@ BROKEN = broken_pipe()
 
 @contextlib.contextmanager
 def standard_output(words):
-    """Where standard output goes: to the runner, or with a last word `>full` or `>closed` to a full device or a closed pipe."""
+    """Where standard output goes: to the runner, or with a last word `>full` or `>closed` to a full device or a closed
+    pipe."""
     last = words[-1] if words else ""
     if last not in (">full", ">closed"):
         yield words, subprocess.PIPE

@@ -5,8 +5,9 @@ Runs the tests and the examples of the Rust crate rust/bplist over the built lib
 serde, and compares it with the crate plist (rust/compare_plist) on the files of the tables and of other writers. Run
 `make lib` first. Both are built in a temporary folder, without a network.
 
-The crates serde and plist are Debian's librust-serde-dev, librust-serde-derive-dev and librust-plist-dev. Without them, or
-without cargo, the tests that need them are skipped; in the gate they fail. The last line is `N passed, M failed`, with `, K skipped` if some were.
+The crates serde and plist are Debian's librust-serde-dev, librust-serde-derive-dev and librust-plist-dev. Without them,
+or without cargo, the tests that need them are skipped; in the gate they fail. The last line is `N passed, M failed`,
+with `, K skipped` if some were.
 """
 import os
 import pathlib
@@ -81,7 +82,8 @@ class Tests:
         )
 
     def run_tests(self, crate, *words, **variables):
-        """Runs `cargo test` and counts its tests, one more if cargo failed without a failed test. Gives what it printed."""
+        """Runs `cargo test` and counts its tests, one more if cargo failed without a failed test. Gives what it
+        printed."""
         ran = self.cargo(crate, "test", *words, **variables)
         results = [tuple(map(int, row)) for row in RESULT.findall(ran.stdout)]
         self.passed += sum(passed for passed, _ in results)

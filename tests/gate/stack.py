@@ -1,9 +1,9 @@
 #!/usr/bin/env python3
 """stack.py BPLINT CALLS
 
-Shows that little stack is enough: no function of BPLINT and of CALLS (bplist_calls) has a frame above 100 KiB, and with a stack
-of 320 KiB both give the outputs of the tables. objdump prints the frames; without objdump that part is skipped. The last line
-is `N passed, M failed`, with `, K skipped` if some were.
+Shows that little stack is enough: no function of BPLINT and of CALLS (bplist_calls) has a frame above 100 KiB, and with
+a stack of 320 KiB both give the outputs of the tables. objdump prints the frames; without objdump that part is skipped.
+The last line is `N passed, M failed`, with `, K skipped` if some were.
 """
 import collections
 import pathlib

@@ -1,9 +1,9 @@
 #!/usr/bin/env python3
 """version.py PROGRAM
 
-Compares the version in the file VERSION with the one that PROGRAM prints, and with those in the files of `SAYS`. The Makefile
-and the Python package read VERSION, so they are not compared. The last line is `N passed, M failed`. The exit status is 1 if
-one failed.
+Compares the version in the file VERSION with the one that PROGRAM prints, and with those in the files of `SAYS`. The
+Makefile and the Python package read VERSION, so they are not compared. The last line is `N passed, M failed`. The exit
+status is 1 if one failed.
 """
 import pathlib
 import re

@@ -1,4 +1,5 @@
-"""The files of the tables and of the hostile families as cases for any reader: the expected answer, and the reason for it.
+"""The files of the tables and of the hostile families as cases for any reader: the expected answer, and the reason for
+it.
 
 The expected answer of a file is that of its row. Its value and its basis come from plist_value.py.
 """
@@ -66,7 +67,8 @@ class Case:
 
 
 def verdict_of(row):
-    """The rule that the row's file breaks first, its object and place: all empty if it is sound, None if no one can tell."""
+    """The rule that the row's file breaks first, its object and place: all empty if it is sound, None if no one can
+    tell."""
     verb, said = row.argv.split(" ")[0], row.stderr.split("\\x0a")[0]
     if said.startswith("circle "):
         return "Circle", said.removeprefix("circle "), ""
@@ -291,7 +293,8 @@ def is_binary(octets):
 
 
 def all_cases():
-    """Every file of the tables that begins like a binary property list, but those with a hole; and one of each family."""
+    """Every file of the tables that begins like a binary property list, but those with a hole; and one of each
+    family."""
     files = {octets: held for octets, held in [*family_files(), *vector_files().items()] if is_binary(octets)}
     taken = collections.Counter()
     cases = []

@@ -1,4 +1,5 @@
-"""The bytes that a column of the tables of tests/vectors names, and what makes them. vectors/README.md has the expressions."""
+"""The bytes that a column of the tables of tests/vectors names, and what makes them. vectors/README.md has the
+expressions."""
 import dataclasses
 import re
 

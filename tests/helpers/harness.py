@@ -48,8 +48,8 @@ def has_module(name):
 
 
 def lacks(name):
-    """Whether the program, the module of Python or the crate is not installed, so that the tests that need it are skipped.
-    In the gate this ends the script."""
+    """Whether the program, the module of Python or the crate is not installed, so that the tests that need it are
+    skipped. In the gate this ends the script."""
     if name in CRATES:
         is_there = any(REGISTRY.glob(f"{name}-1.*"))
     else:

@@ -26,7 +26,8 @@ class Kit:
         self.crates = self.rt.rtlib.crates_below(str(root))
 
     def is_built(self, library):
-        """Whether a library is built of its files as they stand: as its stamp says, or where `rt ci` left none the times."""
+        """Whether a library is built of its files as they stand: as its stamp says, or where `rt ci` left none the
+        times."""
         rlib = pathlib.Path(library.rlib)
         if library.is_built() or not rlib.is_dir():
             return library.is_built()

@@ -21,7 +21,8 @@ class Layout:
         self.places = [number_at(octets, self.table + n * self.offset_size, self.offset_size) for n in range(self.objects)]
 
     def head(self, place):
-        """Kind, count, place of the body and end of the object at a place, or the rule of marker and count that it breaks."""
+        """Kind, count, place of the body and end of the object at a place, or the rule of marker and count that it
+        breaks."""
         if place < 8:
             return "OffsetLow"
         marker = self.octets[place]

@@ -1,13 +1,14 @@
-"""A plain reader of binary property lists, for the values of conformance/. It is written from the format, apart from bplint.
+"""A plain reader of binary property lists, for the values of conformance/. It is written from the format, apart from
+bplint.
 
 `value_of` gives a sound file's value as one line:
 
     null  true  false  int N  uid N  real BITS  date SECONDS  data HEX  text HEX
     array(VALUE,..)  set(VALUE,..)  dict(HEX=VALUE,..)
 
-A real is the 16 hexadecimal digits of its double, or `nan`. A date counts whole seconds from 2001, or is `far` outside the
-years 1 to 9999. A text is its UTF-8 in hexadecimal, an unpaired surrogate as three bytes. Pairs, and the members of a set,
-are in the order of their spelling. A value of more than NODES nodes, or deeper than DEPTH, is `large`.
+A real is the 16 hexadecimal digits of its double, or `nan`. A date counts whole seconds from 2001, or is `far` outside
+the years 1 to 9999. A text is its UTF-8 in hexadecimal, an unpaired surrogate as three bytes. Pairs, and the members of
+a set, are in the order of their spelling. A value of more than NODES nodes, or deeper than DEPTH, is `large`.
 """
 import math
 import struct

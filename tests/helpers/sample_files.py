@@ -8,7 +8,8 @@ from .writers import written
 
 @dataclasses.dataclass
 class Sample:
-    """A file; what `bplint lint` says of it, where a row of the tables has that; what another writer was given to write."""
+    """A file; what `bplint lint` says of it, where a row of the tables has that; what another writer was given to
+    write."""
 
     name: str
     octets: bytes
@@ -17,7 +18,8 @@ class Sample:
 
 
 def table_files():
-    """Each file that a row of the tables has in its column `file`, once. No test reads a file with a hole, so it is left out."""
+    """Each file that a row of the tables has in its column `file`, once. No test reads a file with a hole, so it is
+    left out."""
     found = {}
     for row in [*all_runs(), *all_calls()]:
         # `=` names the file of the row before, or the files of one run: those stand in other rows.

@@ -1,11 +1,11 @@
 #!/usr/bin/env python3
 """definitions.py [--write]
 
-Makes docs/DEFINITIONS.md from crates/*/specs: the definitions that the theorem leads to, in reading order, which a reader has
-to believe. With --write it writes the page. Without, it compares the page with the one that is there. Three more tests show
-that no public contract leads to a definition that computes what the grammar says, that each file of the theorem has its place
-in the reading order, and that docs/THEOREM.md has the theorem as the sources have it, and README.md its sentence. The last
-line is `N passed, M failed`.
+Makes docs/DEFINITIONS.md from crates/*/specs: the definitions that the theorem leads to, in reading order, which a
+reader has to believe. With --write it writes the page. Without, it compares the page with the one that is there. Three
+more tests show that no public contract leads to a definition that computes what the grammar says, that each file of the
+theorem has its place in the reading order, and that docs/THEOREM.md has the theorem as the sources have it, and
+README.md its sentence. The last line is `N passed, M failed`.
 """
 import itertools
 import pathlib
@@ -278,7 +278,8 @@ def clauses_of(specs, call):
 
 
 class Reading:
-    """What is to be believed: the clauses of `answer_certified`, clause `sound` of `check`, and the definitions of the theorem."""
+    """What is to be believed: the clauses of `answer_certified`, clause `sound` of `check`, and the definitions of the
+    theorem."""
 
     def __init__(self):
         self.specs = Specs(ROOT)
@@ -349,8 +350,8 @@ def misplaced(reading):
 
 
 def unquoted(reading):
-    """What docs/THEOREM.md does not say of the theorem as the sources do: the clauses and the two definitions; and whether
-    README.md has the same sentence."""
+    """What docs/THEOREM.md does not say of the theorem as the sources do: the clauses and the two definitions; and
+    whether README.md has the same sentence."""
     texts = ["\n".join(one.lines).rstrip() for one in reading.found if one.name in ("IsSound", "IsAnswered")]
     page, readme = ((ROOT / name).read_text() for name in ("docs/THEOREM.md", "README.md"))
     sentence = page[page.index("**If `check`") : page.index("**\n\nThis page")]

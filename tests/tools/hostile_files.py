@@ -1,8 +1,8 @@
 #!/usr/bin/env python3
 """hostile_files.py FOLDER SIZE..
 
-Writes one file of each hostile family (tests/helpers/families.py) for each SIZE, which is about the file's length, and prints
-their names. The certificates of a refused pair have the file's name, and .1 or .2 after it.
+Writes one file of each hostile family (tests/helpers/families.py) for each SIZE, which is about the file's length, and
+prints their names. The certificates of a refused pair have the file's name, and .1 or .2 after it.
 """
 import pathlib
 import sys

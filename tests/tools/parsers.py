@@ -1,14 +1,14 @@
 #!/usr/bin/env python3
 """parsers.py [--only NAME] [--write] [--details FILE] [--jobs N]
 
-Runs other parsers of binary property lists on all files of tests/vectors and on hostile ones, and compares the tables of
-docs/PARSERS.md with what it finds. With --write it writes the tables. Each file is read by a process of its own, with limits
-of processor time and memory; for plistlib this is a copy of the script's own process. --only runs one parser, and looks only
-at its columns. --details writes a line for each run.
+Runs other parsers of binary property lists on all files of tests/vectors and on hostile ones, and compares the tables
+of docs/PARSERS.md with what it finds. With --write it writes the tables. Each file is read by a process of its own,
+with limits of processor time and memory; for plistlib this is a copy of the script's own process. --only runs one
+parser, and looks only at its columns. --details writes a line for each run.
 
-A cell of a table counts as one test. If files were added since the page was measured, it may have grown. The last line is
-`N passed, M failed`, with `, K skipped` if a parser is not installed, or if it answers otherwise and has another version than
-the page names. The exit status is 1 if one failed.
+A cell of a table counts as one test. If files were added since the page was measured, it may have grown. The last line
+is `N passed, M failed`, with `, K skipped` if a parser is not installed, or if it answers otherwise and has another
+version than the page names. The exit status is 1 if one failed.
 """
 import argparse
 import collections
@@ -137,8 +137,8 @@ def without_dates(value):
 
 
 def same_value(wanted, got):
-    """Whether a reader found the value. It may read a set as an array, a UID as the dictionary that XML has for it, a date
-    to the second, and a date that is far away as any."""
+    """Whether a reader found the value. It may read a set as an array, a UID as the dictionary that XML has for it, a
+    date to the second, and a date that is far away as any."""
     got = re.sub(f"dict\\({b'CF$UID'.hex()}=int (\\d+)\\)", r"uid \1", got)
     if wanted in (got, "large"):
         return True

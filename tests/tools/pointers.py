@@ -41,7 +41,8 @@ FUNCTION = re.compile(r'( *)(pub )?(?:const )?(?:unsafe )?(?:extern "C" )?fn (\w
 
 @dataclasses.dataclass
 class Call:
-    """A function of a crate: where it stands, the type or trait that it is of, whether it is public, and its clauses."""
+    """A function of a crate: where it stands, the type or trait that it is of, whether it is public, and its
+    clauses."""
 
     crate: str
     owner: str
@@ -91,7 +92,8 @@ class Sources:
                                                  re.findall(r"\bensures (\w+) \{", head), "ensures {" in head))
 
     def file_is_there(self, name, page):
-        """Whether a file that a page names is there: from the root or the page, in a crate, or anywhere by its name alone."""
+        """Whether a file that a page names is there: from the root or the page, in a crate, or anywhere by its name
+        alone."""
         if "/" not in name:
             return name in self.files
         crate, _, base = name.partition("/")

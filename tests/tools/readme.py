@@ -1,11 +1,11 @@
 #!/usr/bin/env python3
 """readme.py BPLINT [--write]
 
-Runs the session on README.md's first screen: each line after `$ ` in a shell, in a folder with the files that the session
-names, with BPLINT as `bplint`. Compares what it prints, with standard error. The Rattle code of README.md has to be in
-crates/example_value, word for word, and the numbers of broken files that other readers take are those of docs/PARSERS.md. With
---write it writes the session anew. The last line is `N passed, M failed`: one test for each command, and one each for the
-code and the numbers.
+Runs the session on README.md's first screen: each line after `$ ` in a shell, in a folder with the files that the
+session names, with BPLINT as `bplint`. Compares what it prints, with standard error. The Rattle code of README.md has
+to be in crates/example_value, word for word, and the numbers of broken files that other readers take are those of
+docs/PARSERS.md. With --write it writes the session anew. The last line is `N passed, M failed`: one test for each
+command, and one each for the code and the numbers.
 """
 import pathlib
 import re
@@ -28,7 +28,8 @@ def is_example(text):
 
 
 def readers():
-    """The numbers of README.md's sentence on other readers, and those of the last row of the table in docs/PARSERS.md."""
+    """The numbers of README.md's sentence on other readers, and those of the last row of the table in
+    docs/PARSERS.md."""
     says = r"Of (\d+) broken files, Python's plistlib takes (\d+), the Rust crate plist (\d+), and libplist (\d+)"
     told = re.search(says, " ".join(README.read_text().split()))
     lines = (ROOT / "docs/PARSERS.md").read_text().split("\n")

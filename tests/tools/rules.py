@@ -1,11 +1,12 @@
 #!/usr/bin/env python3
 """rules.py [WORD]
 
-Without WORD, compares the tables of docs/RULES.md with the sources: the definitions and functions are in the files that the
-page names, the functions that make a rule's fault are those that it names, rows of tests/vectors break the rule, and there
-are edits of the functions. The basis of each rule is compared with that of the files in conformance/cases.tsv: a file that
-breaks a rule of the format first has the basis `format`, except for the rules whose greatest size is profile; a file whose
-basis is `profile` breaks a rule of this project, or such a size. The last line is `N passed, M failed`. The exit status is 1 if one failed.
+Without WORD, compares the tables of docs/RULES.md with the sources: the definitions and functions are in the files that
+the page names, the functions that make a rule's fault are those that it names, rows of tests/vectors break the rule,
+and there are edits of the functions. The basis of each rule is compared with that of the files in
+conformance/cases.tsv: a file that breaks a rule of the format first has the basis `format`, except for the rules whose
+greatest size is profile; a file whose basis is `profile` breaks a rule of this project, or such a size. The last line
+is `N passed, M failed`. The exit status is 1 if one failed.
 
 With the word or the number of a rule, prints where all of these are.
 """

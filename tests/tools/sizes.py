@@ -1,9 +1,10 @@
 #!/usr/bin/env python3
 """sizes.py [--write]
 
-Counts the lines of code of each crate: without blank lines, comments, contracts and tests. No crate, and no group of crates
-that docs/DESIGN.md lists as one, may have more than its row of the table there allows. With --write it lowers what a row
-allows to the next multiple of 50; only a hand raises it. It prints all counts. The last line is `N passed, M failed`.
+Counts the lines of code of each crate: without blank lines, comments, contracts and tests. No crate, and no group of
+crates that docs/DESIGN.md lists as one, may have more than its row of the table there allows. With --write it lowers
+what a row allows to the next multiple of 50; only a hand raises it. It prints all counts. The last line is `N passed, M
+failed`.
 """
 import pathlib
 import re

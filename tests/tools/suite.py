@@ -1,10 +1,10 @@
 #!/usr/bin/env python3
 """suite.py [--write]
 
-Makes the files of conformance/ and its table cases.tsv, from the tables of tests/vectors and from the hostile families, and
-compares them with those that are there. The totals in conformance/README.md are of as many files as there are. With --write
-it writes the files and the table. The last line is `N passed, M failed`. The exit status
-is 1 if one failed. tests/helpers/cases.py has the expected answers.
+Makes the files of conformance/ and its table cases.tsv, from the tables of tests/vectors and from the hostile families,
+and compares them with those that are there. The totals in conformance/README.md are of as many files as there are. With
+--write it writes the files and the table. The last line is `N passed, M failed`. The exit status is 1 if one failed.
+tests/helpers/cases.py has the expected answers.
 """
 import collections
 import pathlib
