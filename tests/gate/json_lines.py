@@ -13,7 +13,9 @@ One file counts as one test. Without plistutil its files are skipped. The last l
 `, K skipped` if some were.
 """
 import datetime
+import decimal
 import json
+import math
 import os
 import pathlib
 import plistlib
@@ -44,6 +46,41 @@ def value_of(tree, n, kind):
     return {"null": None, "true": True, "false": False}[kind] if kind in ("null", "true", "false") else tree.body(n).hex()
 
 
+def date_of(seconds):
+    """The date of so many seconds, as the lines have it: with the digits of the shortest decimal. None if there is none."""
+    if not math.isfinite(seconds) or "e" in repr(seconds):
+        return None
+    exact = decimal.Decimal(repr(seconds))
+    whole = math.floor(exact)
+    try:
+        time = datetime.datetime(2001, 1, 1) + datetime.timedelta(seconds=whole)
+    except OverflowError:
+        return None
+    fraction = f"{exact - whole:f}"[1:].rstrip("0").rstrip(".")
+    return f"{time.isoformat()}{fraction}Z"
+
+
+def real_of(body):
+    """The number of these bits: of 4 bytes, the one with the fewest digits that has the same bits. None if it is not finite."""
+    form = ">f" if len(body) == 4 else ">d"
+    (number,) = struct.unpack(form, body)
+    if not math.isfinite(number):
+        return None
+    shorter = (float(f"{number:.{digits}g}") for digits in range(1, 17))
+    return next((x for x in shorter if abs(x) < 3.4028235e38 and struct.pack(form, x) == body), number)
+
+
+def readable_of(tree, n, kind):
+    """What stands beside the bits of a real or a date."""
+    if kind == "real":
+        number = real_of(tree.body(n))
+        return {} if number is None else {"number": number}
+    if kind == "date":
+        date = date_of(*struct.unpack(">d", tree.body(n)))
+        return {} if date is None else {"date": date}
+    return {}
+
+
 def row_of(tree, n, name):
     """The line of an object with this name."""
     path, index, key, below = name
@@ -57,7 +94,7 @@ def row_of(tree, n, name):
     kind, count, _, _ = tree.head(n)
     row["kind"] = kind
     row["count" if kind in CONTAINER_KINDS else "value"] = count if kind in CONTAINER_KINDS else value_of(tree, n, kind)
-    return {**row, "object": n, "place": tree.plist.places[n]}
+    return {**row, **readable_of(tree, n, kind), "object": n, "place": tree.plist.places[n]}
 
 
 def members(tree, n, name):
@@ -257,6 +294,17 @@ def try_numbers(program, path):
     edges = [0, 1, -1, 2**53 + 1, 2**63 - 1, -(2**63), 2**63, 2**64 - 1, 2**127 - 1, -(2**127)]
     values = [b"\x14" + edge.to_bytes(16, "big", signed=True) for edge in edges]
     try_file(program, path, dictionary([[0x61 + i] for i in range(len(values))], values))
+
+
+def try_dates(program, path):
+    """Dates and reals at the edges of the calendar and of their bits."""
+    whole = [0.0, -0.0, 1.0, -1.0, -63113904000.0, 252423993599.0, 252423993600.0, -63113904001.0, 725459696.0, 1e20]
+    parts = [0.25, -0.25, -1e-4, 1e-5, 1e-7, 725459696.123456, -725459696.123456, 252423993599.5, -63113904000.5, 5e-324]
+    others = [math.inf, -math.inf, math.nan, 0.1, 1 / 3, 1e300, 1e16, 123456789.0]
+    doubles = [struct.pack(">d", number) for number in whole + parts + others]
+    values = [b"\x33" + bits for bits in doubles] + [b"\x23" + bits for bits in doubles]
+    values += [b"\x22" + struct.pack(">f", number) for number in (0.1, 1 / 3, 3e38, 1e-45, -0.0, math.inf, math.nan)]
+    try_file(program, path, dictionary([[0x61, 0x100 + i] for i in range(len(values))], values))
 
 
 def try_missing(program, path):

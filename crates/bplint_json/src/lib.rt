@@ -23,6 +23,7 @@
 //! - `listing`: the walk over a value.
 //! - `names`: the names of values.
 //! - `rows`, `columns`: their lines, as JSON or in columns.
+//! - `readable`: dates as people write them.
 #![tactic(auto)]
 
 mod columns;
@@ -30,6 +31,7 @@ mod finding;
 mod finding_lines;
 mod listing;
 mod names;
+mod readable;
 mod rows;
 
 use bplint_lines::is_unshown;

@@ -1,8 +1,10 @@
 //! The JSON lines of a listing: one for a value, and one for a path that leads nowhere.
 
 use crate::json_of;
+use crate::readable::date_of;
 use bplint_lines::reason_of;
 use bplist_cursor::{Face, Why};
+use byteorder::{BigEndian, ByteOrder};
 use serde::Serialize;
 use std::alloc::{AllocError, Global};
 
@@ -62,6 +64,23 @@ struct LeafRow<'a, T> {
     site: Site,
 }
 
+/// The line of a real or a date: its bits, and what they say.
+#[derive(Drop, Serialize)]
+struct NumberRow<'a, N> {
+    #[serde(flatten)]
+    named: Named<'a>,
+    kind: &'a str,
+    value: &'a str,
+    /// The real, if it is finite.
+    #[serde(skip_serializing_if = "Option::is_none")]
+    number: Option<N>,
+    /// The date, if it is in one of the years 1 to 9999.
+    #[serde(skip_serializing_if = "Option::is_none")]
+    date: Option<&'a str>,
+    #[serde(flatten)]
+    site: Site,
+}
+
 /// The line of a container.
 #[derive(Drop, Serialize)]
 struct ContainerRow<'a> {
@@ -102,8 +121,8 @@ pub(crate) fn row_of(
         Face::Bool(true) => json_of(alloc, &leaf(named, "true", true, site)),
         Face::Int(number) => json_of(alloc, &leaf(named, "int", *number, site)),
         Face::Uid(number) => json_of(alloc, &leaf(named, "uid", *number, site)),
-        Face::Real(bytes) => octets_row(alloc, named, "real", bytes.as_slice(), site),
-        Face::Date(bytes) => octets_row(alloc, named, "date", bytes.as_slice(), site),
+        Face::Real(bytes) => real_row(alloc, named, bytes.as_slice(), site),
+        Face::Date(bytes) => date_row(alloc, named, bytes.as_slice(), site),
         Face::Bytes(bytes) => octets_row(alloc, named, "data", bytes.as_slice(), site),
         Face::Text(units) => text_row(alloc, named, units.as_slice(), site),
         Face::Array(count) => json_of(alloc, &container(named, "array", *count, site)),
@@ -140,6 +159,58 @@ fn octets_row(
 ) -> Result<Vec<u8>, AllocError> {
     let digits = hex::encode(alloc, bytes)?;
     json_of(alloc, &leaf(named, kind, digits.as_str(), site))
+}
+
+fn real_row(
+    alloc: Global,
+    named: Named<'_>,
+    bytes: &[u8],
+    site: Site,
+) -> Result<Vec<u8>, AllocError> {
+    let digits = hex::encode(alloc, bytes)?;
+    match bytes.len() {
+        4 => {
+            let number = Some(BigEndian::read_f32(bytes)).filter(|x| x.is_finite());
+            json_of(alloc, &number_row(named, "real", digits.as_str(), number, site))
+        }
+        8 => {
+            let number = Some(BigEndian::read_f64(bytes)).filter(|x| x.is_finite());
+            json_of(alloc, &number_row(named, "real", digits.as_str(), number, site))
+        }
+        _ => json_of(alloc, &leaf(named, "real", digits.as_str(), site)),
+    }
+}
+
+fn date_row(
+    alloc: Global,
+    named: Named<'_>,
+    bytes: &[u8],
+    site: Site,
+) -> Result<Vec<u8>, AllocError> {
+    let digits = hex::encode(alloc, bytes)?;
+    let date = date_of(alloc, bytes)?;
+    let row = NumberRow {
+        date: date.as_ref().map(|date| date.as_str()),
+        ..number_row(named, "date", digits.as_str(), None::<u64>, site)
+    };
+    json_of(alloc, &row)
+}
+
+fn number_row<'a, N>(
+    named: Named<'a>,
+    kind: &'a str,
+    value: &'a str,
+    number: Option<N>,
+    site: Site,
+) -> NumberRow<'a, N> {
+    NumberRow {
+        named,
+        kind,
+        value,
+        number,
+        date: None,
+        site,
+    }
 }
 
 /// Returns the line of a text.
