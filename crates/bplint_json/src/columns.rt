@@ -28,7 +28,6 @@ pub(crate) fn columns_of(
     Ok(line)
 }
 
-/// Adds the columns of an object and its place.
 fn add_site(alloc: Global, site: Site, line: &mut Vec<u8>) -> Result<(), AllocError>
     ensures { OnOk result (line.new.items ≡ line.old.items ++ codes "\t" ++ decimal site.object ++ codes "\t"
         ++ decimal site.place) }

@@ -17,9 +17,9 @@ pub struct Way {
     /// The index of the last member on the way that has no path, if there is one. Its key is no text, has half of a
     /// surrogate pair, or has more than 4,096 units.
     pub index: Option<u64>,
-    /// Why there is no path though the fault has an object: `unreached` if none leads to it, `overlap` if the search gave
-    /// up because objects overlap, `long` if the path has more than 256 steps or some 5,000 bytes, `memory` if memory for
-    /// the search was refused.
+    /// Why there is no path though the fault has an object: `unreached` if none leads to it, `overlap` if the search
+    /// gave up because objects overlap, `long` if the path has more than 256 steps or some 5,000 bytes, `memory` if
+    /// memory for the search was refused.
     pub missing: Option<&'static str>,
 }
 
@@ -136,7 +136,6 @@ fn looks_of<S: Source>(alloc: Global, src: &mut S) -> Result<Option<String>, Fai
     }
 }
 
-/// Returns the way to an object.
 fn way_to<S: Source>(alloc: Global, src: &mut S, object: Option<ObjectNo>) -> Result<Way, Failure> {
     let Some(object) = object else {
         return Ok(Way {

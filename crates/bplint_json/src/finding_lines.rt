@@ -76,7 +76,6 @@ impl Finding {
         Ok(line)
     }
 
-    /// Returns the JSON object of a finding.
     fn object(&self, alloc: Global, name: Name<'_>) -> Result<Vec<u8>, AllocError> {
         match self {
             Finding::Sound {

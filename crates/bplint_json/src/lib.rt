@@ -1,6 +1,6 @@
-//! Lines for scripts: what `lint` finds out about a file, as JSON, and what `ls` lists, with the object and place of each
-//! value, as JSON or in columns. Not here: the lines that people read (crate `bplint_lines`), and which answer or fault a
-//! command has (crates `bplint_engine` and `bplist_lint`).
+//! Lines for scripts: what `lint` finds out about a file, as JSON, and what `ls` lists, with the object and place of
+//! each value, as JSON or in columns. Not here: the lines that people read (crate `bplint_lines`), and which answer or
+//! fault a command has (crates `bplint_engine` and `bplist_lint`).
 //!
 //! ```
 //! let finding = find_in(alloc, &mut source);
@@ -14,7 +14,8 @@
 //! | get the line and the exit status of a finding | [`Finding`]: `line`, `status` |
 //! | list a value | [`list_rows_on`], with a [`Listed`]: path, [`Depth`] and [`Form`] |
 //!
-//! The crate `serde_json` writes each JSON line. That the lines say what the files hold is shown by tests, not by proof.
+//! The crate `serde_json` writes each JSON line. That the lines say what the files hold is shown by tests, not by
+//! proof.
 //!
 //! The modules, in reading order:
 //!

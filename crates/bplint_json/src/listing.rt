@@ -1,5 +1,5 @@
-//! The commands `ls --json` and `ls --objects`: list the members of a value, or the value and everything inside it, with
-//! the object of each value and its place.
+//! The commands `ls --json` and `ls --objects`: list the members of a value, or the value and everything inside it,
+//! with the object of each value and its place.
 
 use crate::columns::{columns_of, missing_columns};
 use crate::names::{Name, Names};
@@ -43,8 +43,9 @@ pub struct Listed<'a> {
     pub form: Form,
 }
 
-/// Lists the value under a path: writes one line of the form for each value that `ls` has a line for, in the same order.
-/// Returns the source too. A path that leads nowhere gets a JSON object that says so, or in columns the line of `ls`.
+/// Lists the value under a path: writes one line of the form for each value that `ls` has a line for, in the same
+/// order. Returns the source too. A path that leads nowhere gets a JSON object that says so, or in columns the line of
+/// `ls`.
 ///
 /// These errors come before anything is written, in this order: `Path` for a wrong path text; `Fault` or `Circle` as
 /// `lint` returns it; `TooLong` if the value has more nodes than [`Depth::All`] allows. Before `Read`, `Memory`,
@@ -71,7 +72,6 @@ pub fn list_rows_on<S: Source, W: Write>(
     }
 }
 
-/// Lists what a path led to.
 fn list_found<S: Source, W: Write>(
     alloc: Global,
     checked: &mut Checked<S>,
@@ -137,7 +137,6 @@ struct Listing<'a, W> {
 }
 
 impl<'a, W: Write> Listing<'a, W> {
-    /// Puts the lines of a node's value into the sink.
     fn list<S: Source>(
         &mut self,
         checked: &mut Checked<S>,
@@ -162,7 +161,6 @@ impl<'a, W: Write> Listing<'a, W> {
         }
     }
 
-    /// Puts the lines of all members of a container into the sink.
     fn list_members<S: Source>(
         &mut self,
         checked: &mut Checked<S>,
@@ -210,7 +208,6 @@ impl<'a, W: Write> Listing<'a, W> {
         Ok(())
     }
 
-    /// Returns the next member of a container, with its name.
     fn name_member<S: Source>(
         &mut self,
         checked: &mut Checked<S>,
@@ -244,7 +241,6 @@ impl<'a, W: Write> Listing<'a, W> {
         }
     }
 
-    /// Puts the line of a node with this face into the sink.
     fn put_row<S: Source>(
         &mut self,
         checked: &mut Checked<S>,
@@ -262,7 +258,6 @@ impl<'a, W: Write> Listing<'a, W> {
         self.put(row)
     }
 
-    /// Returns the JSON line of a value with this name and face.
     fn json_row(&self, name: Name, shown: &Face, site: Site) -> Result<Vec<u8>, AllocError> {
         let named = Named::new(Some(self.names.get(name)), name.index);
         let row = row_of(self.alloc, named, shown, site)?;
@@ -272,13 +267,11 @@ impl<'a, W: Write> Listing<'a, W> {
         }
     }
 
-    /// Writes what the sink holds.
     fn finish(&mut self) -> Result<(), RunFault> {
         self.sink.flush(self.out)?;
         Ok(())
     }
 
-    /// Puts a line into the sink.
     fn put(&mut self, row: Vec<u8>) -> Result<(), RunFault> {
         let mut row = row;
         row.push(b'\n')?;
@@ -311,7 +304,6 @@ fn member_of<S: Source>(checked: &mut Checked<S>, node: Node, i: u64) -> Result<
     }
 }
 
-/// Returns the object of a node and its place.
 fn site_of<S: Source>(checked: &mut Checked<S>, node: Node) -> Result<Site, CursorFault> {
     let frame = checked.frame();
     if node.object.0 >= frame.objects {

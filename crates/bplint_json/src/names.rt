@@ -126,7 +126,6 @@ impl Names {
         }
     }
 
-    /// Returns the name of this container, extended to the end of the buffer.
     fn extended(&self, container: Name) -> Name {
         Name {
             end: self.text.len(),

@@ -213,7 +213,6 @@ fn number_row<'a, N>(
     }
 }
 
-/// Returns the line of a text.
 fn text_row(
     alloc: Global,
     named: Named<'_>,

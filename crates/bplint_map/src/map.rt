@@ -38,8 +38,8 @@ struct Map {
 /// - the rule that the linter's fault names, if the fault is about this object.
 ///
 /// With `paths` there is a seventh column `path`: the shortest path to the object. It is empty for the top, and `-` for
-/// an object to which no path of at most 256 steps and some 5,000 bytes leads, and for what is no object. Keys and members of sets have no
-/// path.
+/// an object to which no path of at most 256 steps and some 5,000 bytes leads, and for what is no object. Keys and
+/// members of sets have no path.
 ///
 /// `Fault` is the first broken rule of 1 to 13; nothing was written then. After another error the beginning of the map
 /// may have been written. Takes 20 bytes of memory for each object, 12 more with `paths`, and the memory of the linter.
@@ -84,7 +84,6 @@ fn found_paths<S: Source>(
     Ok(Some(paths_in(alloc, src, frame, LONGEST)?))
 }
 
-/// Puts all lines of a map.
 fn put_map<P: Framed, W: Write>(
     alloc: Global,
     src: &mut P,

@@ -29,7 +29,6 @@ const TEXTS: &[(&str, &[&[u16]])] = &[
     ("/\u{FFFF}~0", &[&[0xFFFF, 0x7E]]),
 ];
 
-/// Returns the path of these steps.
 fn path_of(alloc: Global, steps: &[&[u16]]) -> Result<Path, AllocError> {
     let mut own = Vec::new(alloc);
     for step in steps {
@@ -112,8 +111,8 @@ fn lists(rt: HostRuntime) -> Result<(), Fail> {
     Ok(())
 }
 
-/// The largest number of comparisons, of bytes asked for (what `path_bytes` is for a step of 4 units into 1,000 keys), and
-/// of reads.
+/// The largest number of comparisons, of bytes asked for (what `path_bytes` is for a step of 4 units into 1,000 keys),
+/// and of reads.
 const MOST: (u64, u64, u64) = (10, 476, 400);
 
 /// The look-up of this key finds what it should, within `MOST`.
@@ -169,7 +168,6 @@ fn thousand_keys_by_halving(rt: HostRuntime) -> Result<(), Fail> {
 /// and an offset table at 9013.
 const MOST_OF_A_PASS: u64 = 37069;
 
-/// Returns the number of bytes asked for by a call with this many queries for the size of the file's value.
 fn asked_for_sizes(alloc: Global, row: &Row, sizes: usize) -> Result<u64, Fail> {
     let mut checked = row.checked(alloc, CountingSource::new(SliceSource::new(&row.octets)))?;
     let mut queries = Vec::new(alloc);

@@ -87,7 +87,6 @@ fn check_at_each_turn(
     Err(Fail::new(row.name))
 }
 
-/// Returns the answer of a call over a slice.
 fn whole_answer(alloc: Global, row: &Row, call: &Call) -> Result<String, Fail> {
     let mut whole = row.checked(alloc, SliceSource::new(&row.octets))?;
     Ok(call.answer_text(alloc, &mut whole)?)
@@ -182,7 +181,6 @@ const REFUSED: &[(&str, Parts)] = &[
     ("circle", (&[0xa1, 1, 0xa2, 2, 2, 9, 9], &[8, 10, 8])),
 ];
 
-/// Returns why the linter refuses the bytes of this source.
 fn refusal<S: Source>(alloc: Global, source: &mut S) -> Result<String, AllocError> {
     let refused = lint(alloc, source).map(|_| ());
     format!(in alloc; "{refused:?}")

@@ -12,7 +12,6 @@ use std::alloc::Global;
 use std::process::Abort;
 use std::test::Fail;
 
-/// Returns the outcome of a command over a row's file with a failing read.
 fn outcome_of(
     alloc: Global,
     command: &Command,

@@ -67,7 +67,6 @@ fn units_at<S: Source>(src: &mut S, head: &Head) -> Result<Leaf, ReadFault>
     Ok(Leaf::Units(each, all))
 }
 
-/// Returns the place of the top, read alone and in a block.
 fn places<S: Source>(src: &mut S, frame: &Frame) -> Result<[u64; 2], ObjectFault>
     requires safe { IsSafe (length (S.means src.old).octets) frame.now }
     requires top { frame.now.top.0 < frame.now.objects }
@@ -177,7 +176,6 @@ fn leaves(rt: HostRuntime) -> Result<(), Fail> {
     Ok(())
 }
 
-/// Compares the text of the top with units.
 fn compared<S: Source>(
     src: &mut S,
     units: &[u16],

@@ -228,7 +228,6 @@ fn listings_ask_for_few_bytes(rt: HostRuntime) -> Result<(), Fail> {
     Ok(())
 }
 
-/// Returns how many bytes `show` of a hundred times this path asks for.
 fn asked_by_show(alloc: Global, row: &Row, path: &str) -> Result<u64, Fail> {
     let mut paths = Vec::new(alloc);
     for _ in 0..100u8 {
@@ -243,9 +242,9 @@ fn asked_by_show(alloc: Global, row: &Row, path: &str) -> Result<u64, Fail> {
     }
 }
 
-/// `show` sorts keys only if its paths compare many. A hundred paths to the first of a thousand keys compare a hundred, so
-/// after the linter they ask for less than a byte of the file for each byte. A hundred paths to the last key would compare
-/// a hundred thousand, of some twenty bytes each.
+/// `show` sorts keys only if its paths compare many. A hundred paths to the first of a thousand keys compare a hundred,
+/// so after the linter they ask for less than a byte of the file for each byte. A hundred paths to the last key would
+/// compare a hundred thousand, of some twenty bytes each.
 #[test]
 fn keys_are_sorted_for_many_comparisons(rt: HostRuntime) -> Result<(), Fail> {
     let alloc = rt.alloc();

@@ -44,16 +44,16 @@
 //!
 //! # Errors
 //!
-//! Each error prints the line that the program `bplint` has for it, as `fault KeyTwice object 0 place 10`, `circle 1 2`,
-//! `read Device`, `changed` or `memory`; [`texts_of`] says in a sentence what a rule asks. `?` turns each into an
-//! `anyhow::Error`. A call that takes its source by value hands it back beside its error, as the first example shows.
+//! Each error prints the line that the program `bplint` has for it, as `fault KeyTwice object 0 place 10`,
+//! `circle 1 2`, `read Device`, `changed` or `memory`; [`texts_of`] says in a sentence what a rule asks. `?` turns each
+//! into an `anyhow::Error`. A call that takes its source by value hands it back beside its error, as the first example shows.
 //!
 //! # What is proved
 //!
 //! Every call returns, and reads only inside its source, for any bytes, any certificate and any source. [`lint`] says
-//! yes exactly if the file holds a value, and [`check`] exactly if the certificate is valid for the file; a no names the
-//! first broken rule, or a circle. What is then looked up is part of the file's one value. What each error prints is
-//! proved, too. docs/PROMISES.md has the promises call by call, docs/RULES.md the rules.
+//! yes exactly if the file holds a value, and [`check`] exactly if the certificate is valid for the file; a no names
+//! the first broken rule, or a circle. What is then looked up is part of the file's one value. What each error prints
+//! is proved, too. docs/PROMISES.md has the promises call by call, docs/RULES.md the rules.
 #![tactic(auto)]
 
 pub use bplist_ascii::{PrintFault, print, text_of_bytes, text_of_units};

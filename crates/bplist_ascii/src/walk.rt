@@ -108,7 +108,6 @@ fn begin<S: Source, W: Write>(
     }
 }
 
-/// Writes the next member of a container that was just popped from the stack.
 fn step<S: Source, W: Write>(
     checked: &mut Checked<S>,
     opened: Opened,

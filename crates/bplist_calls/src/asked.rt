@@ -41,7 +41,6 @@ fn write_each<W: Write>(
     Ok(())
 }
 
-/// Makes the call, and returns how many bytes it asked for.
 fn asked_for(
     alloc: Global,
     checked: &mut Checked<CountingSource<SliceSource<'_>>>,
@@ -72,7 +71,6 @@ fn make<S: Source>(alloc: Global, checked: &mut Checked<S>, request: &Request) {
     }
 }
 
-/// Measures the file, and prints an object.
 fn make_text<S: Source>(alloc: Global, checked: &mut Checked<S>, n: ObjectNo) {
     if let Ok(measures) = measure(alloc, checked) {
         let mut text: Vec<u8> = Vec::new(alloc);

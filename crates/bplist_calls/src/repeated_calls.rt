@@ -33,7 +33,6 @@ fn by_both_versions<W: Write>(
     Ok(())
 }
 
-/// Returns the bytes of the certificate that `lint` gives.
 fn linted(alloc: Global, file: &[u8]) -> Result<Vec<u8>> {
     match lint(alloc, &mut SliceSource::new(file)) {
         Ok(lint) => Ok(lint.certificate.to_octets(alloc)?),
@@ -41,7 +40,6 @@ fn linted(alloc: Global, file: &[u8]) -> Result<Vec<u8>> {
     }
 }
 
-/// Returns the bytes of the certificate of version 2.
 fn sorted(alloc: Global, mut checked: Checked<SliceSource<'_>>) -> Result<Vec<u8>> {
     let certificate = upgraded(alloc, &mut checked)?;
     Ok(certificate.to_octets(alloc)?)
@@ -64,7 +62,6 @@ fn all_twice<'a, W: Write>(
     Ok(checked)
 }
 
-/// Reads a certificate twice.
 fn read_twice<W: Write>(alloc: Global, octets: &[u8], out: &mut W) -> Result<Certificate> {
     out.write_all(b"call from_octets\n")?;
     let first = Certificate::from_octets(alloc, octets);
@@ -91,7 +88,6 @@ fn check_twice<'a, W: Write>(
     accepted(alloc, source, certificate)
 }
 
-/// Returns the text of a check's answer, and the source and the certificate that it hands back.
 fn handed_back<'a>(
     first: Result<Checked<SliceSource<'a>>, (Refusal, SliceSource<'a>, Certificate)>,
 ) -> Result<(&'static str, SliceSource<'a>, Certificate)> {

@@ -85,7 +85,6 @@ fn object(text: &str) -> Result<ObjectNo> {
     Ok(ObjectNo(text.parse().context("the number of an object")?))
 }
 
-/// Decodes the text of a path.
 fn path_text(alloc: Global, operands: &str) -> Result<String> {
     let bytes = bytes_of_hex(alloc, operands)?;
     let text = std::str::from_utf8(&bytes).context("a path that is no text")?;

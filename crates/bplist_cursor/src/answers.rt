@@ -56,7 +56,6 @@ fn measures_of<S: Source>(
     }
 }
 
-/// Returns how many nodes the tree of the node's value has, together with the measures for the next query.
 fn nodes_at<S: Source>(
     alloc: Global,
     checked: &mut Checked<S>,

@@ -99,7 +99,6 @@ fn compare_key<S: Source>(
     Ok(key_cmp(checked, &head, units, comparisons)?)
 }
 
-/// Returns the index of the key with these units, found by comparing all keys in turn.
 fn walk_keys<S: Source>(
     checked: &mut Checked<S>,
     head: &Head,

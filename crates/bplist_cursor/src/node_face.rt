@@ -19,7 +19,6 @@ use bplist_objects::{Head, Kind, int_of, uid_of};
 use bplist_octets::Source;
 use std::alloc::Global;
 
-/// Returns the body of a leaf that takes one byte for each unit of its count.
 fn leaf_bytes<S: Source>(
     alloc: Global,
     checked: &mut Checked<S>,

@@ -123,8 +123,8 @@ fn behind_cut(tail: &[u8]) -> &[u8] {
     }
 }
 
-/// Returns the damage that the last 32 bytes of a file of this length show. If they are a trailer whose offset table ends
-/// where the trailer begins, the damage is not known.
+/// Returns the damage that the last 32 bytes of a file of this length show. If they are a trailer whose offset table
+/// ends where the trailer begins, the damage is not known.
 fn damage_by(ending: &Ending, length: u64) -> Option<Damage> {
     let (table, room) = (ending.table_bytes(), ending.room(length));
     if !ending.has_form() {

@@ -38,7 +38,6 @@ pub(crate) fn form_of(front: &[u8], is_whole: bool) -> Option<Hint> {
     form_of_text(text[..text.len().min(TEXT)].trim_ascii_start()).map(Hint::Form)
 }
 
-/// Returns the form of a file that is no text.
 fn form_of_bytes(front: &[u8]) -> Option<Form> {
     if front.starts_with(b"bplist15") {
         return Some(Form::Bplist15);
@@ -103,7 +102,6 @@ fn is_blank(octet: u8) -> bool {
     matches!(octet, 9..=13 | b' ')
 }
 
-/// Returns what a text with this beginning looks like.
 fn form_of_text(text: &[u8]) -> Option<Form> {
     if text.starts_with(BASE64) {
         return Some(Form::Base64);
@@ -159,7 +157,6 @@ fn form_of_brackets(rest: &[u8]) -> Option<Form> {
     }
 }
 
-/// Returns what stands behind the next quote.
 fn behind_quote(text: &[u8]) -> &[u8] {
     match text.iter().position(|octet| *octet == b'"') {
         Some(at) => &text[at + 1..],

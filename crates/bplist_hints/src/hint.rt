@@ -168,7 +168,6 @@ impl Damage {
     }
 }
 
-/// Returns the letter that a noun gets behind this number.
 fn plural(count: u128) -> &'static str {
     if count == 1 { "" } else { "s" }
 }

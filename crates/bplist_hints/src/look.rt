@@ -26,8 +26,8 @@ const SHORTEST: u64 = 40;
 /// Returns what a file looks like that is not a sound binary property list. Returns `None` if that is not known, and
 /// for each file whose header, trailer and offset table keep rules 1 to 12.
 ///
-/// The call reads the first 4,096 bytes and the last 4,096. Where the last ones are zeros alone, it reads back to the next
-/// byte that is not zero, but at most 1 MiB. Of a file that rule 1 refuses it reads nothing.
+/// The call reads the first 4,096 bytes and the last 4,096. Where the last ones are zeros alone, it reads back to the
+/// next byte that is not zero, but at most 1 MiB. Of a file that rule 1 refuses it reads nothing.
 pub fn hint_of<S: Source>(src: &mut S) -> Result<Option<Hint>, ReadFault>
     ensures reads { OnlyReads (result_err result) (S.means src.old) (S.means src.new) }
 {

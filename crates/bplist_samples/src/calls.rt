@@ -163,7 +163,6 @@ fn queries(alloc: Global) -> Result<Vec<Query>, PathFault> {
     Ok(queries)
 }
 
-/// Returns the node of an object.
 fn node(n: u32) -> Node {
     Node {
         object: ObjectNo(n),

@@ -58,7 +58,8 @@ impl From<Error> for DeserializeError {
     }
 }
 
-/// Lints a file, and makes a value of its value. Texts that the file stores as ASCII, and data, may be borrowed from it.
+/// Lints a file, and makes a value of its value. Texts that the file stores as ASCII, and data, may be borrowed from
+/// it.
 ///
 /// | the file has | a type gets |
 /// |---|---|
@@ -95,8 +96,8 @@ pub fn from_slice<'f, T: Deserialize<'f>>(file: &'f [u8]) -> Result<T, Deseriali
 }
 
 impl<'f> Value<'_, 'f> {
-    /// Makes a value of a type of this value, as [`from_slice`] does. An object may be a member of many others, so a type
-    /// that holds any value may become very large; [`Plist::nodes`] tells first.
+    /// Makes a value of a type of this value, as [`from_slice`] does. An object may be a member of many others, so a
+    /// type that holds any value may become very large; [`Plist::nodes`] tells first.
     pub fn deserialize<T: Deserialize<'f>>(self) -> Result<T, DeserializeError> {
         T::deserialize(Nested {
             value: self,

@@ -39,7 +39,8 @@ pub enum Rule {
     OffsetLow,
     /// An object begins with a byte that marks a kind.
     Marker,
-    /// If the marker of data, a text or a container ends in f, its count follows as an integer of 1, 2, 4, 8 or 16 bytes.
+    /// If the marker of data, a text or a container ends in f, its count follows as an integer of 1, 2, 4, 8 or 16
+    /// bytes.
     Count,
     /// An object ends before the offset table.
     Extent,
@@ -69,7 +70,8 @@ pub enum Rule {
     HeightNotLess,
     /// A path is empty or begins with /. Each ~ in it is followed by 0 or 1.
     PathText,
-    /// Together the objects fit between the header and the offset table. lint adds up the reachable objects, check those of height 1 or more.
+    /// Together the objects fit between the header and the offset table. lint adds up the reachable objects, check
+    /// those of height 1 or more.
     Overfull,
     /// The key list of a dictionary is wholly there, and names the dictionary's keys in ascending order.
     KeyOrder,

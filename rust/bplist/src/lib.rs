@@ -28,13 +28,15 @@
 //! | follow a path | [`Plist::at`], [`Plist::find`], [`PathError`] |
 //! | make a struct of a file | `from_slice`, with the feature `serde` |
 //!
-//! Data and texts borrow from the bytes of the file, and containers also from its `Plist`. A value is read when it is asked for, and an iterator asks for its
-//! members in blocks. Once a file is open, reading it cannot fail. An object may be a member of many others, so a walk
-//! over a small file may take very long. [`Plist::nodes`] gives the size of the tree before the walk.
+//! Data and texts borrow from the bytes of the file, and containers also from its `Plist`. A value is read when it is
+//! asked for, and an iterator asks for its members in blocks. Once a file is open, reading it cannot fail. An object
+//! may be a member of many others, so a walk over a small file may take very long. [`Plist::nodes`] gives the size of
+//! the tree before the walk.
 //!
 //! The crate is a layer over the C library bplist. The answers of the library are proved; this layer is tested. It has
-//! no dependencies but serde, with the feature `serde`. The build looks for `libbplist.a` in the directory that the environment variable `BPLIST_LIB_DIR`
-//! names, or with pkg-config. All unsafe code is in one module, `ffi`. The folder `examples` has two small programs.
+//! no dependencies but serde, with the feature `serde`. The build looks for `libbplist.a` in the directory that the
+//! environment variable `BPLIST_LIB_DIR` names, or with pkg-config. All unsafe code is in one module, `ffi`. The folder
+//! `examples` has two small programs.
 #![deny(unsafe_code)]
 #![warn(missing_docs)]
 

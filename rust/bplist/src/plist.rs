@@ -164,7 +164,8 @@ pub struct Found {
 /// The length of the trailer, with which a file ends.
 const TRAILER: usize = 32;
 
-/// Returns the entry of an object in the offset table. The trailer has the size of an entry, and the place of the table.
+/// Returns the entry of an object in the offset table. The trailer has the size of an entry, and the place of the
+/// table.
 fn place_of(file: &[u8], object: u32) -> u64 {
     let trailer = &file[file.len() - TRAILER..];
     let size = usize::from(trailer[6]);

@@ -9,8 +9,8 @@ use crate::text::Text;
 /// The number of seconds from 1970-01-01 00:00:00 UTC to 2001-01-01 00:00:00 UTC.
 const EPOCH: u64 = 978_307_200;
 
-/// A value of a property list. Data and texts borrow from the bytes of the file, for `'f`. Containers also borrow from the
-/// `Plist`, for `'p`.
+/// A value of a property list. Data and texts borrow from the bytes of the file, for `'f`. Containers also borrow from
+/// the `Plist`, for `'p`.
 #[derive(Clone, Copy, Debug)]
 #[non_exhaustive]
 pub enum Value<'p, 'f> {

@@ -1,6 +1,5 @@
-//! read_plist FILE [parse]: reads FILE with the crate plist and prints its value as plist_value.py spells it, or nothing if
-//! the word `parse` is given.
-//! The exit status is 1 if the crate refuses the file.
+//! read_plist FILE [parse]: reads FILE with the crate plist and prints its value as plist_value.py spells it, or
+//! nothing if the word `parse` is given. The exit status is 1 if the crate refuses the file.
 use plist::Value;
 use std::{io::Cursor, process::exit, time::SystemTime};
 
