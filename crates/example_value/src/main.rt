@@ -1,5 +1,5 @@
-//! Prints one value of a file: `example_value FILE PATH`. The file is linted once. Then its certificate is kept beside
-//! it, and the file is only checked. Nothing in the certificate is trusted.
+//! Prints one value of a file: `example_value FILE PATH`. The file is linted once. Then its certificate is kept beside it,
+//! and the file is only checked. Nothing in the certificate is trusted.
 #![tactic(auto)]
 
 use anyhow::{Context, Result};
@@ -18,6 +18,7 @@ fn certificate_of(rt: &HostRuntime, file: &str, beside: &str) -> Result<Certific
     Ok(made)
 }
 
+/// Returns what is at a path of a file.
 fn value_at(rt: &HostRuntime, file: &str, path: &str) -> Result<Reply> {
     let path = Path::parse(rt.alloc(), path)?;
     let beside = format!(in rt.alloc(); "{file}.cert")?;
