@@ -42,13 +42,13 @@ STRICT = ["-std=c11", "-Wall", "-Wextra", "-Werror", "-pedantic", "-O2", "-g"]
 VERSIONS = {"gcc": ["c89", "c99", "c11", "c17", "c2x"], "g++": ["c++98", "c++11", "c++14", "c++17", "c++20"]}
 BATCH = 60
 SECONDS = 900
-MOST_GROWTHS = 20_000
+MOST_GROWTHS = 4_000
 # An address that the allocator of the kit hands on where malloc gives none. Nothing is written to it.
 UNWRITTEN = "nothing"
 
 REFUSED = {
     "two-trues": expression("hd a20101 09 080b tr(1,1,2,0,12)"),
-    "doubling-64-text": doubling(64, b"\x51a"),
+    "doubling-6-text": doubling(6, b"\x51a"),
     "three-keys": expression("hd d3010203040506 53612f62 50 5173 a107 08 c107 09 080f13141618191b tr(1,1,8,0,28)"),
     "self-circle": expression("hd a100 08 tr(1,1,1,0,10)"),
     "key-not-text": expression("hd d10101 09 080b tr(1,1,2,0,12)"),
