@@ -56,7 +56,7 @@ def date_of(seconds):
         time = datetime.datetime(2001, 1, 1) + datetime.timedelta(seconds=whole)
     except OverflowError:
         return None
-    fraction = f"{exact - whole:f}"[1:].rstrip("0").rstrip(".")
+    fraction = f"{abs(exact - whole):f}"[1:].rstrip("0").rstrip(".")
     return f"{time.isoformat()}{fraction}Z"
 
 
