@@ -48,7 +48,7 @@ def value_of(tree, n, kind):
 
 def date_of(seconds):
     """The date of so many seconds, as the lines have it: with the digits of the shortest decimal. None if there is none."""
-    if not math.isfinite(seconds) or "e" in repr(seconds):
+    if not math.isfinite(seconds) or 0 < abs(seconds) < 1e-5:
         return None
     exact = decimal.Decimal(repr(seconds))
     whole = math.floor(exact)
