@@ -171,11 +171,17 @@ fn real_row(
     match bytes.len() {
         4 => {
             let number = Some(BigEndian::read_f32(bytes)).filter(|x| x.is_finite());
-            json_of(alloc, &number_row(named, "real", digits.as_str(), number, site))
+            json_of(
+                alloc,
+                &number_row(named, "real", digits.as_str(), number, site),
+            )
         }
         8 => {
             let number = Some(BigEndian::read_f64(bytes)).filter(|x| x.is_finite());
-            json_of(alloc, &number_row(named, "real", digits.as_str(), number, site))
+            json_of(
+                alloc,
+                &number_row(named, "real", digits.as_str(), number, site),
+            )
         }
         _ => json_of(alloc, &leaf(named, "real", digits.as_str(), site)),
     }
