@@ -91,7 +91,7 @@ PATHS = ["map", "--paths"]
 # In how many growths a run of a row may give its usual answer, since std collects so many lists; 1 in all others.
 COLLECTED = {"circle-below-top": 2}
 # In how many more if FILE is read by pages: their table, the list of them, and the bytes of each.
-PAGES = 8
+PAGES = 3
 
 # What else is run on a row.
 MORE = {"doubling-64-text": ["print FILE CERT " + 62 * "/0" + " 13"]}
