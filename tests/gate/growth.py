@@ -5,7 +5,7 @@ Shows, without a clock, that no call reads a file again and again.
 
 CALLS is bplist_calls. It counts the bytes that `lint` asks its source for, and, if the file holds a value, those of
 `check` with a certificate of version 1, of `upgrade`, and of `check` with a certificate of version 2. PROGRAM is
-bplint. It reads FILE through its windows, and the system counts the bytes that `lint`, `certify --sorted`, `check` and
+bplint. It reads FILE through its pages, and the system counts the bytes that `lint`, `certify --sorted`, `check` and
 `get` read. `check` also reads pairs that it refuses.
 
 A call may ask for at most `EACH` bytes for each byte of the file and `BESIDE` bytes more. For a few hostile families
@@ -41,25 +41,21 @@ EACH = {
     "check-1": 4,
     "upgrade": 4,
     "check-2": 12,
-    "lint FILE": 8,
-    "certify --sorted FILE": 12,
-    "check FILE, version 1": 8,
-    "check FILE, version 2": 8,
-    "get FILE": 8,
+    "lint FILE": 6,
+    "certify --sorted FILE": 6,
+    "check FILE, version 1": 6,
+    "check FILE, version 2": 6,
+    "get FILE": 6,
 }
 CALLS = [call for call in EACH if "FILE" not in call]
 
-# By family: what it needs more of. A key list that is not in the order of the file costs three reads for each key. Keys
-# that lie in one another are compared with each other.
+# By family: what it needs more of. Long texts that lie in one another are compared by reading them.
+OVER = {"check FILE, version 1": 40, "check FILE, version 2": 40}
 EACH_OF = {
-    "keys_of_one_fingerprint": {"check FILE, version 2": 140, "get FILE": 140},
-    "keys_of_our_fingerprint": {"check FILE, version 2": 140, "get FILE": 140},
-    "keys_in_no_order": {"check FILE, version 2": 160, "get FILE": 160},
-    "keys_of_chance": {"check FILE, version 2": 80, "get FILE": 80},
-    "keys_over_keys_vouched": {"check FILE, version 1": 80, "check FILE, version 2": 40},
-    "over_shuffled": {"check FILE, version 1": 160, "check FILE, version 2": 40},
-    "over_halves": {"check FILE, version 1": 160, "check FILE, version 2": 40},
-    "over_falling": {"check FILE, version 1": 160, "check FILE, version 2": 40},
+    "keys_over_keys_vouched": OVER,
+    "over_shuffled": OVER,
+    "over_halves": OVER,
+    "over_falling": OVER,
     # At 64 kB the keys are just too short for a rank, so that each pair is compared.
     "pairs_of_keys": {"check-2": 20},
 }
@@ -67,20 +63,13 @@ EACH_OF = {
 BESIDE = 4096
 TIMES = 4.6
 SIZES = 1 << 16, 1 << 18
-READ_SIZE = 1 << 20  # the windows hold a file of 128 kB whole
+READ_SIZE = 1 << 20  # the first pages hold a file of 128 kB whole
 FREE = 4
 
-# By family. What stands here and grows no faster is said, so that it can be taken out. The comments have seconds, and
-# bytes read for each byte of the file.
-FILE_CALLS = [call for call in EACH if "FILE" in call]
+# By family. What stands here and grows no faster is said, so that it can be taken out.
 KNOWN = {
-    "keys_over_regions": ["check FILE, version 1", "check FILE, version 2"],
-    "pairs_too_short": ["check-2", "check FILE, version 2", "get FILE"],  # a sound file: 15 s at 16 MB, 3,155 bytes
-    "pivots_in_a_run": ["check FILE, version 1"],  # 10 s at 1 MB, 15,000 bytes, and 20 times as much at 4 MB
-    "descending_run": ["check FILE, version 2"],  # 5 s at 1 MB, 20,000 bytes
-    # Each object is a jump, for which a window or a pane is read: 120 bytes, and at 16 MB 1.7 s in place of 0.1 s.
-    "objects_in_no_order": FILE_CALLS,
-    "scattered_lists": ["check-2", *FILE_CALLS],  # 550 bytes
+    # A sound file: in memory each pair of keys is compared, 3,155 bytes for each byte of a file of 16 MB.
+    "pairs_too_short": ["check-2"],
 }
 
 # Many small dictionaries. If a quick way gave up, each would be read once more.
