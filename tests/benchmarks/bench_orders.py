@@ -65,8 +65,14 @@ def in_c(program, file, path):
     return [tuple(map(float, line.split())) for line in ran.stdout.splitlines()]
 
 
+def digits(number):
+    """Three digits, or all of a larger number."""
+    return f"{number:,.0f}" if number >= 100 else f"{number:.3g}"
+
+
 def row(name, language, times):
-    return f"| {name} | {language} | " + " | ".join(f"{opened:.3g} + {found:.2g}" for opened, found in times) + " |"
+    cells = (f"{digits(opened)} ms, {digits(found)} µs" for opened, found in times)
+    return f"| {name} | {language} | " + " | ".join(cells) + " |"
 
 
 def main():
@@ -81,10 +87,11 @@ def main():
         program = folder / "bench_orders"
         words = ["gcc", "-O2", f"-I{HERE.parents[1] / 'include'}", "-o", program, HERE / "bench_orders.c"]
         subprocess.run([*words, library / "libbplist.a"], check=True)
-        print("| file, order of keys | in | linted | linted, sorted | certificate | sorted certificate |\n|---|---|---|---|---|---|")
+        print("| file, order of keys | in | linted | linted, sorted | certificate | sorted certificate |")
+        print("|---|---|---|---|---|---|")
         for value, (make, path) in VALUES.items():
             made = make()
-            for order, tree in (("ascending", made), ("hash", shuffled(made, random.Random(1)))):
+            for order, tree in (("ascending", made), ("in no order", shuffled(made, random.Random(1)))):
                 file = folder / "file"
                 is_sorted = order == "ascending"
                 file.write_bytes(plistlib.dumps(tree, fmt=plistlib.FMT_BINARY, sort_keys=is_sorted))
