@@ -92,8 +92,8 @@ pub struct Run<'a> {
     pub replaces: Replaces,
     /// True if each line begins with the name of FILE.
     pub named: bool,
-    /// The file that lists the paths of `show` and `get`; `-` is standard input. Each line of the answer then begins with
-    /// its path.
+    /// The file that lists the paths of `show` and `get`; `-` is standard input. Each line of the answer then begins
+    /// with its path.
     pub paths_from: Option<&'a str>,
     /// The largest number of bytes that `ls` writes.
     pub most: Option<u64>,

@@ -52,8 +52,8 @@ impl Ending {
     }
 }
 
-/// Prints the line of a fault after the prefix, with the lines below it. Returns the exit status. Prints everything with
-/// one write, so that the lines of parallel runs do not mix.
+/// Prints the line of a fault after the prefix, with the lines below it. Returns the exit status. Prints everything
+/// with one write, so that the lines of parallel runs do not mix.
 pub fn end<R: Eprint>(rt: &R, alloc: Global, prefix: &str, ending: Ending) -> u8
     ensures { EndsWith ending.answer result }
 {

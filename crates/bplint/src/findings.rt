@@ -1,5 +1,5 @@
-//! What `lint` says of each file: its line or its fault, its name alone, or nothing. A run counts its files, and keeps the
-//! greatest exit status.
+//! What `lint` says of each file: its line or its fault, its name alone, or nothing. A run counts its files, and keeps
+//! the greatest exit status.
 
 ghost use Rattle.std.specs.Prelude.{◌≡◌, ◌≤◌, ℕ, max};
 ghost use Rattle.bplint.specs.ExitStatuses.{EndsWith};

@@ -1,5 +1,5 @@
-//! Lists folders, and shows the names of their entries in lines. A name can have characters that a line may not show, or
-//! bytes that are not UTF-8; these are shown as `\xHH` or `\UHHHH`, so that each name fits on one line.
+//! Lists folders, and shows the names of their entries in lines. A name can have characters that a line may not show,
+//! or bytes that are not UTF-8; these are shown as `\xHH` or `\UHHHH`, so that each name fits on one line.
 
 use crate::input::read_whole;
 use crate::input_fault::InputFault;
@@ -87,8 +87,8 @@ fn joined(alloc: Global, front: &str, name: &[u8]) -> Result<Vec<u8>, AllocError
     Ok(path)
 }
 
-/// Returns a name in which `\xHH` replaces each control character, and `\UHHHH` each other character that a line may not
-/// show, so that it fits on one line and is displayed in its order.
+/// Returns a name in which `\xHH` replaces each control character, and `\UHHHH` each other character that a line may
+/// not show, so that it fits on one line and is displayed in its order.
 pub fn shown_name(alloc: Global, name: &str) -> Result<String, AllocError> {
     let mut shown = String::new(alloc);
     for c in name.chars() {

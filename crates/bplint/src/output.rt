@@ -36,7 +36,8 @@ pub enum OutFault {
 
 /// A writer that creates or empties its file at the first write. `-` is standard output.
 ///
-/// It leaves a regular file as it is that is not empty, unless it may replace such a file. It writes to pipes and devices.
+/// It leaves a regular file as it is that is not empty, unless it may replace such a file. It writes to pipes and
+/// devices.
 #[derive(Drop)]
 pub struct OutFile<'a, R: Files> {
     rt: &'a R,

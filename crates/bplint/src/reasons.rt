@@ -1,5 +1,5 @@
-//! What is below the line of a fault: the name of the file, the path text that is wrong, the value that has not the form
-//! that was asked for, and why the system failed.
+//! What is below the line of a fault: the name of the file, the path text that is wrong, the value that has not the
+//! form that was asked for, and why the system failed.
 
 ghost use Rattle.std.specs.Prelude.{◌≡◌};
 

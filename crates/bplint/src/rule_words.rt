@@ -1,4 +1,5 @@
-//! The words that `explain` takes for a rule: its word in any case, its number, or the line of a fault as it was printed.
+//! The words that `explain` takes for a rule: its word in any case, its number, or the line of a fault as it was
+//! printed.
 
 use bplist_objects::{Rule, rule_name, rule_of_number};
 use std::alloc::{AllocError, Global};

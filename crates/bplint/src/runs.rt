@@ -179,7 +179,8 @@ fn write_answer<W: Write>(
     ending
 }
 
-/// Answers `show --raw` or `show --text`. The line for a path that leads nowhere is no value, so it goes to standard error.
+/// Answers `show --raw` or `show --text`. The line for a path that leads nowhere is no value, so it goes to standard
+/// error.
 fn answer_later<W: Write>(
     alloc: Global,
     request: &Request<'_>,
@@ -298,8 +299,8 @@ fn command_on<S: Source + Drop, W: Write>(
     }
 }
 
-/// Returns the explanation of a fault. CERT is read as a whole here, unless it is held already. If a read fails or memory
-/// is refused, there is no explanation.
+/// Returns the explanation of a fault. CERT is read as a whole here, unless it is held already. If a read fails or
+/// memory is refused, there is no explanation.
 fn under_fault<S: Source>(
     alloc: Global,
     request: &Request<'_>,

@@ -1,5 +1,5 @@
-//! The command `textconv`: shows any file to a program that compares or prints files, as git does. It ends with status 0
-//! once the file could be read.
+//! The command `textconv`: shows any file to a program that compares or prints files, as git does. It ends with status
+//! 0 once the file could be read.
 
 ghost use Rattle.std.specs.Prelude.{◌≤◌};
 
@@ -29,8 +29,8 @@ const BLOCK: usize = 4096;
 /// How many lines are shown of a sound file.
 const LINES: u64 = 1_000_000;
 
-/// How many bytes of lines are shown for each byte of a sound file. Each line has its path, so that their length may grow
-/// with the square of that of the file.
+/// How many bytes of lines are shown for each byte of a sound file. Each line has its path, so that their length may
+/// grow with the square of that of the file.
 const TIMES: u64 = 64;
 
 /// As many bytes of lines are shown whatever the length of the file is.
@@ -39,8 +39,8 @@ const LEAST: u64 = 1 << 20;
 /// The largest number of bytes of lines that are shown.
 const MOST: u64 = 1 << 26;
 
-/// Shows a file: the lines of `ls --recursive --utf8`; or, of a binary property list that is not sound, its fault and its first
-/// bytes; or the file itself, if it is no binary property list. Returns the exit status.
+/// Shows a file: the lines of `ls --recursive --utf8`; or, of a binary property list that is not sound, its fault and
+/// its first bytes; or the file itself, if it is no binary property list. Returns the exit status.
 pub fn show_any<R: Files<File = File> + Input + Print + Eprint>(
     rt: &R,
     alloc: Global,
@@ -86,8 +86,8 @@ fn show_file<R: Files<File = File> + Print>(
     completed(alloc, Ending::of(alloc, answer), &names, out.fault())
 }
 
-/// Lists a binary property list. If there are too many lines to be counted, only the members of the top have lines, and a
-/// last line says so.
+/// Lists a binary property list. If there are too many lines to be counted, only the members of the top have lines, and
+/// a last line says so.
 fn list<S: Source + Drop, W: Write>(alloc: Global, src: S, out: &mut W) -> Result<Said, RunFault> {
     let whole = Branch {
         path: "",
@@ -114,8 +114,8 @@ fn send<W: Write>(out: &mut W, bytes: &[u8]) -> Result<Said, RunFault> {
     Ok(Said::All)
 }
 
-/// Shows a source. The prefix begins each line, but not those of a file that is written as it is. If there are more lines
-/// or bytes than are shown, a last line says so.
+/// Shows a source. The prefix begins each line, but not those of a file that is written as it is. If there are more
+/// lines or bytes than are shown, a last line says so.
 fn show_source<S: Source + Drop, W: Write>(
     alloc: Global,
     src: S,

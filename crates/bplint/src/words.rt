@@ -66,8 +66,8 @@ fn not_utf8(alloc: Global, octets: &[u8]) -> Result<WordFault, AllocError> {
     Ok(WordFault::NotUtf8(format!(in alloc; "an argument is not UTF-8: {shown}")?))
 }
 
-/// Returns a text that stands for a name that is not UTF-8: a zero byte, which no name has, and the bytes of the name in
-/// hexadecimal. No file can be opened by it.
+/// Returns a text that stands for a name that is not UTF-8: a zero byte, which no name has, and the bytes of the name
+/// in hexadecimal. No file can be opened by it.
 fn stand_in(alloc: Global, octets: &[u8]) -> Result<String, AllocError> {
     let digits = hex::encode(alloc, octets)?;
     format!(in alloc; "\0{digits}")

@@ -34,8 +34,8 @@ pub fn certify_on<S: Source, W: Write>(
     }
 }
 
-/// Writes the bytes of a certificate. With `hex` it writes their hexadecimal text and a line feed, which is made in memory
-/// first.
+/// Writes the bytes of a certificate. With `hex` it writes their hexadecimal text and a line feed, which is made in
+/// memory first.
 fn send_certificate<W: Write>(
     alloc: Global,
     certificate: &Certificate,

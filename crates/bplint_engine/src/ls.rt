@@ -45,8 +45,8 @@ pub(crate) struct Container<'a> {
 ///
 /// A line has the member's own path text, a tab, and the line of `Get` for the member, with texts in this style. If the
 /// member has no path text that can be shown, its index in brackets, counted from 0, replaces the path text. In UTF-8
-/// style the key follows the index, as a text. That is so for each member of a set, which has no key, and for a key whose
-/// path text contains
+/// style the key follows the index, as a text. That is so for each member of a set, which has no key, and for a key
+/// whose path text contains
 ///
 /// - a control character, including U+0080 to U+009F,
 /// - a line or paragraph separator (U+2028, U+2029),
@@ -58,8 +58,8 @@ pub(crate) struct Container<'a> {
 /// Lines are written as they are made. Memory grows with the number of objects and the length of a line.
 ///
 /// These errors come before anything is written, in this order: `Path` for a wrong path text, then `Fault` or `Circle`
-/// as `Lint` returns it. `Write` and `Changed` mean the same as in [`crate::run_on`]. Before `Read` or `Memory`, a first
-/// part of the lines may have been written.
+/// as `Lint` returns it. `Write` and `Changed` mean the same as in [`crate::run_on`]. Before `Read` or `Memory`, a
+/// first part of the lines may have been written.
 pub fn list_on<S: Source, W: Write>(
     alloc: Global,
     src: S,

@@ -1,7 +1,7 @@
 //! Whether to sort the keys of a checked file before many paths are followed.
 //!
-//! Without key lists a step compares the keys of its dictionary in turn. With them the search halves, but first the keys
-//! of all dictionaries have to be sorted, also those that no path leads through.
+//! Without key lists a step compares the keys of its dictionary in turn. With them the search halves, but first the
+//! keys of all dictionaries have to be sorted, also those that no path leads through.
 
 ghost use Rattle.std.specs.Prelude.{◌≡◌, IfErr, IsTrue, MatchResult, ⊤};
 ghost use Rattle.bplint_engine.specs.Prelude.{GivesCursor, OnlyReads, OnlyReadsFile, cursor_read, read_fault_of};

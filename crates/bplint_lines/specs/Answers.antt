@@ -22,8 +22,8 @@ module _ (Says : Answer → Type 0) (bound : Option ℕ) (old new : Option (List
   BeginsAnswer = IfSome bound (AtMost old new)
       × (Keeps old new ⊎ ((said : Said) × (bytes : List ℕ) × Says (gives said bytes) × SendsSome old new bytes))
 
-  -- what a run leaves with the writer: the whole answer; after `Write`, `Read` or `Memory` a first part of it; after any other
-  -- fault nothing
+  -- what a run leaves with the writer: the whole answer; after `Write`, `Read` or `Memory` a first part of it; after
+  -- any other fault nothing
   abbrev pub LeavesWithin : Result Said RunFault → Type 0
   LeavesWithin (Ok said) = (bytes : List ℕ) × Says (gives said bytes) × Appends old new bytes
   LeavesWithin (Err (faults.Write sent)) =

@@ -25,8 +25,8 @@ abbrev pub unshown_name : Style → ℕ → List ℕ → List ℕ
 unshown_name OldStyle i key = bracketed i
 unshown_name Utf8 i key = bracketed i ++ utf8_text key
 
--- the name of value i: the path text of its container, `/` and the escaped key, unless the key is no UTF-16 or cannot be
--- shown
+-- the name of value i: the path text of its container, `/` and the escaped key, unless the key is no UTF-16 or cannot
+-- be shown
 abbrev pub key_name : Style → List ℕ → ℕ → List ℕ → List ℕ
 key_name style path i key = if list_any is_unshown key || has_unpaired_surrogate key then unshown_name style i key
     else path ++ codes "/" ++ flat_map escaped (encode_utf8_all (utf16_lossy_chars key))

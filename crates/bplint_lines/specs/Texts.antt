@@ -17,8 +17,8 @@ is_unshown u = is_control u || u == 0x61C || is_in_range 0x200E 0x200F u || is_i
 abbrev pub is_surrogate : ℕ → Bool
 is_surrogate u = is_in_range 0xD800 0xDFFF u
 
--- a unit that is in no pair, between quotes: `\"`, `\\`, `\U` and four hexadecimal digits for what a line cannot show and
--- for a half of a pair, otherwise its UTF-8
+-- a unit that is in no pair, between quotes: `\"`, `\\`, `\U` and four hexadecimal digits for what a line cannot show
+-- and for a half of a pair, otherwise its UTF-8
 abbrev pub utf8_unit : ℕ → List ℕ
 utf8_unit u =
     if u == 0x22 || u == 0x5C then 0x5C ∷ u ∷ []

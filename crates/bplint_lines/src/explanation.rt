@@ -259,8 +259,8 @@ fn key_text(alloc: Global, index: u64, key: Option<&KeyFront>) -> Result<String,
     Ok(line)
 }
 
-/// Returns the line with the path to an object. Finding the path takes more memory than `lint`: if memory is refused, the
-/// line says so.
+/// Returns the line with the path to an object. Finding the path takes more memory than `lint`: if memory is refused,
+/// the line says so.
 fn path_line<S: Source>(
     alloc: Global,
     src: &mut S,

@@ -42,8 +42,8 @@ pub struct Pair<'a> {
     pub key: &'a [u16],
 }
 
-/// Adds the path text of the value of a pair, in the dictionary with this path text. If the key cannot be shown, adds the
-/// index in brackets instead, and in UTF-8 style then the key as a text.
+/// Adds the path text of the value of a pair, in the dictionary with this path text. If the key cannot be shown, adds
+/// the index in brackets instead, and in UTF-8 style then the key as a text.
 pub fn add_key_name(
     alloc: Global,
     style: Style,
@@ -65,8 +65,8 @@ pub fn add_key_name(
     }
 }
 
-/// Adds `/` and the token of a key, whatever its characters are. Returns false, and adds nothing, if the key has half of
-/// a surrogate pair, which no path text can have.
+/// Adds `/` and the token of a key, whatever its characters are. Returns false, and adds nothing, if the key has half
+/// of a surrogate pair, which no path text can have.
 pub fn add_whole_key_name(
     alloc: Global,
     key: &[u16],

@@ -131,9 +131,9 @@ pub fn path_to<S: Source>(
     paths.path_to(alloc, src, frame, target)
 }
 
-/// Searches from the top for all objects, breadth first, so that the path to each is a shortest one, named as in lines. An
-/// object counts as not found if its path has more than `longest` steps, and one step more. Takes 12 bytes of memory for
-/// each object, of which 8 stay.
+/// Searches from the top for all objects, breadth first, so that the path to each is a shortest one, named as in lines.
+/// An object counts as not found if its path has more than `longest` steps, and one step more. Takes 12 bytes of memory
+/// for each object, of which 8 stay.
 pub fn paths_in<S: Source>(
     alloc: Global,
     src: &mut S,
@@ -366,8 +366,8 @@ fn add_step<S: Source>(
     Ok(add_index_name(alloc, "", index, &mut path.text)?)
 }
 
-/// Adds the step to the value of a pair with this key. A key that was cut is given by its index, because its start could be
-/// another key.
+/// Adds the step to the value of a pair with this key. A key that was cut is given by its index, because its start
+/// could be another key.
 fn add_key(
     alloc: Global,
     naming: Naming,

@@ -17,7 +17,8 @@ use std::alloc::{AllocError, Global};
 pub enum Style {
     /// A text in old-style form. A key that cannot be shown is left out: its index stands alone.
     OldStyle,
-    /// A text in UTF-8. A key that cannot be shown follows its index, with `\U` and four digits for what cannot be shown.
+    /// A text in UTF-8. A key that cannot be shown follows its index, with `\U` and four digits for what cannot be
+    /// shown.
     Utf8,
 }
 
@@ -148,8 +149,8 @@ pub(crate) fn have_unshown(units: &[u16]) -> bool
 }
 
 /// Returns true for a control character, a line or paragraph separator, and a control of text direction. These could
-/// begin a new line, give a command to the terminal, or change the order in which a line is displayed. No character beyond
-/// U+FFFF is one of them.
+/// begin a new line, give a command to the terminal, or change the order in which a line is displayed. No character
+/// beyond U+FFFF is one of them.
 pub fn is_unshown(unit: u16) -> bool
     ensures { result ≡ spec.is_unshown unit }
 {

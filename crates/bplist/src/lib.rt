@@ -46,7 +46,8 @@
 //!
 //! Each error prints the line that the program `bplint` has for it, as `fault KeyTwice object 0 place 10`,
 //! `circle 1 2`, `read Device`, `changed` or `memory`; [`texts_of`] says in a sentence what a rule asks. `?` turns each
-//! into an `anyhow::Error`. A call that takes its source by value hands it back beside its error, as the first example shows.
+//! into an `anyhow::Error`. A call that takes its source by value hands it back beside its error, as the first example
+//! shows.
 //!
 //! # What is proved
 //!

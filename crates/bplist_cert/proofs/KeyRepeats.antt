@@ -163,7 +163,8 @@ module _ (f : List ℕ) (F : Frame) where
           let t = classed.only k low (some k under) in
           (t.0, text_there f F m framed (inside k low) t.0 (shape_announced f F m t.0 t.1.0) (sound k low (inside k low)) t.1.1)
 
--- if only marks have numbers above 0, there are no more of these than of marks; and if there are as many, each mark has one
+-- if only marks have numbers above 0, there are no more of these than of marks; and if there are as many, each mark has
+-- one
 counted : (marks : List Bool) (numbers : List ℕ) → length numbers ≡ length marks → ((m : ℕ) → 0 < slice_index numbers m → IsMarked marks m) → (n : ℕ) → n ≤ length marks
     → (count_by (nat_lt 0) (take n numbers) ≤ count_by (λ marked. marked) (take n marks))
     × (count_by (λ marked. marked) (take n marks) ≤ count_by (nat_lt 0) (take n numbers) → (m : ℕ) → m < n → IsMarked marks m → 0 < slice_index numbers m)

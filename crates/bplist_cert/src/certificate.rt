@@ -34,8 +34,8 @@ pub struct KeyLists {
     /// For each object, the index in `positions` at which its key list starts. Ignored for an object that is not
     /// vouched for or is not a dictionary.
     pub starts: Vec<u32>,
-    /// The key lists. A position is the number of a key in its dictionary, counted from 0 in written order. A list names
-    /// the keys in the order of their units.
+    /// The key lists. A position is the number of a key in its dictionary, counted from 0 in written order. A list
+    /// names the keys in the order of their units.
     pub positions: Vec<u32>,
 }
 
@@ -78,8 +78,8 @@ impl Certificate {
         Ok(octets)
     }
 
-    /// Writes the bytes of [`Certificate::to_octets`], a block at a time, so that nothing is allocated. The error says how
-    /// many of them were written.
+    /// Writes the bytes of [`Certificate::to_octets`], a block at a time, so that nothing is allocated. The error says
+    /// how many of them were written.
     pub fn write_to<W: Write>(&self, out: &mut W) -> Result<(), WriteFault>
         ensures words { IsCertificate self.now }
         ensures sent { MatchResult result

@@ -211,8 +211,8 @@ pub(crate) fn look_at_lists<P: Offsets>(
     Ok(())
 }
 
-/// Checks the keys of vouched object `n` and its key list, if it is a dictionary. If all vouched objects were seen, a key
-/// that is a text by marker and count is a text.
+/// Checks the keys of vouched object `n` and its key list, if it is a dictionary. If all vouched objects were seen, a
+/// key that is a text by marker and count is a text.
 fn check_dict_order<P: Offsets>(
     src: &mut P,
     seen: &VouchedPrefix,

@@ -89,8 +89,8 @@ impl KeyNames {
     }
 }
 
-/// Names the keys of object `n`, if it is a dictionary. `place` must be the object's; this is not checked. Not inlined, so
-/// that the loop over leaves stays in registers.
+/// Names the keys of object `n`, if it is a dictionary. `place` must be the object's; this is not checked. Not inlined,
+/// so that the loop over leaves stays in registers.
 #[inline(never)]
 fn name_object<P: Framed>(
     src: &mut P,

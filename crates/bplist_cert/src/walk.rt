@@ -52,8 +52,9 @@ struct Walked {
     named: Option<KeyNames>,
 }
 
-/// Checks what follows the head of a vouched object, collects the keys of a dictionary, and reads no byte twice. The test
-/// of rules 28 and 29 also finds a reference that is not the number of an object, because only an object has a height.
+/// Checks what follows the head of a vouched object, collects the keys of a dictionary, and reads no byte twice. The
+/// test of rules 28 and 29 also finds a reference that is not the number of an object, because only an object has a
+/// height.
 #[inline(always)]
 fn check_rest<P: Framed>(
     src: &mut P,

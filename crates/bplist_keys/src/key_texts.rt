@@ -63,8 +63,8 @@ impl KeyTexts {
         Ok(front_of(&self.units[start..]))
     }
 
-    /// Reads the texts of the items in turn, and gives each item its index and its first four units. Returns None if they
-    /// have more units than the file has bytes: texts of a faulty file may overlap.
+    /// Reads the texts of the items in turn, and gives each item its index and its first four units. Returns None if
+    /// they have more units than the file has bytes: texts of a faulty file may overlap.
     pub fn read<P: Offsets>(
         alloc: Global,
         src: &mut P,

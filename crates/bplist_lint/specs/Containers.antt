@@ -28,8 +28,8 @@ pub record AreFinished (f : List ℕ) (F : Frame) (marks : List Bool) (heights :
   pub vouched : (n : ℕ) → 0 < slice_index heights n → IsMarked marks n × Least (refs_in views.Values f F) n (slice_index heights n)
   pub all : (n : ℕ) → IsMarked marks n → 0 < slice_index heights n
 
--- what is known of the reached objects before their keys are compared: they keep rules 14 to 20 and 31, and the texts that
--- they name as keys have these numbers
+-- what is known of the reached objects before their keys are compared: they keep rules 14 to 20 and 31, and the texts
+-- that they name as keys have these numbers
 pub record IsNumbered (f : List ℕ) (F : Frame) (reached : Reached) (numbers : List ℕ) : Type 0 where
   pub walked : IsWalked f F reached
   pub named : List Bool

@@ -65,7 +65,8 @@ module _ (f : List ℕ) (F : Frame) (heights : List ℕ) where
 abbrev pub keys_for : Bool → Keys
 keys_for sorted = if sorted then Ranks else Classes
 
--- the linter's answer is right for the certificate's heights and this tally, and with ranks the certificate has key lists
+-- the linter's answer is right for the certificate's heights and this tally, and with ranks the certificate has key
+-- lists
 abbrev pub IsLintedWith : Keys → List ℕ → Frame → Lists → Tally → Type 0
 IsLintedWith keys f F certificate tally = IsLintedBy f F (lint_of F (lists certificate.heights None) tally)
     × elim keys [ Classes ↦ certificate.keys ≡ None | Ranks ↦ IsUpgraded f F certificate.heights certificate ]

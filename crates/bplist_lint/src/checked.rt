@@ -11,9 +11,9 @@ use bplist_cert::Checked;
 use bplist_octets::Source;
 use std::alloc::Global;
 
-/// Decides whether a file holds a value, as `lint` does. Returns the file with the certificate of the least heights, and
-/// the tally of its reached objects, or else the first fault of the file. No check is needed. Every refusal hands the
-/// source back.
+/// Decides whether a file holds a value, as `lint` does. Returns the file with the certificate of the least heights,
+/// and the tally of its reached objects, or else the first fault of the file. No check is needed. Every refusal hands
+/// the source back.
 ///
 /// With `Keys::Classes` the certificate is that of `lint`, and nothing more is read. With `Keys::Ranks` it also has the
 /// key lists that `upgrade` makes, over one numbering of the keys.

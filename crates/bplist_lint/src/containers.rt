@@ -109,8 +109,8 @@ fn measure_containers<P: Offsets>(
     Ok(true)
 }
 
-/// Returns the least height of each reached object, and 0 for every other object, and the numbers. Returns no heights if
-/// a key is wrong, or if an object refers to one before it that has no height yet; then nothing is known.
+/// Returns the least height of each reached object, and 0 for every other object, and the numbers. Returns no heights
+/// if a key is wrong, or if an object refers to one before it that has no height yet; then nothing is known.
 ///
 /// The reached objects must keep rules 14 to 20 and 31, `marks` must mark exactly them, and `childless` only objects
 /// without references. The numbers of their keys are classes or ranks. Takes 4 bytes of memory for each object and for

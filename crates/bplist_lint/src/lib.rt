@@ -11,8 +11,8 @@
 //! }
 //! ```
 //!
-//! To go on with the file, call [`lint_checked`], which returns it as a `Checked`, as `check` does. For a certificate with
-//! sorted key lists, call it with [`Keys::Ranks`], or call [`upgrade`] on a checked file.
+//! To go on with the file, call [`lint_checked`], which returns it as a `Checked`, as `check` does. For a certificate
+//! with sorted key lists, call it with [`Keys::Ranks`], or call [`upgrade`] on a checked file.
 //!
 //! A no is final: no certificate is valid for that file (clause `decisive` of [`lint`], law [`fault_is_final`]).
 //! docs/DESIGN.md describes the passes, docs/RULES.md the order of the rules.

@@ -32,8 +32,8 @@ use std::alloc::Global;
 pub enum Keys {
     /// By classes: keys of the same text have the same number. This finds repeated keys.
     Classes,
-    /// By ranks: the numbers are also in the order of the texts. This takes longer, and gives the certificate its sorted
-    /// key lists.
+    /// By ranks: the numbers are also in the order of the texts. This takes longer, and gives the certificate its
+    /// sorted key lists.
     Ranks,
 }
 
@@ -130,8 +130,8 @@ fn heights_or_circle<P: Offsets>(
     Ok(heights)
 }
 
-/// Checks the keys of the reached objects, which keep rules 14 to 20 and 31, by rules 21 and 22. The numbers of the keys
-/// are classes or ranks. Returns the numbers, and the heights too if the quick pass finds them.
+/// Checks the keys of the reached objects, which keep rules 14 to 20 and 31, by rules 21 and 22. The numbers of the
+/// keys are classes or ranks. Returns the numbers, and the heights too if the quick pass finds them.
 fn check_keys<P: Offsets>(
     alloc: Global,
     src: &mut P,
@@ -275,8 +275,8 @@ fn read_places<S: Source>(alloc: Global, src: &mut S) -> Result<(Frame, Vec<u32>
     Ok((frame, places))
 }
 
-/// Returns the certificate of a file, the tally of its reached objects, and its frame, or its first fault or circle. Over
-/// any source, honest or not, the frame fits it and the certificate has one height for each object.
+/// Returns the certificate of a file, the tally of its reached objects, and its frame, or its first fault or circle.
+/// Over any source, honest or not, the frame fits it and the certificate has one height for each object.
 pub fn lint_file<S: Source>(
     alloc: Global,
     src: &mut S,

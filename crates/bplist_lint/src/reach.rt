@@ -1,5 +1,5 @@
-//! Finds the objects that the top reaches. The linter needs this only if the quick walk meets a fault. Arrays may overlap
-//! in such a file, so the reference at each place is followed once, however many arrays it is part of.
+//! Finds the objects that the top reaches. The linter needs this only if the quick walk meets a fault. Arrays may
+//! overlap in such a file, so the reference at each place is followed once, however many arrays it is part of.
 
 ghost use Rattle.std.specs.Prelude.{◌≡◌, ◌↔◌, ℕ, ◌+◌, ◌≤◌, ◌<◌, true, false, not, IsTrue, IfOk, OnOk};
 ghost use Rattle.std.specs.Prelude.{replicate, count_by, vec_len};

@@ -32,8 +32,8 @@ impl Tally {
         }
     }
 
-    /// Returns the tally with one more object: object `n`, from `place` to `end`, with this number of references. Returns
-    /// the fault of rule 31 if there is no room for it.
+    /// Returns the tally with one more object: object `n`, from `place` to `end`, with this number of references.
+    /// Returns the fault of rule 31 if there is no room for it.
     #[inline(always)]
     pub fn with(
         self,

@@ -19,12 +19,13 @@ ReadsOn known old new n into = IfSome known (λ xs. (take n into ≡ part xs old
 abbrev pub Fills : Option (List ℕ) → ℕ → ℕ → List ℕ → Type 0
 Fills known old new into = IfSome known (λ xs. (into ≡ part xs old (length into)) × (new ≡ old + length into))
 
--- what a fault says of a buffer of n bytes that is not full: after `Ended` there are fewer than n bytes from the position on
+-- what a fault says of a buffer of n bytes that is not full: after `Ended` there are fewer than n bytes from the
+-- position on
 abbrev pub FillFailed : Option (List ℕ) → ℕ → ℕ → ReadFault → Type 0
 FillFailed known position n fault = elim fault [ Ended ↦ IfSome known (λ xs. length xs < position + n) | _ ↦ Unit {0} ]
 
--- what a source over a stream of this length means: it is honest if the bytes are known. Otherwise no read promises them, so
--- any list of this length would do
+-- what a source over a stream of this length means: it is honest if the bytes are known. Otherwise no read promises
+-- them, so any list of this length would do
 abbrev pub meaning_of_stream : Option (List ℕ) → ℕ → ℕ → Option ReadFault → Meaning
 meaning_of_stream (Some xs) n failures last = record { octets = xs; honest = true; failures = failures; last = last; extra = [] }
 meaning_of_stream None n failures last = record { octets = replicate n 0; honest = false; failures = failures; last = last; extra = [] }

@@ -19,8 +19,8 @@ const PAGE: usize = 16_384;
 /// The longest request that goes through a page.
 const LONGEST: usize = 8192;
 
-/// The number of pages that are kept for readers that go on from a page: with as many, the offset table, an object, what
-/// it refers to and its keys have pages of their own.
+/// The number of pages that are kept for readers that go on from a page: with as many, the offset table, an object,
+/// what it refers to and its keys have pages of their own.
 const FEW: usize = 8;
 
 /// The largest number of pages: 64 MiB.
@@ -109,11 +109,11 @@ fn oldest(pages: &[Page], hand: usize) -> usize
 /// A page is found by its number. If it has all bytes of a request, nothing is read. A request of more than 8,192 bytes
 /// goes straight to the window, and so does each request if the source is longer than 4 GiB.
 ///
-/// A reader goes on if it comes to a page beside one that it used lately. The page of such a reader takes the place of one
-/// that was used long ago, if 8 pages are kept. A reader that does not go on jumps, and a jump takes a page more, up to
-/// 4,096 pages. If there is no memory for it, it takes the place of another too. So a source in order takes little
-/// memory, and one in no order is read about once. No reader can make it read again and again: after four times as many
-/// pages as the source has were given up, each reader takes a page more.
+/// A reader goes on if it comes to a page beside one that it used lately. The page of such a reader takes the place of
+/// one that was used long ago, if 8 pages are kept. A reader that does not go on jumps, and a jump takes a page more,
+/// up to 4,096 pages. If there is no memory for it, it takes the place of another too. So a source in order takes
+/// little memory, and one in no order is read about once. No reader can make it read again and again: after four times
+/// as many pages as the source has were given up, each reader takes a page more.
 ///
 /// After a jump the block of 1,024 bytes with that place is read, and if a request comes to the same page again, all of
 /// it. A reader that comes to the next page near its beginning, or to the one before near its end, reads all of it at
@@ -214,8 +214,8 @@ impl<S: Source> Pages<S> {
         Some(k)
     }
 
-    /// Takes a page for the bytes at place `at`, of which no page is kept. Returns its index, and whether all of it is to
-    /// be read. None if no page of this source can be kept, or if there is no memory for the first one.
+    /// Takes a page for the bytes at place `at`, of which no page is kept. Returns its index, and whether all of it is
+    /// to be read. None if no page of this source can be kept, or if there is no memory for the first one.
     fn take_page(&mut self, at: u64) -> Option<(usize, bool)>
         ensures same { self.new.window ≡ self.old.window }
         ensures inside { IfSome result (λ taken. taken.0 < vec_len self.new.pages) }

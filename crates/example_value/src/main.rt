@@ -1,5 +1,5 @@
-//! Prints one value of a file: `example_value FILE PATH`. The file is linted once. Then its certificate is kept beside it,
-//! and the file is only checked. Nothing in the certificate is trusted.
+//! Prints one value of a file: `example_value FILE PATH`. The file is linted once. Then its certificate is kept beside
+//! it, and the file is only checked. Nothing in the certificate is trusted.
 #![tactic(auto)]
 
 use anyhow::{Context, Result};

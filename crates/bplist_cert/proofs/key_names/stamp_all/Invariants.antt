@@ -1,8 +1,8 @@
 use Rattle.std.proofs.Common.{◌≡◌, ◌≢◌, ◌⊎◌, ℕ, ◌<◌, IsTrue, length, slice_index}
 use Rattle.bplist_cert.proofs.key_names.stamp_all.Given as goal
 
--- the objects so far have this stamp, and others the one that they had; `apart` says whether the numbers so far are those
--- of different objects, which had another stamp
+-- the objects so far have this stamp, and others the one that they had; `apart` says whether the numbers so far are
+-- those of different objects, which had another stamp
 abbrev pub invariant-loop-m : goal.invariant-loop-m
 invariant-loop-m l = record {
   all : length l.last ≡ length l.fn.last;

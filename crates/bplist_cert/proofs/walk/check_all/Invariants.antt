@@ -5,7 +5,8 @@ use Rattle.bplist_cert.specs.PairFault.{AreCheckedBelow}
 use Rattle.bplist_cert.specs.KeysLooks.{AreSeen}
 use Rattle.bplist_cert.proofs.walk.check_all.Given as goal
 
--- the source is as it was; the vouched objects so far keep the rules, and so do their keys as far as names and lists say
+-- the source is as it was; the vouched objects so far keep the rules, and so do their keys as far as names and lists
+-- say
 abbrev pub invariant-loop-done : goal.invariant-loop-done
 invariant-loop-done g l =
     let means = g.P.Source.means in
