@@ -1,4 +1,4 @@
-use Rattle.std.proofs.Common.{◌≡◌, ◌<◌, ℕ, length, refl, sym, ap, ◌∙◌, subst, inl, inr, arith}
+use Rattle.std.proofs.Common.{◌<◌, length, refl, sym, ap, ◌∙◌, subst, inl, inr, arith}
 use Rattle.std.proofs.lemmas.Bool.{cases_eq}
 use Rattle.std.proofs.lemmas.List.{length-set}
 use Rattle.bplist_objects.specs.declared.frame.Frame.{Frame}
@@ -6,8 +6,9 @@ use Rattle.bplist_objects.specs.Framed.{frame_in}
 use Rattle.bplist_objects.specs.Units.{units_of}
 use Rattle.bplist_keys.specs.declared.sorting.Item.{Item}
 use Rattle.bplist_keys.specs.Groups.{item_at}
+use Rattle.bplist_keys.specs.KeyTexts.{AreHeld}
 use Rattle.bplist_keys.specs.Texts.{HasTextShape, text_units}
-use Rattle.bplist_keys.proofs.HeldTexts.{held_more}
+use Rattle.bplist_keys.proofs.HeldTexts.{held_in, held_more}
 use Rattle.bplist_keys.proofs.Merging.{put_here, put_other}
 use Rattle.bplist_keys.proofs.TextUnits.{text_units-head}
 use Rattle.bplist_keys.proofs.key_texts.KeyTexts.read.Goals as goal
@@ -34,8 +35,8 @@ loop-k-preserved g c =
     let xs = c.loop-k.items in
     let own = item_at xs k in
     let head = c.in-Some.head in
-    let pushed = c.in_ok-number.ensures in
-    let x : Item = record { object = own.object; group = k; number = c.in_ok-number.number } in
+    let pushed = c.in_ok-push-2.ensures in
+    let x : Item = record { object = own.object; group = k; number = own.number } in
     let room : k < length xs = omega (arith, c.loop-k-test.true, v.all) in
     record {
       same = pushed.reads ∙ c.in_ok-head.ensures.reads ∙ v.same;
@@ -48,6 +49,18 @@ loop-k-preserved g c =
           let has = (rw (v.same, c.in-Some.is) at c.in_ok-head.ensures.exact) honest in
           let is = text_units-head f F own.object head has in
           let text = (rw (c.in_ok-head.ensures.reads, v.same) at pushed.text) honest in
-          let front = (rw (c.in_ok-head.ensures.reads, v.same) at pushed.front) honest in
-          held_more (units_of f head) c.loop-k.texts c.push-in-loop-k.new.self text (text_units f F) xs k x room (sym is) front refl (v.held honest shapes);
+          held_more (units_of f head) c.loop-k.texts c.push-in-loop-k.new.self text (text_units f F) xs k x room (sym is) refl (v.held honest shapes);
     }
+
+pub returns-clause-ready : goal.returns-clause-ready
+returns-clause-ready g c = λ honest shapes.
+    let m = g.P.Source.means c.args.src.now in
+    let text = text_units m.octets (frame_in m) in
+    let v = c.loop-k.invariant in
+    let xs = c.loop-k.items in
+    let read = v.held honest shapes in
+    let held : AreHeld text c.loop-k.texts xs = λ k low. read.held k (omega (arith, low, v.all, c.loop-k-test.false)) in
+    λ k low. (
+      c.number.ensures.held text (λ j inside. held_in text c.loop-k.texts _ (item_at xs j) refl refl (held j inside)) k low,
+      c.number.ensures.fronts text (λ j inside. held_in text c.loop-k.texts _ (item_at xs j) refl refl (held j inside)) (c.common_fronts-texts.ensures text held) k low,
+    )

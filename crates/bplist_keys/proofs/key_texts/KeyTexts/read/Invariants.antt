@@ -1,8 +1,8 @@
-use Rattle.std.proofs.Common.{◌≡◌, ◌≤◌, ◌<◌, ◌^◌, ℕ, length}
+use Rattle.std.proofs.Common.{◌≡◌, ℕ, length}
 use Rattle.bplist_objects.specs.Framed.{HonestlyIn}
 use Rattle.bplist_keys.specs.Groups.{item_at, HaveShapes}
 use Rattle.bplist_keys.specs.Texts.{text_units}
-use Rattle.bplist_keys.proofs.HeldTexts.{AreHeld}
+use Rattle.bplist_keys.proofs.HeldTexts.{AreRead}
 use Rattle.bplist_keys.proofs.key_texts.KeyTexts.read.Given as goal
 
 -- the texts of the first k items are in memory
@@ -13,5 +13,5 @@ invariant-loop-k g l =
       same : means l.src ≡ means l.fn.src;
       all : length l.items ≡ length l.fn.items;
       objects : (j : ℕ) → (item_at l.items j).object ≡ (item_at l.fn.items j).object;
-      held : HonestlyIn (means l.fn.src) (λ f F. HaveShapes f F l.fn.items → AreHeld (text_units f F) l.texts l.items l.k);
+      held : HonestlyIn (means l.fn.src) (λ f F. HaveShapes f F l.fn.items → AreRead (text_units f F) l.texts l.items l.k);
     }
