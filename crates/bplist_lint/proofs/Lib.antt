@@ -11,8 +11,10 @@ pub mod Walks
 pub mod ReachedObjects
 pub mod OffsetSteps
 pub mod BitSets
+pub mod BitCounts
 pub mod KeySteps
 pub mod KeyClasses
+pub mod ExtentBytes
 pub mod ContainerSteps
 pub mod FoundedObjects
 pub mod HeldValues

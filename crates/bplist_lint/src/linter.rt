@@ -1,14 +1,15 @@
 //! The linter: the passes over a file, in their order. With classes the keys are only compared. With ranks, which are
 //! classes too, the certificate also gets key lists.
 
-ghost use Rattle.std.specs.Prelude.{◌≡◌, ◌↔◌, ℕ, ◌<◌, IsTrue, None, IfOk, IfSome, MatchOption, length, vec_len, ⊤};
+ghost use Rattle.std.specs.Prelude.{◌≡◌, ◌↔◌, ℕ, ◌+◌, ◌*◌, ◌≤◌, ◌<◌, IsTrue, None, IfOk, IfSome, MatchOption, length, vec_len, ⊤};
 ghost use Rattle.bplist_lint.specs.Prelude.{OnlyReads, frame_in, Honestly, HonestlyIn, IsFrame, IsSafeFrame, Reach};
 ghost use Rattle.bplist_lint.specs.Prelude.{AreOffsets32, Judges, refused_read, refs_at, Value, FileHolds, Never};
 ghost use Rattle.bplist_lint.specs.Prelude.{IsMarked, AreLeast, AreChildless, IsReachedFault, lists};
 ghost use Rattle.bplist_lint.specs.Prelude.{KeepReached, key_rules, HasRoomFor, IsWalked, AreNamed, IsFileFault};
 ghost use Rattle.bplist_lint.specs.Prelude.{IsFileCircle, Lints, lint_failed, no_circle, KeepsRules, IsLintedBy};
 ghost use Rattle.bplist_lint.specs.Prelude.{IsLinted, IsLintedWith, HasNoHeights, reach_rules, IsSound, lint_of};
-ghost use Rattle.bplist_lint.specs.Prelude.{AreFound, IsNumbered, keys_for};
+ghost use Rattle.bplist_lint.specs.Prelude.{AreFound, IsNumbered, NamesMarked, keys_for};
+ghost use Rattle.bplist_lint.specs.Prelude.{extents_below, is_marked};
 ghost use Rattle.bplist_lint.specs.declared.linter.Keys.TheVariants.{Classes, Ranks};
 
 use crate::answer::{Lint, LintRefusal, ObjectNos};
@@ -76,6 +77,9 @@ fn find_heights<P: Offsets>(
 /// Over an honest source they always find one. If they do not, all objects count as named.
 fn find_reached<P: Offsets>(alloc: Global, src: &mut P) -> Result<(Reached, NamedKeys), Refusal>
     ensures reads { OnlyReads (refused_read result) (P.means src.old) (P.means src.new) }
+    ensures asks { P.asked src.new ≤ P.asked src.old
+        + (19 * (frame_in (P.means src.old)).table + 160 * (frame_in (P.means src.old)).objects + 164) }
+    ensures only { IfOk result (λ known. NamesMarked known.0.marks.items known.1.marks.items) }
     ensures fits { IfOk result (λ known. HasRoomFor (frame_in (P.means src.old)) known.0) }
     ensures all_named { IfOk result (λ known. length known.1.marks.items ≡ (frame_in (P.means src.old)).objects) }
     ensures exact { HonestlyIn (P.means src.old) (λ f F. Judges
@@ -141,6 +145,8 @@ fn check_keys<P: Offsets>(
     requires fits { HasRoomFor (frame_in (P.means src.old)) reached.now }
     requires known { HonestlyIn (P.means src.old) (λ f F. IsNumbered f F reached.now numbers.table.items) }
     ensures reads { OnlyReads (refused_read result) (P.means src.old) (P.means src.new) }
+    ensures asks { HonestlyIn (P.means src.old) (λ f F. P.asked src.new ≤ P.asked src.old
+        + (72 * F.objects + 2 * extents_below f F (is_marked reached.now.marks.items) F.objects)) }
     ensures count { IfOk result (λ found. IfSome found.0 (λ heights. vec_len heights ≡ (frame_in (P.means src.old)).objects)) }
     ensures same { IfOk result (λ found. found.1.table.items ≡ numbers.table.items) }
     ensures exact { HonestlyIn (P.means src.old) (λ f F. Judges

@@ -1,15 +1,17 @@
-use Rattle.std.proofs.Common.{◌≡◌, ◌<◌, ℕ, length, refl, sym, ap, ◌∙◌, subst, inl, inr, arith}
+use Rattle.std.proofs.Common.{◌≡◌, ◌+◌, ◌<◌, ◌≤◌, ℕ, length, take, refl, sym, ap, ◌∙◌, subst, inl, inr, arith}
 use Rattle.std.proofs.lemmas.Bool.{cases_eq}
 use Rattle.std.proofs.lemmas.List.{length-set}
 use Rattle.bplist_objects.specs.declared.frame.Frame.{Frame}
 use Rattle.bplist_objects.specs.Framed.{frame_in}
 use Rattle.bplist_objects.specs.Units.{units_of}
 use Rattle.bplist_keys.specs.declared.sorting.Item.{Item}
-use Rattle.bplist_keys.specs.Groups.{item_at}
+use Rattle.bplist_keys.specs.Groups.{item_at, units_in}
 use Rattle.bplist_keys.specs.Texts.{HasTextShape, text_units}
 use Rattle.bplist_keys.proofs.HeldTexts.{held_more}
 use Rattle.bplist_keys.proofs.Merging.{put_here, put_other}
 use Rattle.bplist_keys.proofs.TextUnits.{text_units-head}
+use Rattle.bplist_keys.proofs.NamedUnits.{units_count, units_taken}
+use Rattle.std.proofs.lemmas.List.Sums.{sum_by-take-le}
 use Rattle.bplist_keys.proofs.key_texts.KeyTexts.read.Goals as goal
 
 pub returns-in_default-clause-ready : goal.returns-in_default-clause-ready
@@ -39,6 +41,14 @@ loop-k-preserved g c =
     let room : k < length xs = omega (arith, c.loop-k-test.true, v.all) in
     record {
       same = pushed.reads ∙ c.in_ok-head.ensures.reads ∙ v.same;
+      within = ?;
+      asked = omega (arith, v.asked, pushed.more, pushed.asks, c.in_ok-head.ensures.asks);
+      counted = λ honest shapes.
+          let has = (rw (v.same, c.in-Some.is) at c.in_ok-head.ensures.exact) honest in
+          let safe = (rw (v.same, c.in-Some.is) at c.in_ok-head.ensures.safe) in
+          let size = units_count f F own.object head has safe in
+          let same : length (text_units f F own.object) ≡ length (text_units f F (item_at c.args.items.now k).object) = ap (λ j. length (text_units f F j)) (v.objects k) in
+          omega (arith, v.counted honest shapes, pushed.more, size, same, units_taken f F c.args.items.now k (omega (arith, room, v.all)));
       all = length-set xs k x ∙ v.all;
       objects = λ j. elim (cases_eq j k) [
         | inl e ↦ rw (e, put_here xs k x room) (v.objects k)
