@@ -1,8 +1,10 @@
 -- How many units texts have together.
-use Rattle.std.proofs.Common.{◌≡◌, ℕ, zero, suc, ◌+◌, ◌<◌, ◌≤◌, Bool, true, false, cond, List, [], ◌∷◌, ◌++◌, length, take, slice_index_or, sum_by, refl, ap, ◌∙◌, inl, inr, arith}
+use Rattle.std.proofs.Common.{◌≡◌, ℕ, zero, suc, ◌+◌, ◌<◌, ◌≤◌, Bool, true, false, cond, List, [], ◌∷◌, ◌++◌, length, take, slice_index_or, sum_by, count_by, refl, ap, ◌∙◌, subst, inl, inr, arith}
 use Rattle.std.specs.List.{range_with_len}
-use Rattle.std.proofs.lemmas.Bool.{cases_lt}
+use Rattle.std.proofs.lemmas.Bool.{cases_lt, false≢true}
+use Rattle.std.specs.List.Sorted.{IsPermutation}
 use Rattle.std.proofs.lemmas.List.Sums.{sum_by_push, sum_by-cons}
+use Rattle.std.proofs.lemmas.List.Sorted.{sum_by-IsPermutation}
 use Rattle.bplist_objects.specs.declared.frame.Frame.{Frame}
 use Rattle.bplist_objects.specs.declared.head.Head.{Head}
 use Rattle.bplist_objects.specs.Heads.{HasShape}
@@ -40,15 +42,29 @@ pub units_count : (f : List ℕ) (F : Frame) (m : ℕ) (key : Head) → HasShape
 units_count f F m key text safe =
     ap length (text_units-head f F m key text) ∙ length-units_at f key.kind key.count key.body text.1 (omega (arith, safe.body.body, safe.body.within))
 
+one_fewer : (x y : Bool) → (x ≡ true → y ≡ true) → cond x 1 0 ≤ cond y 1 0
+one_fewer true true only = omega arith
+one_fewer true false only = absurd (false≢true (only refl))
+one_fewer false _ only = omega arith
+
+-- if fewer objects are marked, their number is no greater
+pub marked_fewer : (some all : List Bool) → length some ≡ length all → ((m : ℕ) → IsMarked some m → IsMarked all m) → count_by (λ marked. marked) some ≤ count_by (λ marked. marked) all
+marked_fewer [] [] e only = omega arith
+marked_fewer [] (_ ∷ _) e only = absurd (omega (arith, e))
+marked_fewer (_ ∷ _) [] e only = absurd (omega (arith, e))
+marked_fewer (x ∷ xs) (y ∷ ys) e only =
+    let rest = marked_fewer xs ys (omega (arith, e)) (λ m. only (suc m)) in
+    omega (arith, rest, one_fewer x y (only 0), sum_by-cons (λ (marked : Bool). cond marked 1 0) x xs, sum_by-cons (λ (marked : Bool). cond marked 1 0) y ys)
+
 module _ (f : List ℕ) (F : Frame) where
   module _ (marks : List Bool) where
     -- the units of a marked text come to those of the texts before it
     pub units_more : (n m : ℕ) → n ≤ m → IsMarked marks m → units_below f F marks n + length (text_units f F m) ≤ units_below f F marks (m + 1)
     units_more n m on marked =
-        let g = λ k. cond (slice_index_or marks k false) (length (text_units f F k)) 0 in
+        let g : ℕ → ℕ = λ k. cond (slice_index_or marks k false) (length (text_units f F k)) 0 in
         let next : suc m ≡ m + 1 = omega arith in
         let one : g m ≡ length (text_units f F m) = ap (λ b. cond b (length (text_units f F m)) 0) marked in
-        let last = rw next at (sum_next g m) in
+        let last = subst (λ k. sum_below g k ≡ sum_below g m + g m) next (sum_next g m) in
         omega (arith, sum_on g n m on, last, one)
 
     pub units_over : (n m : ℕ) → n ≤ m → units_below f F marks n ≤ units_below f F marks m
@@ -86,5 +102,9 @@ module _ (f : List ℕ) (F : Frame) where
       go [] k low = absurd (omega (arith, low))
       go (x ∷ xs) zero low = refl
       go (x ∷ xs) (suc k) low =
-          let g = λ (y : Item). length (text_units f F y.object) in
+          let g : Item → ℕ = λ y. length (text_units f F y.object) in
           omega (arith, go xs k (omega (arith, low)), sum_by-cons g x (take (suc k) xs), sum_by-cons g x (take k xs))
+
+  -- the items in another order
+  pub units_permuted : (listed before sorted : List Item) → before ≡ listed → IsPermutation before sorted → units_in f F sorted ≡ units_in f F listed
+  units_permuted listed before sorted same moved = sum_by-IsPermutation (λ (y : Item). length (text_units f F y.object)) before sorted moved ∙ ap (units_in f F) same

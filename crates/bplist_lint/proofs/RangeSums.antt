@@ -1,5 +1,5 @@
 -- Sums over the numbers below a bound, and those over the objects below it.
-use Rattle.std.proofs.Common.{◌≡◌, ℕ, zero, suc, ◌+◌, Bool, true, false, cond, List, [], ◌∷◌, ◌++◌, length, Option, Some, None, unwrap_or, sum, sum_by, filter, filter_map, refl, sym, ap, ◌∙◌, arith}
+use Rattle.std.proofs.Common.{◌≡◌, ℕ, zero, suc, ◌+◌, Bool, true, false, cond, List, [], ◌∷◌, ◌++◌, length, Option, Some, None, unwrap_or, sum, sum_by, filter, filter_map, refl, sym, ap, ◌∙◌, subst, arith}
 use Rattle.std.specs.List.{range_with_len, cons_option}
 use Rattle.std.specs.Option.{option_map_or}
 use Rattle.std.proofs.lemmas.List.Sums.{sum_by-cons, sum_by_push}
@@ -66,6 +66,11 @@ module _ (f : List ℕ) (F : Frame) where
     extents_next =
         let one = sum_next (λ m. cond (p m) (extent f F m) 0) n in
         omega (arith, one, extents_sum p n, extents_sum p (suc n))
+
+    pub extents_more : extents_below f F p (n + 1) ≡ extents_below f F p n + cond (p n) (extent f F n) 0
+    extents_more =
+        let next : suc n ≡ n + 1 = omega arith in
+        subst (λ k. extents_below f F p k ≡ extents_below f F p n + cond (p n) (extent f F n) 0) next extents_next
 
     pub references_next : references_below f F p (suc n) ≡ references_below f F p n + cond (p n) (references_of n) 0
     references_next =

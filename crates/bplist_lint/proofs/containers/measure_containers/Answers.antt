@@ -9,8 +9,7 @@ use Rattle.bplist_keys.specs.Classes.{IsNew}
 use Rattle.bplist_lint.proofs.ContainerSteps.{AreFinishedFrom, finished_first, finished_more, finished_over, finished_all}
 use Rattle.bplist_lint.proofs.KeyClasses.{reached_sound, keys_known}
 use Rattle.bplist_lint.specs.ReachRules.{is_marked}
-use Rattle.bplist_lint.proofs.RangeSums.{extents_next}
-use Rattle.bplist_lint.proofs.TallySteps.{next_is}
+use Rattle.bplist_lint.proofs.RangeSums.{extents_more}
 use Rattle.bplist_lint.proofs.KeySteps.{childless_keys}
 use Rattle.bplist_lint.proofs.containers.measure_containers.Goals.{else-marks-n-via-then-marks-n+else-not-childless-n, else-marks-n-via-else-marks-n}
 use Rattle.bplist_lint.proofs.containers.measure_containers.Goals as goal
@@ -39,7 +38,7 @@ loop-n-preserved-then-not-childless-n g c =
       reads = c.in_ok-height.ensures.reads ∙ i.reads;
       asked = λ honest.
           let more = rw (← next) at (i.asked honest) in
-          let own = rw (next_is n, c.if-marks-n.true) at (extents_next f F (is_marked c.args.marks.now) n) in
+          let own = rw c.if-marks-n.true at (extents_more f F (is_marked c.args.marks.now) n) in
           let one = (rw i.reads at c.in_ok-height.ensures.asks) honest in
           omega (arith, more, own, one);
       all = grind (arith, common_steps);
@@ -79,7 +78,7 @@ loop-n-preserved g c =
       reads = i.reads;
       asked = λ honest.
           let more = rw (← next) at (i.asked honest) in
-          let over = rw (next_is n) at (extents_next f F (is_marked c.args.marks.now) n) in
+          let over = extents_more f F (is_marked c.args.marks.now) n in
           omega (arith, more, over);
       all = i.all;
       room = i.room;

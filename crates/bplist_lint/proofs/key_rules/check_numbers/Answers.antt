@@ -8,8 +8,7 @@ use Rattle.bplist_cert.proofs.CheckSteps.{refused_weaker}
 use Rattle.bplist_lint.proofs.KeySteps.{keys_fault, keys_more, keys_over, childless_keys}
 use Rattle.bplist_lint.proofs.KeyClasses.{reached_sound, keys_known}
 use Rattle.bplist_lint.specs.ReachRules.{is_marked}
-use Rattle.bplist_lint.proofs.RangeSums.{extents_next}
-use Rattle.bplist_lint.proofs.TallySteps.{next_is}
+use Rattle.bplist_lint.proofs.RangeSums.{extents_more}
 use Rattle.bplist_lint.proofs.key_rules.check_numbers.Goals as goal
 use Rattle.bplist_lint.proofs.key_rules.check_numbers.Goals.{then-marks-n+then-not-childless-n+in_ok-check_dict_keys, else-marks-n, else-marks-n-via-then-marks-n+else-not-childless-n, else-marks-n-via-else-marks-n}
 
@@ -40,7 +39,7 @@ loop-n-preserved g c =
       | then-marks-n+then-not-childless-n+in_ok-check_dict_keys w ↦ record {
         reads = rw w.src-is (w.in_ok-check_dict_keys.ensures.reads ∙ v.reads);
         asked = λ honest.
-            let own = rw (next_is n, w.if-marks-n.true) at (extents_next f F (is_marked c.args.marks.now) n) in
+            let own = rw w.if-marks-n.true at (extents_more f F (is_marked c.args.marks.now) n) in
             let one = (rw v.reads at w.in_ok-check_dict_keys.ensures.asks) honest in
             rw w.src-is (omega (arith, v.asked honest, own, one));
         same = rw w.table-is (w.in_ok-check_dict_keys.ensures.same ∙ v.same);
@@ -54,7 +53,7 @@ loop-n-preserved g c =
       | else-marks-n w ↦ record {
         reads = rw w.src-is v.reads;
         asked = λ honest.
-            let over = rw (next_is n) at (extents_next f F (is_marked c.args.marks.now) n) in
+            let over = extents_more f F (is_marked c.args.marks.now) n in
             rw w.src-is (omega (arith, v.asked honest, over));
         same = rw w.table-is v.same;
         low = λ honest x. rw w.table-is (let l = v.low honest x in omega (arith, l));
