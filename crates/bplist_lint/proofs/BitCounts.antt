@@ -32,7 +32,9 @@ bit_small words k = bit_at-lt (slice_index words (k / 64)) (k % 64)
 -- there are no more numbers in the set than there are
 pub count_few : (words : List ℕ) (n : ℕ) → count_in words n ≤ n
 count_few words zero = omega arith
-count_few words (suc n) = omega (arith, count_few words n, sum_next (bit words) n, bit_small words n)
+count_few words (suc n) =
+    let next : count_in words (suc n) ≡ count_in words n + bit words n = sum_next (bit words) n in
+    omega (arith, count_few words n, next, bit_small words n)
 
 -- one more number is in the set
 pub count_more : (old new : List ℕ) (i n : ℕ) → i < n → (IsIn old i → ⊥) → IsIn new i → ((k : ℕ) → IsIn old k → IsIn new k) → ((k : ℕ) → IsIn new k → IsIn old k ⊎ (k ≡ i))

@@ -39,6 +39,10 @@ module _ (f : List ℕ) (F : Frame) where
   extent_is : (n : ℕ) (head : Head) → HasShape f F n head → extent f F n ≡ head.«end» - off f F n
   extent_is n head shape = ap (extent_by (off f F n)) (head_is_found f F n head shape.has)
 
+  -- and they are before the table
+  pub extent_within : (n : ℕ) (head : Head) → HasShape f F n head → extent f F n ≤ F.table
+  extent_within n head shape = omega (arith, extent_is n head shape, shape.inside)
+
   -- its references are among them
   pub refs_bytes : (n : ℕ) (head : Head) → 1 ≤ F.ref_size → HasShape f F n head → ref_count head.kind head.count * F.ref_size ≤ extent f F n
   refs_bytes n head low shape =
@@ -53,7 +57,7 @@ module _ (f : List ℕ) (F : Frame) where
 
   module _ (marks : List Bool) (sound : AreSound f F marks) (marked : (n : ℕ) → IsMarked marks n ↔ Reach f F n) where
     -- a marked object has a head
-    shape_of : (n : ℕ) → n < F.objects → IsMarked marks n → (head : Head) × HasShape f F n head
+    pub shape_of : (n : ℕ) → n < F.objects → IsMarked marks n → (head : Head) × HasShape f F n head
     shape_of n low is =
         let kept = sound.kept n is in
         let head = kept_announces f F n sound.framed low (kept.0, (kept.1.0, (kept.1.1.0, (kept.1.1.1.0, tt)))) in
@@ -98,11 +102,13 @@ module _ (f : List ℕ) (F : Frame) where
             let shape = shape_of n (omega (arith, low)) e in
             let next = rw e at (extents_next f F (is_marked marks) n) in
             let own : units n ≡ length (text_units f F n) = ap (λ b. cond b (length (text_units f F n)) 0) e in
-            omega (arith, units_extents n (omega (arith, low)), next, sum_next units n, own, units_bytes n shape.0 shape.1)
+            let more : units_below f F marks (suc n) ≡ units_below f F marks n + units n = sum_next units n in
+            omega (arith, units_extents n (omega (arith, low)), next, more, own, units_bytes n shape.0 shape.1)
         go false e =
             let next = rw e at (extents_next f F (is_marked marks) n) in
             let own : units n ≡ 0 = ap (λ b. cond b (length (text_units f F n)) 0) e in
-            omega (arith, units_extents n (omega (arith, low)), next, sum_next units n, own)
+            let more : units_below f F marks (suc n) ≡ units_below f F marks n + units n = sum_next units n in
+            omega (arith, units_extents n (omega (arith, low)), next, more, own)
 
     pub units_tallied : (tally : Tally) → Tallied f F marks F.objects tally → units_below f F marks F.objects ≤ tally.used.octets
     units_tallied tally t = omega (arith, units_extents F.objects (omega arith), extents_tallied tally t)

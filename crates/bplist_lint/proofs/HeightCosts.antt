@@ -127,7 +127,8 @@ module _ (width : ℕ) (refs : ℕ → List ℕ) (marks : List Bool) (size : ℕ
       → left_for width Open (slice_index heights m) (length (refs m)) ≤ left_below width refs marks states heights size
   left_open states heights m low is opened =
       let own = marked_term states heights m is ∙ ap (λ state. left_for width state (slice_index heights m) (length (refs m))) opened in
-      omega (arith, sum_term (term states heights) m size low, own)
+      let part : term states heights m ≤ left_below width refs marks states heights size = sum_term (term states heights) m size low in
+      omega (arith, part, own)
 
   -- an object is settled
   pub left_settle : (states : List State) (heights : List ℕ) (m h : ℕ) (state : State) → m < size → length states ≡ size → length heights ≡ size → IsMarked marks m → state_at states m ≡ Open
@@ -224,4 +225,5 @@ module _ (width : ℕ) (refs : ℕ → List ℕ) where
   trail_zero size zero = refl
   trail_zero size (suc n) =
       let own : step (replicate size false) n ≡ 0 = ap (λ b. cond b (292 + length (refs n) * (3 + width)) 0) (unwritten size n false) in
-      omega (arith, trail_zero size n, sum_next (step (replicate size false)) n, own)
+      let next : trail_bytes width refs (replicate size false) (suc n) ≡ trail_bytes width refs (replicate size false) n + step (replicate size false) n = sum_next (step (replicate size false)) n in
+      omega (arith, trail_zero size n, next, own)

@@ -122,7 +122,7 @@ AreClosed graph marks = (n : ℕ) → IsMarked marks n → IsWhole graph n × Ha
 
 -- no marked object has more references than a height slot can count
 abbrev pub AreFew : (ℕ → List ℕ) → List Bool → Type 0
-AreFew refs marks = (n : ℕ) → IsMarked marks n → length (refs n) < 4294967295
+AreFew refs marks = (n : ℕ) → IsMarked marks n → length (refs n) < 4294967296
 
 -- what the walk says about the references while no object is open
 abbrev pub Walks : (ℕ → List ℕ) → List Bool → HeightWalk → Type 0

@@ -1,7 +1,8 @@
-use Rattle.std.proofs.Common.{◌∙◌}
+use Rattle.std.proofs.Common.{◌≡◌, ◌≤◌, ◌+◌, ◌*◌, length, IsTrue, ap, refl, subst, ◌∙◌, arith}
 use Rattle.std.proofs.lemmas.Result.{err_from_is_err_and}
 use Rattle.bplist_lint.specs.FileFault.{IsFileCircle}
-use Rattle.bplist_lint.proofs.Passes.{check_means, fault_passed}
+use Rattle.bplist_objects.specs.declared.frame.Frame.{Frame}
+use Rattle.bplist_lint.proofs.Passes.{check_means, fault_passed, lint_asked}
 use Rattle.bplist_lint.proofs.linter.lint_file.Goals as goal
 
 pub returns-in_err-frame-clause-exact : goal.returns-in_err-frame-clause-exact
@@ -14,3 +15,18 @@ pub returns-in_err-certificate-clause-exact : goal.returns-in_err-certificate-cl
 returns-in_err-certificate-clause-exact g c = λ honest.
     let p = err_from_is_err_and c.from_residual-in_err-certificate.result c.from_residual-in_err-certificate.ensures.1 in
     rw (p.1, p.2) (fault_passed _ _ (c.new-file.ensures.means ∙ c.in_ok-frame.ensures.reads) c.in_err-certificate.field-0.0 c.in_err-certificate.ensures.exact honest)
+
+pub returns-in_err-frame-clause-asks : goal.returns-in_err-frame-clause-asks
+returns-in_err-frame-clause-asks g c = λ is honest. omega (arith, c.in_err-frame.ensures.asks)
+
+pub returns-in_err-certificate-clause-asks : goal.returns-in_err-certificate-clause-asks
+returns-in_err-certificate-clause-asks g c = λ is honest.
+    let fr = c.in_ok-frame.ensures in
+    let F : Frame = c.in_ok-frame.field-0.0 in
+    let opened = lint_asked _ _ (c.new-file.ensures.means ∙ fr.reads) _ _ _ _ (c.lint_opened.ensures.asks is) honest in
+    ?
+
+pub returns-clause-asks : goal.returns-clause-asks
+returns-clause-asks g c = λ is honest.
+    let fr = c.in_ok-frame.ensures in
+    ?
