@@ -3,7 +3,7 @@ use Rattle.std.proofs.Common.{◌≡◌, ◌≢◌, ◌⊎◌, ℕ, zero, suc, �
 use Rattle.std.specs.Int.{bit_at}
 use Rattle.std.proofs.lemmas.Bool.{cases_eq, cases_lt}
 use Rattle.std.proofs.lemmas.Nat.Bits.{bit_at-lt}
-use Rattle.bplist_keys.proofs.NamedUnits.{sum_below, sum_next}
+use Rattle.bplist_lint.proofs.RangeSums.{sum_below, sum_next}
 use Rattle.bplist_lint.specs.BitSets.{IsIn, count_in}
 
 -- a sum whose terms are the same

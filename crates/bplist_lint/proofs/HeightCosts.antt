@@ -4,7 +4,7 @@ use Rattle.std.proofs.Math.Nat.{add-mul, mul-add, mul-le-mul_right}
 use Rattle.std.proofs.lemmas.Bool.{cases_eq, cases_lt}
 use Rattle.std.proofs.lemmas.List.{get_or-set_same, get_or-set_other}
 use Rattle.bplist_keys.specs.Marks.{IsMarked}
-use Rattle.bplist_keys.proofs.NamedUnits.{sum_below, sum_next, sum_on}
+use Rattle.bplist_lint.proofs.RangeSums.{sum_below, sum_next, sum_on}
 use Rattle.bplist_lint.specs.HeightWalks.{state_at, resumed, left_for, left_below, Standing, HasMet}
 use Rattle.bplist_lint.specs.declared.heights.State.{State}
 use Rattle.bplist_lint.specs.declared.heights.State.TheVariants.{New, Open, Founded, Circular}

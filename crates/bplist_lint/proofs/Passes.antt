@@ -40,8 +40,7 @@ use Rattle.bplist_lint.specs.Upgraded.{IsLintedWith}
 use Rattle.bplist_lint.proofs.HeldValues.{formed_holds, holds_formed}
 use Rattle.bplist_lint.proofs.KeptRules.{kept_both, kept_spells}
 use Rattle.bplist_lint.proofs.OffsetSteps.{kept_low, kept_high}
-use Rattle.bplist_keys.proofs.NamedUnits.{sum_next}
-use Rattle.bplist_lint.proofs.RangeSums.{have_references}
+use Rattle.bplist_lint.proofs.RangeSums.{sum_next, have_references}
 use Rattle.bplist_lint.proofs.Walks.{same_mark}
 use Rattle.bplist_lint.proofs.ReferenceGraph.{circle_iff}
 use Rattle.bplist_lint.proofs.LintAnswers.{formed_by_valid, least_lowest, lint_yes}

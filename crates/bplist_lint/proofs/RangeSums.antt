@@ -1,6 +1,7 @@
 -- Sums over the numbers below a bound, and those over the objects below it.
-use Rattle.std.proofs.Common.{◌≡◌, ℕ, zero, suc, ◌+◌, Bool, true, false, cond, List, [], ◌∷◌, ◌++◌, length, Option, Some, None, unwrap_or, sum, sum_by, filter, filter_map, refl, sym, ap, ◌∙◌, subst, arith}
+use Rattle.std.proofs.Common.{◌≡◌, ℕ, zero, suc, ◌+◌, ◌≤◌, Bool, true, false, cond, List, [], ◌∷◌, ◌++◌, length, Option, Some, None, unwrap_or, sum, sum_by, filter, filter_map, refl, sym, ap, ◌∙◌, subst, inl, inr, arith}
 use Rattle.std.specs.List.{range_with_len, cons_option}
+use Rattle.std.proofs.lemmas.Bool.{cases_lt}
 use Rattle.std.specs.Option.{option_map_or}
 use Rattle.std.proofs.lemmas.List.Sums.{sum_by-cons, sum_by_push}
 use Rattle.bplist_objects.specs.declared.frame.Frame.{Frame}
@@ -11,10 +12,29 @@ use Rattle.bplist_objects.specs.Heads.{Content, refs, Spells}
 use Rattle.bplist_objects.specs.Safe.{ref_count}
 use Rattle.bplist_objects.proofs.References.{length-refs}
 use Rattle.bplist_objects.proofs.HeadLaws.{head_is_found}
-use Rattle.bplist_keys.proofs.NamedUnits.{sum_below, sum_next}
 use Rattle.bplist_lint.specs.ReachRules.{references_below}
 use Rattle.bplist_lint.specs.Linted.{HaveReferences}
 use Rattle.bplist_lint.specs.ReachWalk.{extent, extents_below}
+
+-- the sum of g below n
+abbrev pub sum_below : (ℕ → ℕ) → ℕ → ℕ
+sum_below g n = sum_by g (range_with_len 0 n)
+
+range_more : (a n : ℕ) → range_with_len a (suc n) ≡ range_with_len a n ++ (a + n) ∷ []
+range_more a zero = let e : a ≡ a + 0 = omega arith in ap (λ k. k ∷ []) e
+range_more a (suc n) = let e : a + 1 + n ≡ a + suc n = omega arith in ap (λ l. a ∷ l) (range_more (a + 1) n ∙ ap (λ k. range_with_len (a + 1) n ++ k ∷ []) e)
+
+-- one more number
+pub sum_next : (g : ℕ → ℕ) (n : ℕ) → sum_below g (suc n) ≡ sum_below g n + g n
+sum_next g n = let e : 0 + n ≡ n = omega arith in ap (sum_by g) (range_more 0 n) ∙ sum_by_push g (range_with_len 0 n) (0 + n) ∙ ap (λ k. sum_below g n + g k) e
+
+-- more numbers
+pub sum_on : (g : ℕ → ℕ) (n m : ℕ) → n ≤ m → sum_below g n ≤ sum_below g m
+sum_on g n zero h = let e : n ≡ 0 = omega (arith, h) in rw e (omega arith)
+sum_on g n (suc m) h = elim (cases_lt m n) [
+  | inl up ↦ let e : n ≡ suc m = omega (arith, h, up) in rw e (omega arith)
+  | inr on ↦ omega (arith, sum_on g n m on, sum_next g m)
+]
 
 -- the sum over those of which p holds
 sum_chosen : (g : ℕ → ℕ) (p : ℕ → Bool) (xs : List ℕ) → sum_by g (filter p xs) ≡ sum_by (λ m. cond (p m) (g m) 0) xs

@@ -22,8 +22,7 @@ use Rattle.bplist_cert.specs.CheckRules.{KeepsRule, BreaksRule}
 use Rattle.bplist_lint.specs.ReachRules.{IsReachedFault, reach_rules, is_marked, Tallied}
 use Rattle.bplist_lint.specs.declared.tally.Tally.{Tally}
 use Rattle.bplist_lint.proofs.KeptRules.{both_rules}
-use Rattle.bplist_keys.proofs.NamedUnits.{sum_next}
-use Rattle.bplist_lint.proofs.RangeSums.{references_are, references_next}
+use Rattle.bplist_lint.proofs.RangeSums.{sum_next, references_are, references_next}
 
 pub next_is : (n : ℕ) → suc n ≡ n + 1
 next_is n = omega arith

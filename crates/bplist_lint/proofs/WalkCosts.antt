@@ -12,7 +12,6 @@ use Rattle.bplist_objects.specs.Reach.{Reach}
 use Rattle.bplist_objects.specs.Safe.{ref_count}
 use Rattle.bplist_objects.specs.Spelled.{refs_at}
 use Rattle.bplist_keys.specs.Marks.{IsMarked}
-use Rattle.bplist_keys.proofs.NamedUnits.{sum_next}
 use Rattle.bplist_lint.specs.HeightWalks.{AreFew, first_state, left_below, left_for, state_at}
 use Rattle.bplist_lint.specs.KeyClasses.{AreSound}
 use Rattle.bplist_lint.specs.ReachRules.{is_marked}
@@ -24,7 +23,7 @@ use Rattle.bplist_lint.specs.declared.heights.State.{State}
 use Rattle.bplist_lint.proofs.ExtentBytes.{extent_within, refs_bytes, shape_of}
 use Rattle.bplist_lint.proofs.HeightSteps.{first_is}
 use Rattle.bplist_lint.proofs.ObjectReferences.{as_shape}
-use Rattle.bplist_lint.proofs.RangeSums.{extents_next}
+use Rattle.bplist_lint.proofs.RangeSums.{extents_next, sum_next}
 use Rattle.bplist_lint.proofs.ReachSteps.{marked_within}
 
 module _ (f : List ℕ) (F : Frame) (view : View) (low : 1 ≤ F.ref_size) where

@@ -24,8 +24,7 @@ use Rattle.bplist_lint.specs.ReachRules.{number_below, references_below, is_mark
 use Rattle.bplist_lint.specs.Tallies.{IsTalliedWith}
 use Rattle.bplist_lint.specs.ReachWalk.{Noted, extent_by, extent, extents_below, IsVisited, IsWalkState, IsWalked, AreNamed}
 use Rattle.bplist_lint.proofs.MarkSteps.{apart_none, apart_push, apart_front, apart_last, fresh-set}
-use Rattle.bplist_keys.proofs.NamedUnits.{sum_below, sum_next}
-use Rattle.bplist_lint.proofs.RangeSums.{references_of, references_are, extents_sum, references_sum, extents_next, references_next}
+use Rattle.bplist_lint.proofs.RangeSums.{sum_below, sum_next, references_of, references_are, extents_sum, references_sum, extents_next, references_next}
 use Rattle.bplist_lint.proofs.ReachSteps.{marked_within}
 use Rattle.bplist_lint.proofs.TallySteps.{tallied_none, tallied_over, tallied_more, next_is}
 use Rattle.bplist_lint.proofs.ListWrites.{seen-set, unwritten}

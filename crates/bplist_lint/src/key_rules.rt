@@ -11,7 +11,8 @@ ghost use Rattle.bplist_lint.specs.Prelude.{OnlyReads, frame_in, HonestlyIn, IsS
 ghost use Rattle.bplist_lint.specs.Prelude.{ranks_in, positions_in, AreRanked, AreAbove, HaveRanks, IsListed};
 ghost use Rattle.bplist_lint.specs.Prelude.{Reach, KeepsAll, KeepsByObject, object_rules, HasHead};
 ghost use Rattle.bplist_lint.specs.Prelude.{KeysAreSound, HasGoodKeys, BreaksKeys, Judges, Never, refused_read, IsMarked};
-ghost use Rattle.bplist_keys.specs.Texts.{units_below};
+ghost use Rattle.bplist_objects.specs.Extents.{HaveRoom};
+ghost use Rattle.bplist_keys.specs.Texts.{IsMarkedText};
 ghost use Rattle.bplist_lint.specs.Prelude.{extent, extents_below, is_marked};
 ghost use Rattle.bplist_lint.specs.Prelude.{AreChildless, KeepReached, AreNamed, key_rules, AreClassed, IsStamped};
 ghost use Rattle.bplist_lint.specs.Prelude.{IsNew, Head as head_record, IsReachedFault, reach_rules, AreClasses, AreRanks};
@@ -203,7 +204,7 @@ pub fn known_classes<P: Offsets>(
 ) -> Result<KeyNumbers, Refusal>
     requires { length named.marks.items ≡ (frame_in (P.means src.old)).objects }
     ensures reads { OnlyReads (refused_read result) (P.means src.old) (P.means src.new) }
-    ensures asks { HonestlyIn (P.means src.old) (λ f F. units_below f F named.marks.items F.objects ≤ length f
+    ensures asks { HonestlyIn (P.means src.old) (λ f F. HaveRoom f F (IsMarkedText f F named.marks.items)
         → P.asked src.new ≤ P.asked src.old + (2 * length f + 364 * count_by (λ marked. marked) named.marks.items)) }
     ensures exact { HonestlyIn (P.means src.old) (λ f F.
         Judges (λ classes. AreClasses f F named.marks.items classes.table.items) Never result) }
@@ -226,7 +227,7 @@ pub fn known_ranks<P: Offsets>(
 ) -> Result<KeyNumbers, Refusal>
     requires { length named.marks.items ≡ (frame_in (P.means src.old)).objects }
     ensures reads { OnlyReads (refused_read result) (P.means src.old) (P.means src.new) }
-    ensures asks { HonestlyIn (P.means src.old) (λ f F. units_below f F named.marks.items F.objects ≤ length f
+    ensures asks { HonestlyIn (P.means src.old) (λ f F. HaveRoom f F (IsMarkedText f F named.marks.items)
         → P.asked src.new ≤ P.asked src.old + (2 * length f + 72 * count_by (λ marked. marked) named.marks.items)) }
     ensures exact { HonestlyIn (P.means src.old) (λ f F.
         Judges (λ ranks. AreRanks f F named.marks.items ranks.table.items) Never result) }

@@ -6,8 +6,11 @@ use Rattle.bplist_objects.specs.declared.frame.Frame.{Frame}
 use Rattle.bplist_objects.specs.Framed.{HonestlyIn, frame_in}
 use Rattle.bplist_cert.specs.Refusals.{GivesRefusal}
 use Rattle.bplist_lint.specs.FileFault.{IsFileFault, IsFileCircle}
-use Rattle.bplist_keys.proofs.NamedUnits.{units_fewer}
-use Rattle.bplist_lint.proofs.ExtentBytes.{extents_tallied, units_tallied}
+use Rattle.bplist_objects.specs.Reach.{Reach}
+use Rattle.bplist_objects.proofs.ExtentSums.{room_weaker}
+use Rattle.bplist_keys.specs.Texts.{IsMarkedText}
+use Rattle.bplist_lint.proofs.ExtentBytes.{extents_tallied}
+use Rattle.bplist_lint.proofs.KeptRules.{kept_room}
 use Rattle.bplist_lint.proofs.KeyClasses.{reached_sound}
 use Rattle.bplist_lint.proofs.Passes.{check_means}
 use Rattle.bplist_lint.proofs.linter.certify_by_classes.Goals.{then-count-objects, else-count-objects}
@@ -35,8 +38,7 @@ returns-in_err-classes-clause-asks g c = λ honest only.
     let walked = (c.requires.walked honest).0 in
     let sound = reached_sound f F marks c.requires.fits.all_marks (framed.framed honest) walked.marked walked.tallied.kept in
     let bytes = extents_tallied f F marks sound walked.marked c.args.reached.tally walked.tallied in
-    let units = units_tallied f F marks sound walked.marked c.args.reached.tally walked.tallied in
-    let fewer = units_fewer f F named marks only F.objects in
+    let room = room_weaker f F (Reach f F) (IsMarkedText f F named) (λ m is. (walked.marked m).0 (only m is.0)) (kept_room f F (framed.framed honest) walked.tallied.kept) in
     let many = count_by-le-length (λ marked. marked) named in
     let same : g.P.Source.means c.if-count-objects.src ≡ m = elim c.if-count-objects.branch [
       | then-count-objects b ↦ rw b.src-is b.forget_places.ensures.same
@@ -46,7 +48,7 @@ returns-in_err-classes-clause-asks g c = λ honest only.
       | then-count-objects b ↦ rw b.src-is b.forget_places.ensures.asks
       | else-count-objects b ↦ rw b.src-is refl
     ] in
-    let classed = (rw same at c.known_classes.ensures.asks) honest (omega (arith, fewer, units, c.requires.fits.roomy.room, framed.safe.safe.room)) in
+    let classed = (rw same at c.known_classes.ensures.asks) honest room in
     omega (arith, none, classed, many, c.requires.all_named)
 
 pub returns-in_err-heights-clause-asks : goal.returns-in_err-heights-clause-asks
@@ -60,8 +62,7 @@ returns-in_err-heights-clause-asks g c = λ honest only.
     let walked = (c.requires.walked honest).0 in
     let sound = reached_sound f F marks c.requires.fits.all_marks (framed.framed honest) walked.marked walked.tallied.kept in
     let bytes = extents_tallied f F marks sound walked.marked c.args.reached.tally walked.tallied in
-    let units = units_tallied f F marks sound walked.marked c.args.reached.tally walked.tallied in
-    let fewer = units_fewer f F named marks only F.objects in
+    let room = room_weaker f F (Reach f F) (IsMarkedText f F named) (λ m is. (walked.marked m).0 (only m is.0)) (kept_room f F (framed.framed honest) walked.tallied.kept) in
     let many = count_by-le-length (λ marked. marked) named in
     let same : g.P.Source.means c.if-count-objects.src ≡ m = elim c.if-count-objects.branch [
       | then-count-objects b ↦ rw b.src-is b.forget_places.ensures.same
@@ -71,7 +72,7 @@ returns-in_err-heights-clause-asks g c = λ honest only.
       | then-count-objects b ↦ rw b.src-is b.forget_places.ensures.asks
       | else-count-objects b ↦ rw b.src-is refl
     ] in
-    let classed = (rw same at c.known_classes.ensures.asks) honest (omega (arith, fewer, units, c.requires.fits.roomy.room, framed.safe.safe.room)) in
+    let classed = (rw same at c.known_classes.ensures.asks) honest room in
     let keys = (rw (c.in_ok-classes.ensures.reads, same) at c.check_keys.ensures.asks) honest in
     omega (arith, none, classed, keys, many, c.requires.all_named, bytes, c.requires.fits.roomy.room)
 
@@ -86,8 +87,7 @@ returns-in_err-heights-2-clause-asks g c = λ honest only.
     let walked = (c.requires.walked honest).0 in
     let sound = reached_sound f F marks c.requires.fits.all_marks (framed.framed honest) walked.marked walked.tallied.kept in
     let bytes = extents_tallied f F marks sound walked.marked c.args.reached.tally walked.tallied in
-    let units = units_tallied f F marks sound walked.marked c.args.reached.tally walked.tallied in
-    let fewer = units_fewer f F named marks only F.objects in
+    let room = room_weaker f F (Reach f F) (IsMarkedText f F named) (λ m is. (walked.marked m).0 (only m is.0)) (kept_room f F (framed.framed honest) walked.tallied.kept) in
     let many = count_by-le-length (λ marked. marked) named in
     let same : g.P.Source.means c.if-count-objects.src ≡ m = elim c.if-count-objects.branch [
       | then-count-objects b ↦ rw b.src-is b.forget_places.ensures.same
@@ -97,7 +97,7 @@ returns-in_err-heights-2-clause-asks g c = λ honest only.
       | then-count-objects b ↦ rw b.src-is b.forget_places.ensures.asks
       | else-count-objects b ↦ rw b.src-is refl
     ] in
-    let classed = (rw same at c.known_classes.ensures.asks) honest (omega (arith, fewer, units, c.requires.fits.roomy.room, framed.safe.safe.room)) in
+    let classed = (rw same at c.known_classes.ensures.asks) honest room in
     let keys = (rw (c.in_ok-classes.ensures.reads, same) at c.check_keys.ensures.asks) honest in
     let heights = (rw (c.in_ok-heights.ensures.reads, c.in_ok-classes.ensures.reads, same) at c.finish.ensures.asks) honest in
     omega (arith, none, classed, keys, heights, many, c.requires.all_named, bytes, c.requires.fits.roomy.room)
@@ -113,8 +113,7 @@ returns-clause-asks g c = λ honest only.
     let walked = (c.requires.walked honest).0 in
     let sound = reached_sound f F marks c.requires.fits.all_marks (framed.framed honest) walked.marked walked.tallied.kept in
     let bytes = extents_tallied f F marks sound walked.marked c.args.reached.tally walked.tallied in
-    let units = units_tallied f F marks sound walked.marked c.args.reached.tally walked.tallied in
-    let fewer = units_fewer f F named marks only F.objects in
+    let room = room_weaker f F (Reach f F) (IsMarkedText f F named) (λ m is. (walked.marked m).0 (only m is.0)) (kept_room f F (framed.framed honest) walked.tallied.kept) in
     let many = count_by-le-length (λ marked. marked) named in
     let same : g.P.Source.means c.if-count-objects.src ≡ m = elim c.if-count-objects.branch [
       | then-count-objects b ↦ rw b.src-is b.forget_places.ensures.same
@@ -124,7 +123,7 @@ returns-clause-asks g c = λ honest only.
       | then-count-objects b ↦ rw b.src-is b.forget_places.ensures.asks
       | else-count-objects b ↦ rw b.src-is refl
     ] in
-    let classed = (rw same at c.known_classes.ensures.asks) honest (omega (arith, fewer, units, c.requires.fits.roomy.room, framed.safe.safe.room)) in
+    let classed = (rw same at c.known_classes.ensures.asks) honest room in
     let keys = (rw (c.in_ok-classes.ensures.reads, same) at c.check_keys.ensures.asks) honest in
     let heights = (rw (c.in_ok-heights.ensures.reads, c.in_ok-classes.ensures.reads, same) at c.finish.ensures.asks) honest in
     omega (arith, none, classed, keys, heights, many, c.requires.all_named, bytes, c.requires.fits.roomy.room)
