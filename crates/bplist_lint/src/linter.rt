@@ -78,7 +78,7 @@ fn find_heights<P: Offsets>(
 /// or else the first fault by these rules.
 ///
 /// If the quick walk meets a fault, slower passes in the order of the objects' numbers find which fault is the first.
-/// Over an honest source they always find one. If they do not, all objects count as named.
+/// Over an honest source they always find one. If they do not, all reached objects count as named.
 fn find_reached<P: Offsets>(alloc: Global, src: &mut P) -> Result<(Reached, NamedKeys), Refusal>
     ensures reads { OnlyReads (refused_read result) (P.means src.old) (P.means src.new) }
     ensures asks { P.asked src.new ≤ P.asked src.old

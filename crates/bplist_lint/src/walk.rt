@@ -164,6 +164,7 @@ fn visit<P: Offsets>(src: &mut P, n: u32, progress: &mut Progress) -> Result<(),
     ensures asks_most { P.asked src.new + progress.old.tally.used.octets ≤ P.asked src.old + (frame_in (P.means src.old)).table + 36 }
     ensures one { OnOk result (progress.new.tally.reached ≡ progress.old.tally.reached + 1) }
     ensures few { progress.new.tally.reached ≤ progress.old.tally.reached + 1 }
+    ensures grows { progress.old.tally.reached ≤ progress.new.tally.reached }
     ensures steady { OnOk result (IsSteadyWalk (frame_in (P.means src.old)) progress.new) }
     ensures worked { OnOk result (Worked progress.old.worklist progress.new.worklist) }
     ensures only { OnOk result (NamesMarked progress.old.worklist.marks.items progress.old.named.marks.items
