@@ -5,6 +5,7 @@ use Rattle.bplist_objects.specs.declared.frame.Frame.{Frame}
 use Rattle.bplist_objects.specs.Framed.{frame_in}
 use Rattle.bplist_lint.proofs.Walks.{walking_start, walking_over}
 use Rattle.bplist_lint.proofs.MarkSteps.{none_marked}
+use Rattle.bplist_lint.proofs.ReachSteps.{work_first}
 use Rattle.bplist_lint.proofs.walk.visit_all.Goals as goal
 use Rattle.bplist_lint.proofs.walk.visit_all.Goals.{then-index+in_ok-visit_from, else-index}
 
@@ -15,7 +16,7 @@ loop-n-init g c =
     record {
       reads = cc;
       asked = omega arith;
-      once = ?;
+      once = rw (marks_new, c.new-2.ensures, c.in_ok-with_capacity.ensures.items, c.frame-frame.ensures.frame) (let first = work_first (frame_in (g.P.Source.means c.args.src.now)).objects (frame_in (g.P.Source.means c.args.src.now)).top.0 c.frame-frame.ensures.framed.safe.top in omega (arith, first));
       only = λ m is. absurd (none_marked c.frame-frame.result.objects m (rw c.in_ok-named.ensures at is));
       steady = search rules;
       empty = grind (arith, common_steps);
