@@ -1,10 +1,10 @@
 //! Compares texts: in memory, or by reading them.
 
-ghost use Rattle.std.specs.Prelude.{◌≡◌, ◌<◌, ◌+◌, ◌^◌, ℕ, List, IfOk, OnOk, length};
+ghost use Rattle.std.specs.Prelude.{◌≡◌, ◌<◌, ◌≤◌, ◌+◌, ◌*◌, ◌^◌, ℕ, List, None, IfOk, OnOk, length};
 ghost use Rattle.std.specs.Result.{result_err};
 ghost use Rattle.bplist_keys.specs.Prelude.{OnlyReads, failed_to_read, frame_in, HonestlyIn, HasTextShape, IsSafeText, AreRuns};
 ghost use Rattle.bplist_keys.specs.Prelude.{compare_units, text_units, units_of};
-ghost use Rattle.bplist_keys.specs.Groups.{item_at, AreObjectsBelow, HaveShapes};
+ghost use Rattle.bplist_keys.specs.Groups.{item_at, AreObjectsBelow, HaveShapes, units_in};
 ghost use Rattle.bplist_keys.specs.Fronts.{FitsFronts};
 ghost use Rattle.bplist_keys.specs.KeyTexts.{AreHeld, HasFront, IsHeld, IsReady, AreReady, IsTextBehind};
 ghost use Rattle.bplist_octets.specs.Meaning.{Honestly};
@@ -34,6 +34,8 @@ impl KeyTexts {
         requires text { IsSafeText (length (S.means src.old).octets) head.now }
         requires room { length self.old.units.items + head.now.count < 2 ^ 64 }
         ensures reads { OnlyReads (failed_to_read result) (S.means src.old) (S.means src.new) }
+        ensures asks { S.asked src.new ≤ S.asked src.old + 2 * head.now.count }
+        ensures more { OnOk result (length self.new.units.items ≡ length self.old.units.items + head.now.count) }
         ensures text { OnOk result (Honestly (S.means src.old) (λ f. IsTextBehind (units_of f head.now) self.old self.new)) }
     {
         let start = self.units.len();
@@ -54,6 +56,10 @@ impl KeyTexts {
         requires inside { AreObjectsBelow (frame_in (P.means src.old)).objects items.old }
         requires few { length items.old < 2 ^ 32 }
         ensures reads { OnlyReads (failed_to_read result) (P.means src.old) (P.means src.new) }
+        ensures asks { P.asked src.new ≤ P.asked src.old
+            + (2 * length (P.means src.old).octets + 36 * length items.old) }
+        ensures fits { HonestlyIn (P.means src.old) (λ f F. HaveShapes f F items.old → units ≤ length f
+            → units_in f F items.old ≤ length f → IfOk result (λ texts. texts ≡ None → ⊥)) }
         ensures all { length items.new ≡ length items.old }
         ensures same { (k : ℕ) → (item_at items.new k).object ≡ (item_at items.old k).object }
         ensures ready { HonestlyIn (P.means src.old) (λ f F. HaveShapes f F items.old
@@ -184,6 +190,7 @@ impl Comparer {
         requires first { first.now.object < (frame_in (P.means src.old)).objects }
         requires second { second.now.object < (frame_in (P.means src.old)).objects }
         ensures reads { OnlyReads (result_err result) (P.means src.old) (P.means src.new) }
+        ensures asks { (self.old.texts ≡ None → ⊥) → P.asked src.new ≡ P.asked src.old }
         ensures same { self.new.texts ≡ self.old.texts }
         ensures value { HonestlyIn (P.means src.old) (λ f F. AreRuns f self.old.runs.slots
             → IsReady f F self.old.texts first.now → IsReady f F self.old.texts second.now
