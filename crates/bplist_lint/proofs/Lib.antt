@@ -34,3 +34,4 @@ pub mod BitCounts
 pub mod ExtentBytes
 pub mod HeightCosts
 pub mod WalkCosts
+pub mod HeightTurns
