@@ -1,5 +1,5 @@
 -- The result of opening a file: the linter's answer, or that of a certificate, after its session is kept.
-use Rattle.std.proofs.Common.{◌≡◌, ◌∙◌, ap, ℕ, List, Bool, IsTrue, Result, Ok, Err, inl, inr, refl, subst, sym}
+use Rattle.std.proofs.Common.{◌≡◌, ◌∙◌, ap, ℕ, List, Bool, IsSome, IsTrue, Result, Ok, Err, inl, inr, refl, subst, sym}
 use Rattle.std.specs.Prelude.{MatchResult}
 use denote.Ref.{Bor}
 use Rattle.bplist_octets.specs.Meaning.{Meaning}
@@ -8,7 +8,7 @@ use Rattle.bplist_objects.specs.declared.fault.Fault.{Fault}
 use Rattle.bplist_objects.specs.Frame.{IsFrame}
 use Rattle.bplist_cert.specs.CheckedFile.{CheckedFile, IsChecked}
 use Rattle.bplist_cert.specs.Encoding.{octets_of}
-use Rattle.bplist_cert.specs.Lists.{IsCertificate}
+use Rattle.bplist_cert.specs.Lists.{IsCertificate, Lists}
 use Rattle.bplist_cert.specs.Sorted.{IsAccepted}
 use Rattle.bplist_lint.specs.declared.answer.Lint.{Lint}
 use Rattle.bplist_lint.specs.declared.answer.LintRefusal.{LintRefusal}
@@ -20,7 +20,7 @@ use Rattle.bplist_c.specs.declared.handle.BplistHandle.{BplistHandle}
 use Rattle.bplist_c.specs.declared.status.Status.{Status}
 use Rattle.bplist_c.specs.declared.verdict.BplistVerdict.{BplistVerdict}
 use Rattle.bplist_c.specs.Statuses.{status_number}
-use Rattle.bplist_c.specs.Lifecycle.{Accepts, IsOpened, IsPair, KeepsHandle}
+use Rattle.bplist_c.specs.Lifecycle.{Accepts, IsCheckedFor, IsOpened, IsPair, KeepsHandle}
 use Rattle.bplist_c.specs.Verdicts.{ShowsLint}
 
 module _ (file : Bor (List ℕ)) (sorted : Bool) (P : Lint → Type 0) (Q : Fault → Type 0) (R : List ℕ → Type 0)
@@ -30,11 +30,22 @@ module _ (file : Bor (List ℕ)) (sorted : Bool) (P : Lint → Type 0) (Q : Faul
   Opens = (answer : Result Lint LintRefusal) × Lints P Q R answer × ShowsLint file.now answer verdict status
       × MatchResult answer (λ x. IsOpened file.now x.certificate sorted handle) (λ _. handle.length ≡ 0)
 
+  -- the session of the checked file is one of these bytes, and its certificate is as it was asked for
+  opened_for : (certificate : Lists) (checked : CheckedFile) → IsCheckedFor file certificate sorted checked
+      → IsOpened checked.source.octets checked.certificate sorted handle → IsOpened file.now certificate sorted handle
+  opened_for certificate checked (source, heights, given, plain) opened =
+      let (length, s, held, session, high, kept, unsorted, listed) = rw source at opened in (
+        length,
+        (s, held, session, high ∙ heights,
+        (λ some. kept (subst (λ (l : Lists). IsSome l.keys) (sym (given some)) some) ∙ given some),
+        (λ no. unsorted no ∙ plain no), listed),
+      )
+
   -- refused memory is a result too
   pub opens : (answer : Result Lint LintRefusal) (accepted : Result Accepted (Status × BplistVerdict)) → Lints P Q R answer
-      → Accepts file answer accepted → KeepsHandle sorted handle verdict status accepted → Opens
+      → Accepts sorted file answer accepted → KeepsHandle sorted handle verdict status accepted → Opens
   opens (Ok lint) (Ok accepted) given says kept = elim kept [
-    | inl k ↦ (Ok lint, given, (k.0, rw k.1 says.1.1), (rw (says.0.0, says.0.1) at k.2))
+    | inl k ↦ (Ok lint, given, (k.0, rw k.1 says.1.1), opened_for lint.certificate accepted.checked says.0 k.2)
     | inr k ↦ (Err refusals.Memory, tt, (k.0, k.1), k.2)
   ]
   opens (Err why) (Err told) given says kept = (Err why, given, (rw (← says) kept.0, rw (← says) kept.1), kept.2)
@@ -47,22 +58,21 @@ Tells verdict status result = MatchResult result (λ a. (status ≡ 0) × (verdi
     (λ told. (status ≡ status_number told.0) × (verdict ≡ told.1))
 
 -- whoever tells what was accepted, or why not, shows the linter's answer
-pub shown : (file : Bor (List ℕ)) (verdict : BplistVerdict) (status : ℕ) (answer : Result Lint LintRefusal)
-    (accepted : Result Accepted (Status × BplistVerdict)) → Accepts file answer accepted → Tells verdict status accepted
+pub shown : (sorted : Bool) (file : Bor (List ℕ)) (verdict : BplistVerdict) (status : ℕ) (answer : Result Lint LintRefusal)
+    (accepted : Result Accepted (Status × BplistVerdict)) → Accepts sorted file answer accepted → Tells verdict status accepted
     → ShowsLint file.now answer verdict status
-shown file verdict status (Ok lint) (Ok a) says told = rw (told.0, told.1) says.1
-shown file verdict status (Err why) (Err t) says told = (rw (← says) told.0, rw (← says) told.1)
-shown file verdict status (Ok lint) (Err t) says told = absurd says
-shown file verdict status (Err why) (Ok a) says told = absurd says
+shown sorted file verdict status (Ok lint) (Ok a) says told = rw (told.0, told.1) says.1
+shown sorted file verdict status (Err why) (Err t) says told = (rw (← says) told.0, rw (← says) told.1)
+shown sorted file verdict status (Ok lint) (Err t) says told = absurd says
+shown sorted file verdict status (Err why) (Ok a) says told = absurd says
 
 module _ (file : Bor (List ℕ)) (checked : CheckedFile) (same : checked.source ≡ source_over file) where
   -- the checked file with this verdict is accepted
-  pub accepts : (lint : Lint) (result : Result Accepted (Status × BplistVerdict)) → lint.certificate ≡ checked.certificate
+  pub accepts : (sorted : Bool) (lint : Lint) (result : Result Accepted (Status × BplistVerdict)) → IsCheckedFor file lint.certificate sorted checked
       → MatchResult result (λ a. (a.checked ≡ checked) × ShowsLint checked.source.octets (Ok lint) a.verdict 0) (λ _. ⊥)
-      → Accepts file (Ok lint) result
-  accepts lint (Ok a) certificate says =
-      ((ap (λ (c : CheckedFile). c.source) says.0 ∙ same, ap (λ (c : CheckedFile). c.certificate) says.0 ∙ sym certificate), rw same at says.1)
-  accepts lint (Err told) certificate says = absurd says
+      → Accepts sorted file (Ok lint) result
+  accepts sorted lint (Ok a) is says = (subst (IsCheckedFor file lint.certificate sorted) (sym says.0) is, rw same at says.1)
+  accepts sorted lint (Err told) is says = absurd says
 
   pub honest : IsTrue checked.source.honest
   honest = subst (λ (m : Meaning). IsTrue m.honest) (sym same) refl

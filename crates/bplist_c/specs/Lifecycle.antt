@@ -21,9 +21,11 @@ use Rattle.bplist_c.specs.Statuses.{status_number}
 use Rattle.bplist_c.specs.Verdicts.{ShowsLint, refused_told}
 use Rattle.bplist_c.specs.declared.verdict.TheConstants.{NO_VERDICT}
 
--- the checked file consists of these bytes and that certificate
-abbrev pub IsCheckedFor : Bor (List ℕ) → Lists → CheckedFile → Type 0
-IsCheckedFor file certificate checked = (checked.source ≡ source_over file) × (checked.certificate ≡ certificate)
+-- the checked file consists of these bytes and of a certificate with these heights, which is this one if it has key lists
+-- already or they are not asked for
+abbrev pub IsCheckedFor : Bor (List ℕ) → Lists → Bool → CheckedFile → Type 0
+IsCheckedFor file certificate sorted checked = (checked.source ≡ source_over file) × (checked.certificate.heights ≡ certificate.heights)
+    × (IsSome certificate.keys → checked.certificate ≡ certificate) × (sorted ≡ false → checked.certificate ≡ certificate)
 
 -- the handle holds a session of these bytes, their length and these heights; the certificate has key lists if they are
 -- asked for, and is this one if it has them already or they are not asked for
@@ -33,11 +35,11 @@ IsOpened f certificate sorted h = (h.length ≡ length f) × ((s : Session) × (
     × (sorted ≡ false → s.certificate ≡ certificate) × (IsTrue sorted → IsSome s.certificate.keys))
 
 -- the linter's answer as a checked file with the verdict on it, or as status and verdict
-abbrev pub Accepts : Bor (List ℕ) → Result Lint LintRefusal → Result Accepted (Status × BplistVerdict) → Type 0
-Accepts file (Ok lint) (Ok accepted) =
-    IsCheckedFor file lint.certificate accepted.checked × ShowsLint file.now (Ok lint) accepted.verdict 0
-Accepts file (Err why) (Err told) = told ≡ refused_told why
-Accepts file answer result = ⊥
+abbrev pub Accepts : Bool → Bor (List ℕ) → Result Lint LintRefusal → Result Accepted (Status × BplistVerdict) → Type 0
+Accepts sorted file (Ok lint) (Ok accepted) =
+    IsCheckedFor file lint.certificate sorted accepted.checked × ShowsLint file.now (Ok lint) accepted.verdict 0
+Accepts sorted file (Err why) (Err told) = told ≡ refused_told why
+Accepts sorted file answer result = ⊥
 
 module _ (sorted : Bool) (handle : BplistHandle) (verdict : BplistVerdict) (status : ℕ) where
   -- the handle is open, and verdict and status are those of the accepted file; or memory was refused; or the file was

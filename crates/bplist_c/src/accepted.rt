@@ -46,16 +46,18 @@ pub(crate) fn with_verdict<'a>(
     Ok(Accepted { checked, verdict })
 }
 
-/// Lints a file. Returns it if it holds a value, or the status and the verdict of one that is refused.
+/// Lints a file. Returns it if it holds a value, with key lists if `sorted` asks for them, or the status and the verdict of
+/// one that is refused.
 pub(crate) fn accept<'a>(
     alloc: Global,
     file: &'a [u8],
+    sorted: bool,
 ) -> Result<Accepted<'a>, (Status, BplistVerdict)>
     ensures { (answer : Result lint_answer lint_refusal)
         × Lints (IsLinted file.now) (IsFileFault file.now) (IsFileCircle file.now) answer
-        × Accepts file.entry answer result }
+        × Accepts sorted file.entry answer result }
 {
-    match lint_checked(alloc, SliceSource::new(file), Keys::Classes) {
+    match lint_checked(alloc, SliceSource::new(file), Keys::for_certificate(sorted)) {
         Ok((checked, tally)) => with_verdict(checked, &tally),
         Err((refusal, _)) => Err(refused(&refusal)),
     }

@@ -1,6 +1,6 @@
 //! Opens and closes handles.
 
-ghost use Rattle.std.specs.Prelude.{◌≡◌, ◌≢◌, ◌⊎◌, ⊤, ℕ, List, None, Ok, Result, IsSome, MatchResult, false};
+ghost use Rattle.std.specs.Prelude.{◌≡◌, ◌≢◌, ◌⊎◌, ⊤, ℕ, Bool, List, None, Ok, Result, IsSome, MatchResult, false};
 ghost use Rattle.bplist_c.specs.Prelude.{source_over, IsVouchingFault, IsChecked, octets_of as certificate_octets};
 ghost use Rattle.bplist_c.specs.Prelude.{IsCertificate, Lint as lint_answer, LintRefusal as lint_refusal};
 ghost use Rattle.bplist_c.specs.Prelude.{IsFileFault, IsFileCircle, IsLinted, Lints, no_circle, Status as status};
@@ -116,7 +116,7 @@ pub extern "C" fn bplist_open(
         *out = NO_VERDICT;
         return Status::Opened.number();
     }
-    let accepted = accept(alloc, file);
+    let accepted = accept(alloc, file, sorted);
     keep(alloc, handle, accepted, sorted, out)
 }
 
@@ -149,7 +149,7 @@ fn accept_pair<'a>(
 ) -> Result<Accepted<'a>, (Status, BplistVerdict)>
     ensures { (answer : Result lint_answer lint_refusal)
         × Lints (IsPair file.now certificate.now) (IsVouchingFault file.now certificate.now) no_circle answer
-        × Accepts file.entry answer result }
+        × ((sorted : Bool) → Accepts sorted file.entry answer result) }
 {
     match check_pair(alloc, file, certificate) {
         Ok(checked) => with_verdict(checked, &Tally::new()),

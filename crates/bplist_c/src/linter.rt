@@ -26,7 +26,7 @@ pub extern "C" fn bplist_lint(alloc: Global, file: &[u8], out: &mut BplistVerdic
         × Lints (IsLinted file.now) (IsFileFault file.now) (IsFileCircle file.now) answer
         × ShowsLint file.now answer out.new result }
 {
-    let (status, verdict) = match accept(alloc, file) {
+    let (status, verdict) = match accept(alloc, file, false) {
         Ok(accepted) => (0, accepted.verdict),
         Err((status, verdict)) => (status.number(), verdict),
     };

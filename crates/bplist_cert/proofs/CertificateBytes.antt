@@ -185,13 +185,6 @@ octets_kept octets c a p e (inr (keyed, is, never, _)) =
     let same : is_some c.keys ≡ keyed = one_magic (is_some c.keys) keyed (sym (magic_of c.heights c.keys) ∙ sym (ap (take 8) e) ∙ is) in
     never (subst (λ k. Fits k (num (part octets 8 8)) (length octets)) same fits)
 
--- the first broken rule of 24 and 25 is one
-pub one_octets_fault : (octets : List ℕ) (a b : Fault) → IsOctetsFault octets a → IsOctetsFault octets b → a ≡ b
-one_octets_fault octets a b (inl h) (inl k) = h.1 ∙ sym k.1
-one_octets_fault octets a b (inl h) (inr k) = absurd (h.0 k.0 k.1)
-one_octets_fault octets a b (inr h) (inl k) = absurd (k.0 h.0 h.1)
-one_octets_fault octets a b (inr h) (inr k) = h.3 ∙ sym k.3
-
 -- a header that is refused is not that of a certificate
 pub header_refused : (f : List ℕ) (c : Lists) (e : ObjectFault) → IsCertificate c → f ≡ octets_of c → GivesFault (IsOctetsFault f) e
     → GivesRefusal Never (refusal_of e)

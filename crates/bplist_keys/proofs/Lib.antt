@@ -5,6 +5,7 @@ pub mod Groups
 pub mod Merging
 pub mod TextOctets
 pub mod TextUnits
+pub mod NamedUnits
 pub mod Listed
 pub mod RankLaws
 pub mod LongRanks

@@ -2,6 +2,7 @@ pub mod Marks
 pub mod Texts
 pub mod Runs
 pub mod Groups
+pub mod Fronts
 pub mod KeyTexts
 pub mod Sorting
 pub mod Fingerprints

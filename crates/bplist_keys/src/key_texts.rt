@@ -1,13 +1,15 @@
 //! Compares texts: in memory, or by reading them.
 
-ghost use Rattle.std.specs.Prelude.{◌≡◌, ◌<◌, ◌≤◌, ◌+◌, ◌^◌, ℕ, List, IfOk, OnOk, length, slice_index};
+ghost use Rattle.std.specs.Prelude.{◌≡◌, ◌<◌, ◌≤◌, ◌+◌, ◌*◌, ◌^◌, ℕ, List, None, IfOk, OnOk, length};
 ghost use Rattle.std.specs.Result.{result_err};
 ghost use Rattle.bplist_keys.specs.Prelude.{OnlyReads, failed_to_read, frame_in, HonestlyIn, HasTextShape, IsSafeText, AreRuns};
 ghost use Rattle.bplist_keys.specs.Prelude.{compare_units, text_units, units_of};
-ghost use Rattle.bplist_keys.specs.Groups.{item_at, AreObjectsBelow, HaveShapes};
-ghost use Rattle.bplist_keys.specs.KeyTexts.{IsFront, IsHeld, IsReady, AreReady, IsTextBehind};
+ghost use Rattle.bplist_keys.specs.Groups.{item_at, AreObjectsBelow, HaveShapes, units_in};
+ghost use Rattle.bplist_keys.specs.Fronts.{FitsFronts};
+ghost use Rattle.bplist_keys.specs.KeyTexts.{AreHeld, HasFront, IsHeld, IsReady, AreReady, IsTextBehind};
 ghost use Rattle.bplist_octets.specs.Meaning.{Honestly};
 
+use crate::fronts::Fronts;
 use crate::run_cache::RunCache;
 use crate::sorting::Item;
 use crate::text::{object_text, text_order};
@@ -16,55 +18,35 @@ use bplist_octets::{ReadFault, Source};
 use std::alloc::Global;
 use std::cmp::Ordering;
 
-/// A unit is below this.
-const BASE: u64 = 65_536;
-
-/// Returns unit `i`, or 0 if the text has ended.
-fn unit_or_0(units: &[u16], i: usize) -> u64
-    ensures value { result ≡ slice_index units.now i }
-    ensures small { result < 65536 }
-{
-    if i < units.len() { units[i] as u64 } else { 0 }
-}
-
-/// Returns the first four units as one number. If it is smaller than that of another text, the text comes first.
-fn front_of(units: &[u16]) -> u64
-    ensures { IsFront units.now result }
-{
-    let first = unit_or_0(units, 0);
-    let second = unit_or_0(units, 1);
-    let third = unit_or_0(units, 2);
-    let fourth = unit_or_0(units, 3);
-    ((first * BASE + second) * BASE + third) * BASE + fourth
-}
-
 /// The units of some texts, one text after the other.
 #[derive(Drop)]
 pub(crate) struct KeyTexts {
     pub units: Vec<u16>,
     /// Where each text begins, and where the last one ends.
     pub starts: Vec<usize>,
+    /// What the fronts of the texts are made of, once all are read.
+    pub fronts: Fronts,
 }
 
 impl KeyTexts {
-    /// Reads a text behind the others. Returns its first four units as one number.
-    fn push<S: Source>(&mut self, src: &mut S, head: &Head) -> Result<u64, Failure>
+    /// Reads a text behind the others.
+    fn push<S: Source>(&mut self, src: &mut S, head: &Head) -> Result<(), Failure>
         requires text { IsSafeText (length (S.means src.old).octets) head.now }
         requires room { length self.old.units.items + head.now.count < 2 ^ 64 }
         ensures reads { OnlyReads (failed_to_read result) (S.means src.old) (S.means src.new) }
+        ensures asks { S.asked src.new ≤ S.asked src.old + 2 * head.now.count }
+        ensures more { OnOk result (length self.new.units.items ≡ length self.old.units.items + head.now.count) }
         ensures text { OnOk result (Honestly (S.means src.old) (λ f. IsTextBehind (units_of f head.now) self.old self.new)) }
-        ensures front { IfOk result (λ front. Honestly (S.means src.old) (λ f. IsFront (units_of f head.now) front)) }
     {
         let start = self.units.len();
         let end = start + head.count as usize;
         self.units.resize(end, 0)?;
         read_units(src, head, 0, &mut self.units[start..])?;
-        self.starts.push(end)?;
-        Ok(front_of(&self.units[start..]))
+        Ok(self.starts.push(end)?)
     }
 
-    /// Reads the texts of the items in turn, and gives each item its index and its first four units. Returns None if
-    /// they have more units than the file has bytes: texts of a faulty file may overlap.
+    /// Reads the texts of the items in turn, and gives each item its index and its front. Returns None if they have more
+    /// units than the file has bytes: texts of a faulty file may overlap.
     pub fn read<P: Offsets>(
         alloc: Global,
         src: &mut P,
@@ -74,6 +56,10 @@ impl KeyTexts {
         requires inside { AreObjectsBelow (frame_in (P.means src.old)).objects items.old }
         requires few { length items.old < 2 ^ 32 }
         ensures reads { OnlyReads (failed_to_read result) (P.means src.old) (P.means src.new) }
+        ensures asks { P.asked src.new ≤ P.asked src.old
+            + (2 * length (P.means src.old).octets + 36 * length items.old) }
+        ensures fits { HonestlyIn (P.means src.old) (λ f F. HaveShapes f F items.old → units ≤ length f
+            → units_in f F items.old ≤ length f → IfOk result (λ texts. texts ≡ None → ⊥)) }
         ensures all { length items.new ≡ length items.old }
         ensures same { (k : ℕ) → (item_at items.new k).object ≡ (item_at items.old k).object }
         ensures ready { HonestlyIn (P.means src.old) (λ f F. HaveShapes f F items.old
@@ -86,24 +72,52 @@ impl KeyTexts {
         let mut texts = KeyTexts {
             units: Vec::with_capacity(alloc, units as usize)?,
             starts: Vec::with_capacity(alloc, items.len() + 1)?,
+            fronts: Fronts::NONE,
         };
         texts.starts.push(0)?;
         for k in 0..items.len() {
-            let item = items[k];
-            let Some(head) = object_text(src, item.object)? else {
+            let Some(head) = object_text(src, items[k].object)? else {
                 return Ok(None);
             };
             if head.count > room.saturating_sub(texts.units.len() as u64) {
                 return Ok(None);
             }
-            let number = texts.push(src, &head)?;
-            items[k] = Item {
-                object: item.object,
-                group: k as u32,
-                number,
-            };
+            texts.push(src, &head)?;
+            items[k].group = k as u32;
         }
+        texts.fronts = texts.common_fronts(items);
+        texts.number(items);
         Ok(Some(texts))
+    }
+
+    /// Returns what the fronts of the items' texts are made of.
+    fn common_fronts(&self, items: &[Item]) -> Fronts
+        ensures { (text : ℕ → List ℕ) → AreHeld text self.now items.now
+            → (k : ℕ) → k < length items.now → FitsFronts self.now.units.items result (text (item_at items.now k).object) }
+    {
+        let mut fronts = Fronts {
+            shared: self.units.len(),
+            narrow: true,
+        };
+        for k in 0..items.len() {
+            fronts = fronts.with(&self.units, self.text(&items[k]));
+        }
+        fronts
+    }
+
+    /// Gives each item the front of its text.
+    fn number(&self, items: &mut [Item])
+        ensures all { length items.new ≡ length items.old }
+        ensures same { (k : ℕ) → (item_at items.new k).object ≡ (item_at items.old k).object }
+        ensures held { (text : ℕ → List ℕ) → AreHeld text self.now items.old → AreHeld text self.now items.new }
+        ensures fronts { (text : ℕ → List ℕ) → AreHeld text self.now items.old
+            → ((k : ℕ) → k < length items.old → FitsFronts self.now.units.items self.now.fronts (text (item_at items.old k).object))
+            → (k : ℕ) → k < length items.new → HasFront text self.now (item_at items.new k) }
+    {
+        for k in 0..items.len() {
+            let item = items[k];
+            items[k].number = self.fronts.of(self.text(&item));
+        }
     }
 
     /// Returns the units of an item.
@@ -119,9 +133,10 @@ impl KeyTexts {
         &self.units[start..end]
     }
 
-    /// Compares two texts by their first four units, and then by all.
+    /// Compares two texts by their fronts, and then by all units.
     fn compare(&self, first: &Item, second: &Item) -> Ordering
         ensures { (text : ℕ → List ℕ) → IsHeld text self.now first.now → IsHeld text self.now second.now
+            → HasFront text self.now first.now → HasFront text self.now second.now
             → result ≡ compare_units (text first.now.object) (text second.now.object) }
     {
         let order = first.number.cmp(&second.number);
@@ -175,6 +190,7 @@ impl Comparer {
         requires first { first.now.object < (frame_in (P.means src.old)).objects }
         requires second { second.now.object < (frame_in (P.means src.old)).objects }
         ensures reads { OnlyReads (result_err result) (P.means src.old) (P.means src.new) }
+        ensures asks { (self.old.texts ≡ None → ⊥) → P.asked src.new ≡ P.asked src.old }
         ensures same { self.new.texts ≡ self.old.texts }
         ensures value { HonestlyIn (P.means src.old) (λ f F. AreRuns f self.old.runs.slots
             → IsReady f F self.old.texts first.now → IsReady f F self.old.texts second.now

@@ -23,6 +23,7 @@
 //! | classes | [`classes_of`], for callers that compare only for equality: by fingerprints, so that most texts are read no further than their first units |
 //! | class_table | [`ClassTable`], which finds a dictionary's first [`KeyDefect`], a key that is wrong by rule 21 or 22 |
 //! | sorting | the order of texts, by a merge sort |
+//! | fronts | the front of a text: some of its first units as one number |
 //! | key_texts | how two texts are compared: in memory, where each is read once, or by reading them |
 //! | long_texts | [`LongTexts`], ranks of long texts in a table of fixed size |
 //! | run_cache | [`RunCache`], what earlier comparisons found of texts that overlap, so that shared units are not read again |
@@ -30,6 +31,7 @@
 
 mod class_table;
 mod classes;
+mod fronts;
 mod key_texts;
 mod long_texts;
 mod named_keys;

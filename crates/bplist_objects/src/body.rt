@@ -1,6 +1,6 @@
 //! The bodies of objects by rules 18 to 20, and heads by rules 14 to 20.
 
-ghost use Rattle.std.specs.Prelude.{◌≡◌, ◌<◌, IfOk, length};
+ghost use Rattle.std.specs.Prelude.{◌+◌, ◌≡◌, ◌<◌, IfOk, length, ◌≤◌};
 ghost use Rattle.bplist_objects.specs.Prelude.{OnlyReads, Honestly, HonestlyBy, off, IsSafe, IsSafeHead, Gives, Never};
 ghost use Rattle.bplist_objects.specs.Prelude.{read_failed, KeepsAll, HasHead, Content, content_at, Spells, IsHeadOf};
 ghost use Rattle.bplist_objects.specs.Prelude.{KeepsByObject, IsObjectFault, body_rules, object_rules};
@@ -29,6 +29,7 @@ pub fn check_body<S: Source>(
     requires safe { IsSafe (length (S.means src.old).octets) frame.now }
     requires head { IsSafeHead frame.now head.now }
     ensures reads { OnlyReads (read_failed result) (S.means src.old) (S.means src.new) }
+    ensures asks { S.asked src.new + head.now.body ≤ S.asked src.old + head.now.«end» }
     ensures exact { Honestly (S.means src.old) (λ f. place ≡ off f frame.now n.0 → HasHead f frame.now n.0 head.now
         → Gives (λ _. KeepsAll (KeepsByObject f frame.now n.0) body_rules) (IsObjectFault f frame.now n.0 body_rules)
         result) }
@@ -75,6 +76,8 @@ pub fn head_at<S: Source>(
     requires safe { IsSafe (length (S.means src.old).octets) frame.now }
     requires within { n.0 < frame.now.objects }
     ensures reads { OnlyReads (read_failed result) (S.means src.old) (S.means src.new) }
+    ensures asks { S.asked src.new ≤ S.asked src.old + 20 + frame.now.table }
+    ensures asks_object { IfOk result (λ head. S.asked src.new + place ≤ S.asked src.old + 20 + head.«end») }
     ensures rules { HonestlyBy (S.means src.old) frame.now (λ f F. place ≡ off f F n.0
         → Gives (λ head. HasHead f F n.0 head × KeepsAll (KeepsByObject f F n.0) object_rules)
         (IsObjectFault f F n.0 object_rules) result) }

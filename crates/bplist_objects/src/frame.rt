@@ -1,6 +1,6 @@
 //! The frame of a file (the five numbers of its trailer), by rules 1 to 13.
 
-ghost use Rattle.std.specs.Prelude.{◌≡◌, ℕ, ◌^◌, ◌≤◌, ◌<◌, List, length, IfOk, MatchResult, Some};
+ghost use Rattle.std.specs.Prelude.{◌≡◌, ℕ, ◌+◌, ◌^◌, ◌≤◌, ◌<◌, List, length, IfOk, MatchResult, Some};
 ghost use Rattle.std.specs.Fmt.{decimal};
 ghost use Rattle.std.specs.Result.{result_err};
 ghost use Rattle.bplist_objects.specs.Prelude.{OnlyReads, Honestly, trailer as spelled, Keeps, IsFrame, number_rules};
@@ -67,6 +67,7 @@ fn fault_at(rule: Rule, place: u64) -> Fault
 fn check_header<S: Source>(src: &mut S) -> Result<(), ObjectFault>
     requires { 8 ≤ length (S.means src.old).octets }
     ensures reads { OnlyReads (read_failed result) (S.means src.old) (S.means src.new) }
+    ensures asks { S.asked src.new ≤ S.asked src.old + 8 }
     ensures exact { Honestly (S.means src.old) (λ f. Gives (λ _. Keeps f Magic) (λ fault. (fault.rule ≡ Magic)
         × Breaks f Magic fault.object fault.place) result) }
 {
@@ -140,6 +141,7 @@ fn read_trailer<S: Source>(src: &mut S, len: u64) -> Result<Trailer, ReadFault>
     requires all { len ≡ length (S.means src.old).octets }
     requires room { 32 ≤ len }
     ensures reads { OnlyReads (result_err result) (S.means src.old) (S.means src.new) }
+    ensures asks { S.asked src.new ≤ S.asked src.old + 32 }
     ensures numbers { IfOk result (λ trailer. Honestly (S.means src.old) (λ f. spelled f ≡ frame_of_trailer trailer)) }
 {
     let mut octets = [0u8; 32];
@@ -161,6 +163,7 @@ fn read_trailer<S: Source>(src: &mut S, len: u64) -> Result<Trailer, ReadFault>
 /// 8, its table is inside, and its top is below its number of objects.
 pub fn trailer_of<S: Source>(src: &mut S) -> Result<Frame, ObjectFault>
     ensures reads { OnlyReads (read_failed result) (S.means src.old) (S.means src.new) }
+    ensures asks { S.asked src.new ≤ S.asked src.old + 40 }
     ensures exact { Honestly (S.means src.old) (λ f. Gives (λ F. (F ≡ spelled f) × KeepsAll (Keeps f) trailer_rules)
         (IsFirstFault (Keeps f) (Breaks f) trailer_rules) result) }
     ensures safe { IfOk result (IsSafeFrame (length (S.means src.old).octets)) }

@@ -46,6 +46,7 @@ pub enum Visit {
 pub fn visit_in<P: Framed>(src: &mut P, n: ObjectNo, place: u64) -> Result<Visit, ObjectFault>
     requires { n.0 < (frame_in (P.means src.old)).objects }
     ensures reads { OnlyReads (read_failed result) (P.means src.old) (P.means src.new) }
+    ensures asks { P.asked src.new ≤ P.asked src.old + 20 }
     ensures exact { HonestlyIn (P.means src.old) (λ f F. place ≡ off f F n.0
         → Gives (IsVisited f F n.0) (IsObjectFault f F n.0 shape_rules) result) }
     ensures safe { IfOk result (IsSafeVisit (frame_in (P.means src.old)) place) }
@@ -115,6 +116,7 @@ fn first_by_blocks<const ROOM: usize, S: Source>(
     requires fits { ROOM ≤ 4096 }
     requires within { place + count * width.bytes ≤ length (S.means src.old).octets }
     ensures reads { OnlyReads (result_err result) (S.means src.old) (S.means src.new) }
+    ensures asks { S.asked src.new ≤ S.asked src.old + count * width.bytes }
     ensures found { IfOk result (λ found. Honestly (S.means src.old)
         (λ f. MatchOption found (AreBelow f place width.bytes count bound) (IsFirstNotBelow f place width.bytes count bound))) }
     ensures inside { IfOk result (λ found. IfSome found (λ i. i < count)) }
@@ -145,6 +147,7 @@ pub(crate) fn first_not_below<S: Source>(
 ) -> Result<Option<u64>, ReadFault>
     requires within { place + count * width.bytes ≤ length (S.means src.old).octets }
     ensures reads { OnlyReads (result_err result) (S.means src.old) (S.means src.new) }
+    ensures asks { S.asked src.new ≤ S.asked src.old + count * width.bytes }
     ensures found { IfOk result (λ found. Honestly (S.means src.old)
         (λ f. MatchOption found (AreBelow f place width.bytes count bound) (IsFirstNotBelow f place width.bytes count bound))) }
     ensures inside { IfOk result (λ found. IfSome found (λ i. i < count)) }
@@ -171,6 +174,7 @@ fn search_part<S: Source>(
     requires within { place + count ≤ length (S.means src.old).octets }
     requires part { done + length part.old ≤ count }
     ensures reads { OnlyReads (result_err result) (S.means src.old) (S.means src.new) }
+    ensures asks { S.asked src.new ≤ S.asked src.old + length part.old }
     ensures found { IfOk result (λ found. Honestly (S.means src.old) (λ f. AreBelow f place 1 done 128
         → MatchOption found (AreBelow f place 1 (done + length part.old) 128) (IsFirstNotBelow f place 1 count 128))) }
     ensures inside { IfOk result (λ found. IfSome found (λ i. i < count)) }
@@ -183,23 +187,24 @@ fn search_part<S: Source>(
     }
 }
 
-/// True if all of the `count` bytes from `place` on are below 128. They are one read, through a buffer of `ROOM` bytes.
+/// The same as `first_high_in`, in one read through a buffer of `ROOM` bytes.
 #[inline(always)]
-fn is_low_at_once<const ROOM: usize, S: Source>(
+fn first_high_at_once<const ROOM: usize, S: Source>(
     src: &mut S,
     place: u64,
     count: u64,
-) -> Result<bool, ReadFault>
+) -> Result<Option<u64>, ReadFault>
     requires fits { ROOM ≤ 4096 }
     requires short { count ≤ ROOM }
     requires within { place + count ≤ length (S.means src.old).octets }
     ensures reads { OnlyReads (result_err result) (S.means src.old) (S.means src.new) }
-    ensures low { IfOk result (λ low. IsTrue low → Honestly (S.means src.old) (λ f. AreBelow f place 1 count 128)) }
+    ensures asks { S.asked src.new ≤ S.asked src.old + count }
+    ensures found { IfOk result (λ found. Honestly (S.means src.old)
+        (λ f. MatchOption found (AreBelow f place 1 count 128) (IsFirstNotBelow f place 1 count 128))) }
+    ensures inside { IfOk result (λ found. IfSome found (λ i. i < count)) }
 {
     let mut buffer = [0u8; ROOM];
-    src.read_at(place, &mut buffer[..count as usize])?;
-    // The rest of the buffer is 0, so the whole buffer can be searched.
-    Ok(is_block_below(&buffer, Width { bytes: 1 }, ROOM, 128))
+    search_part(src, place, count, 0, &mut buffer[..count as usize])
 }
 
 /// The same as `first_high_in`, in parts of `PART` bytes.
@@ -213,6 +218,7 @@ fn first_high_by_parts<const PART: usize, S: Source>(
     requires fits { PART ≤ 32768 }
     requires within { place + count ≤ length (S.means src.old).octets }
     ensures reads { OnlyReads (result_err result) (S.means src.old) (S.means src.new) }
+    ensures asks { S.asked src.new ≤ S.asked src.old + count }
     ensures found { IfOk result (λ found. Honestly (S.means src.old)
         (λ f. MatchOption found (AreBelow f place 1 count 128) (IsFirstNotBelow f place 1 count 128))) }
     ensures inside { IfOk result (λ found. IfSome found (λ i. i < count)) }
@@ -237,6 +243,7 @@ fn first_high_by_parts<const PART: usize, S: Source>(
 fn first_high_long<S: Source>(src: &mut S, place: u64, count: u64) -> Result<Option<u64>, ReadFault>
     requires within { place + count ≤ length (S.means src.old).octets }
     ensures reads { OnlyReads (result_err result) (S.means src.old) (S.means src.new) }
+    ensures asks { S.asked src.new ≤ S.asked src.old + count }
     ensures found { IfOk result (λ found. Honestly (S.means src.old)
         (λ f. MatchOption found (AreBelow f place 1 count 128) (IsFirstNotBelow f place 1 count 128))) }
     ensures inside { IfOk result (λ found. IfSome found (λ i. i < count)) }
@@ -250,6 +257,7 @@ fn first_high_long<S: Source>(src: &mut S, place: u64, count: u64) -> Result<Opt
 fn search_text<S: Source>(src: &mut S, place: u64, count: u64) -> Result<Option<u64>, ReadFault>
     requires within { place + count ≤ length (S.means src.old).octets }
     ensures reads { OnlyReads (result_err result) (S.means src.old) (S.means src.new) }
+    ensures asks { S.asked src.new ≤ S.asked src.old + count }
     ensures found { IfOk result (λ found. Honestly (S.means src.old)
         (λ f. MatchOption found (AreBelow f place 1 count 128) (IsFirstNotBelow f place 1 count 128))) }
     ensures inside { IfOk result (λ found. IfSome found (λ i. i < count)) }
@@ -270,12 +278,13 @@ pub fn first_high_in<S: Source>(
 ) -> Result<Option<u64>, ReadFault>
     requires within { place + count ≤ length (S.means src.old).octets }
     ensures reads { OnlyReads (result_err result) (S.means src.old) (S.means src.new) }
+    ensures asks { S.asked src.new ≤ S.asked src.old + count }
     ensures found { IfOk result (λ found. Honestly (S.means src.old)
         (λ f. MatchOption found (AreBelow f place 1 count 128) (IsFirstNotBelow f place 1 count 128))) }
     ensures inside { IfOk result (λ found. IfSome found (λ i. i < count)) }
 {
-    if count <= SHORT_TEXT as u64 && is_low_at_once::<SHORT_TEXT, S>(src, place, count)? {
-        return Ok(None);
+    if count <= SHORT_TEXT as u64 {
+        return first_high_at_once::<SHORT_TEXT, S>(src, place, count);
     }
     search_text(src, place, count)
 }

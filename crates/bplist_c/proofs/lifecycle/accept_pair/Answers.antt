@@ -14,7 +14,7 @@ returns-in-Ok c =
     let lint = lint_of checked.frame checked.certificate (record { reached = 0; used = record { octets = 0 }; references = 0 }) in (
       Ok lint,
       is_pair c.args.file checked is.0 is.3 c.args.certificate.now is.1 is.2,
-      accepts c.args.file checked is.3 lint c.with_verdict.result refl (rw c.new.ensures at c.with_verdict.ensures),
+      λ sorted. accepts c.args.file checked is.3 sorted lint c.with_verdict.result (is.3, refl, (λ _. refl), (λ _. refl)) (rw c.new.ensures at c.with_verdict.ensures),
     )
 
 pub returns-in-Err-Fault : goal.returns-in-Err-Fault
@@ -23,7 +23,7 @@ returns-in-Err-Fault c =
     let is = c.in-Err-Fault.fault-is in
     let told = c.of_fault.ensures in
     let shown : c.of_fault.result ≡ (refused_told (lint_refusals.Fault c.in-Err-Fault.fault)).1 = cc in
-    (Err (lint_refusals.Fault c.in-Err-Fault.fault), refused, ap (λ (v : BplistVerdict). (statuses.Fault, v)) shown)
+    (Err (lint_refusals.Fault c.in-Err-Fault.fault), refused, λ _. ap (λ (v : BplistVerdict). (statuses.Fault, v)) shown)
 
 pub returns-in-Err-Memory : goal.returns-in-Err-Memory
-returns-in-Err-Memory c = (Err lint_refusals.Memory, tt, refl)
+returns-in-Err-Memory c = (Err lint_refusals.Memory, tt, λ _. refl)

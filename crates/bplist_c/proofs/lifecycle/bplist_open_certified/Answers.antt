@@ -10,4 +10,4 @@ returns-clause-exact c = λ closed.
     let octets = c.args.certificate.now in
     let found = c.accept_pair-accepted.ensures in
     opens c.args.file c.args.sorted (IsPair f octets) (IsVouchingFault f octets) no_circle c.keep.new.handle c.keep.new.out c.keep.result
-    found.0 c.accept_pair-accepted.result found.1 found.2 c.keep.ensures
+    found.0 c.accept_pair-accepted.result found.1 (found.2 c.args.sorted) c.keep.ensures

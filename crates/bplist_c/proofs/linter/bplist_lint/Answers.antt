@@ -12,4 +12,4 @@ returns c =
       | in-Ok+in-None-1 w ↦ rw (w.in-Ok.is, w.status-is) (refl, refl)
       | in-Err w ↦ rw (w.in-Err.is, w.status-is) (w.number.ensures, refl)
     ] in
-    (said.0, said.1, shown c.args.file told.1 told.0 said.0 c.accept.result said.2 tells)
+    (said.0, said.1, shown false c.args.file told.1 told.0 said.0 c.accept.result said.2 tells)

@@ -1,4 +1,4 @@
-use Rattle.std.proofs.Common.{◌≡◌, ◌≤◌, ◌-◌, IsTrue}
+use Rattle.std.proofs.Common.{◌≡◌, ◌≤◌, ◌+◌, ◌*◌, ◌-◌, IsTrue}
 use Rattle.bplist_objects.specs.Scan.{AreBelow}
 use Rattle.bplist_objects.proofs.scan.first_by_blocks.Given as goal
 
@@ -8,6 +8,7 @@ invariant-loop-done g l =
     let means = g.S.Source.means in
     record {
       same : means l.src ≡ means l.fn.src;
+      asked : g.S.Source.asked l.src ≤ g.S.Source.asked l.fn.src + l.done * l.width.bytes;
       reached : l.done ≤ l.count;
       low : IsTrue (means l.fn.src).honest → AreBelow (means l.fn.src).octets l.place l.width.bytes l.done l.bound;
     }

@@ -5,4 +5,6 @@ use Rattle.bplist_keys.proofs.key_texts.Comparer.compare.Goals as goal
 pub returns-in-Some-clause-value : goal.returns-in-Some-clause-value
 returns-in-Some-clause-value g c = λ honest runs first second.
     let m = g.P.Source.means c.args.src.now in
-    c.compare.ensures (text_units m.octets (frame_in m)) (rw c.in-Some.is at first) (rw c.in-Some.is at second)
+    let one = rw c.in-Some.is at first in
+    let other = rw c.in-Some.is at second in
+    c.compare.ensures (text_units m.octets (frame_in m)) one.0 other.0 one.1 other.1

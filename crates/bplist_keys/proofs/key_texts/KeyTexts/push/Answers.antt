@@ -1,15 +1,14 @@
-use Rattle.std.proofs.Common.{◌≡◌, ℕ, ◌+◌, ◌-◌, ◌≤◌, ◌++◌, ◌∷◌, [], List, length, take, drop, replicate, sym, ap, ap₂, ◌∙◌, subst, IsTrue, arith}
+use Rattle.std.proofs.Common.{◌≡◌, ℕ, ◌+◌, ◌-◌, ◌≤◌, ◌++◌, ◌∷◌, [], List, length, take, drop, replicate, sym, ap, ap₂, ◌∙◌, IsTrue, arith}
 use Rattle.std.proofs.lemmas.Grind.{common_steps}
 use Rattle.std.proofs.lemmas.List.{length-take, length-drop, length-append, length-replicate, take_all, with_items_is}
 use borrow.Rule.Slice.PartMut.{post_of}
 use Rattle.bplist_objects.specs.Units.{units_of}
 use Rattle.bplist_objects.proofs.Units.{length-units_at}
-use Rattle.bplist_keys.specs.KeyTexts.{IsFront}
-use Rattle.bplist_keys.proofs.HeldTexts.{filled, filled_end}
+use Rattle.bplist_keys.proofs.HeldTexts.{filled}
 use Rattle.bplist_keys.proofs.key_texts.KeyTexts.push.Given.{Over}
 use Rattle.bplist_keys.proofs.key_texts.KeyTexts.push.Goals as goal
 
-module _ (g : Over) (c : goal.After-front_of g) (honest : IsTrue (g.S.Source.means c.args.src.now).honest) where
+module _ (g : Over) (c : goal.In_ok-push g) (honest : IsTrue (g.S.Source.means c.args.src.now).honest) where
   abbrev us : List ℕ
   us = units_of (g.S.Source.means c.args.src.now).octets c.args.head.now
 
@@ -51,8 +50,3 @@ returns-clause-text g c = λ honest.
       units = units;
       starts = c.in_ok-push.ensures.items ∙ ap (λ n. c.args.self.now.starts.items ++ n ∷ []) (sym (ap length units ∙ whole g c honest));
     }
-
-pub returns-clause-front : goal.returns-clause-front
-returns-clause-front g c = λ honest.
-    let units = with_items_is c.resize.new.self (now g c honest) (ap length (written g c honest) ∙ whole g c honest ∙ sym c.in_ok-resize.ensures.len) ∙ written g c honest in
-    subst (λ ws. IsFront ws c.front_of.result) (filled_end (old g c honest) (us g c honest) c.deref.result.now c.len-start.result (c.deref.ensures.value ∙ units) (begin g c honest)) c.front_of.ensures
