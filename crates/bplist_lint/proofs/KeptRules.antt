@@ -1,5 +1,5 @@
 -- A file is well formed exactly if its reached objects keep their rules and its top is founded.
-use Rattle.std.proofs.Common.{◌≡◌, ℕ, ◌<◌, ◌≤◌, ◌+◌, ◌++◌, inl, inr, true, false, List, [], ◌∷◌, None, replicate, subst, arith}
+use Rattle.std.proofs.Common.{◌≡◌, ℕ, ◌<◌, ◌≤◌, ◌+◌, ◌++◌, inl, inr, true, false, List, [], ◌∷◌, None, subst, arith}
 use Rattle.std.specs.List.{AllByRecursion}
 use Rattle.std.proofs.lemmas.Bool.{cases_lt}
 use Rattle.std.proofs.lemmas.List.{get_or-replicate}
@@ -69,13 +69,7 @@ module _ (f : List ℕ) (F : Frame) where
     pub kept_spells : KeepReached f F reach_rules F.objects → (n : ℕ) → Reach f F n → (c : Content) × Spells f F n c
     kept_spells kept n r = let lt = reach_within f F (numbered frame).top n r in (keeps_iff f F n frame lt).0 (parted_rules n (kept n lt r)).0
 
-    -- if all objects are named, so are the keys of the reached ones
-    pub all_named : KeepReached f F reach_rules F.objects → AreNamed f F (replicate F.objects true)
-    all_named kept n r head has dict k low =
-        let lt = reach_within f F (numbered frame).top n r in
-        get_or-replicate F.objects (ref f F head k) true false (keys_inside f F n (parted_rules n (kept n lt r)).0 head has dict k low)
-
-    kept_room : KeepReached f F reach_rules F.objects → HaveRoom f F (Reach f F)
+    pub kept_room : KeepReached f F reach_rules F.objects → HaveRoom f F (Reach f F)
     kept_room kept [] r d a t = omega (arith, t, (numbered frame).table_early)
     kept_room kept (n ∷ ns) r d a t = elim (cases_lt F.table (r + 8)) [
       | inl l ↦ let g = greatest_member (Reach f F) n ns a in absurd ((parted_rules g.0 (kept g.0 (reach_within f F (numbered frame).top g.0 g.1.member) g.1.member)).1.0 (n ∷ ns, r, d, g.1.high, t, l))

@@ -21,6 +21,9 @@ use Rattle.bplist_cert.proofs.KeyRepeats as keys
 use Rattle.bplist_lint.specs.ReachRules.{KeepReached, reach_rules}
 use Rattle.bplist_keys.specs.Classes.{HasNamedKeys, AreClassed, HaveClasses, IsKeyDefect, IsWrongFault}
 use Rattle.bplist_lint.specs.KeyClasses.{AreSound}
+use Rattle.bplist_lint.specs.ReachWalk.{AreNamed}
+use Rattle.bplist_objects.proofs.FrameTies.{numbered}
+use Rattle.bplist_objects.proofs.ReachedObjects.{reach_within}
 use Rattle.bplist_keys.specs.declared.class_table.KeyDefect.{KeyDefect}
 use Rattle.bplist_keys.specs.declared.class_table.KeyDefect.TheVariants as defects
 use Rattle.bplist_lint.proofs.ReachSteps.{marked_within}
@@ -36,6 +39,18 @@ module _ (f : List ℕ) (F : Frame) where
     kept = λ m marked. (parted_rules f F m (kept m (subst (λ n. m < n) many (marked_within marks m marked)) ((reached m).0 marked))).0;
     closed = λ n m marked r. (reached m).1 (next ((reached n).0 marked) r);
   }
+
+  -- if the reached objects are named, so are the keys of the reached ones
+  pub reached_named : (marks : List Bool) → length marks ≡ F.objects → IsFrame f F → ((m : ℕ) → IsMarked marks m ↔ Reach f F m)
+      → KeepReached f F reach_rules F.objects → AreNamed f F marks
+  reached_named marks many framed reached kept n r head has dict k low =
+      let sound = reached_sound marks many framed reached kept in
+      let within = reach_within f F (numbered framed).top n r in
+      let marked = (reached n).1 r in
+      let c = content_at f F head in
+      let spells = ((head_tie f F n framed within head).0 (has, sound.kept n marked)).1 in
+      let among = each_key f F (Contains (refs c)) head dict (all_from (Contains (refs c)) (refs c) (λ m in_refs. in_refs)) k low in
+      sound.closed n (ref f F head k) marked (c, spells, among)
 
   -- the keys of a marked dictionary keep rules 14 to 20
   pub sound_keys : (marks : List Bool) → AreSound f F marks → (n : ℕ) → n < F.objects → IsMarked marks n → (head : Head) → HasHead f F n head → head.kind ≡ Dict

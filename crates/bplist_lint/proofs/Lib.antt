@@ -30,3 +30,8 @@ pub mod ValueOrFault
 pub mod KeyLists
 pub mod ListSteps
 pub mod UpgradeSteps
+pub mod BitCounts
+pub mod ExtentBytes
+pub mod HeightCosts
+pub mod WalkCosts
+pub mod HeightTurns

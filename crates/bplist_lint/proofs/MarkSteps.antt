@@ -1,12 +1,12 @@
 -- Steps of the walk that marks the references of one object.
-use Rattle.std.proofs.Common.{◌≡◌, ◌≢◌, ℕ, ◌+◌, ◌-◌, ◌<◌, ◌≤◌, ◌⊎◌, inl, inr, Bool, true, false, List, [], ◌∷◌, ◌++◌, length, get_or, slice_index, set, take, Contains, sym, ◌∙◌, arith}
+use Rattle.std.proofs.Common.{◌≡◌, ◌≢◌, ℕ, ◌+◌, ◌-◌, ◌<◌, ◌≤◌, ◌⊎◌, inl, inr, Bool, true, false, List, [], ◌∷◌, ◌++◌, length, get_or, slice_index, set, take, replicate, Contains, sym, ◌∙◌, subst, arith}
 use Rattle.std.proofs.Common.{below_more}
 use Rattle.std.proofs.lemmas.Bool.{cases_eq, cases_lt, false≢true}
-use Rattle.std.proofs.lemmas.List.{get_or-set_same, get_or-set_other, get_or-take, length-take-le, get_or_default}
+use Rattle.std.proofs.lemmas.List.{get_or-set_same, get_or-set_other, get_or-take, length-take, length-take-le, get_or_default}
 use Rattle.std.proofs.lemmas.List.Elements.{Contains-append_left, Contains-push, Contains-push_cases, Contains-get_or}
 use Rattle.bplist_keys.specs.Marks.{IsMarked}
 use Rattle.bplist_lint.specs.ReachWalk.{AreApart, Noted}
-use Rattle.bplist_lint.proofs.ListWrites.{seen-set, differ_push, differ_front, differ_last}
+use Rattle.bplist_lint.proofs.ListWrites.{seen-set, unwritten, differ_push, differ_front, differ_last}
 
 -- ---- a stack on which no object is twice
 pub apart_none : AreApart []
@@ -144,3 +144,14 @@ pub named_front : (keys : ℕ) (block : List ℕ) (marks : List Bool) (j m : ℕ
 named_front keys block marks j m low few is inside named =
     let here : slice_index (take keys block) j ≡ m = get_or-take keys block j 0 low ∙ is in
     rw here at (named j (rw (length-take-le keys block few) low) (rw here inside))
+
+-- what the front of a block has is marked if all of the block is
+pub front_marked : (keys : ℕ) (block : List ℕ) (marks : List Bool) (m : ℕ) → Contains (take keys block) m → ((k : ℕ) → k < length block → IsMarked marks (slice_index block k)) → IsMarked marks m
+front_marked keys block marks m c all =
+    let short = length-take keys block in
+    let there : slice_index block c.0 ≡ m = sym (get_or-take keys block c.0 0 (omega (arith, c.1, short))) ∙ get_or_default (take keys block) c.0 0 c.1 ∙ sym (get_or_default (take keys block) c.0 m c.1) ∙ c.2 in
+    subst (IsMarked marks) there (all c.0 (omega (arith, c.1, short)))
+
+-- no object is marked at first
+pub none_marked : (size m : ℕ) → IsMarked (replicate size false) m → ⊥
+none_marked size m is = false≢true (sym (unwritten size m false) ∙ is)

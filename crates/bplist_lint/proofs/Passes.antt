@@ -1,5 +1,5 @@
 -- What the linter's passes find, one after the other.
-use Rattle.std.proofs.Common.{◌≡◌, ℕ, zero, suc, ◌+◌, ◌<◌, ◌≤◌, inl, cond, nat_lt, Bool, List, length, take, slice_index, count_by, filter, IsTrue, Option, None, Result, Ok, Err, refl, sym, ap, subst, ◌∙◌, arith, lt-ltb}
+use Rattle.std.proofs.Common.{◌≡◌, ℕ, zero, suc, ◌+◌, ◌*◌, ◌<◌, ◌≤◌, inl, cond, nat_lt, Bool, List, length, take, slice_index, count_by, filter, IsTrue, Option, None, Result, Ok, Err, refl, sym, ap, subst, ◌∙◌, arith, lt-ltb}
 use Rattle.std.specs.List.{range_with_len}
 use Rattle.std.proofs.Math.Numerals.{add-one}
 use Rattle.std.proofs.Math.Seq.{take-length}
@@ -72,6 +72,11 @@ lints_mean S P Q U R T (Err e) answers faults circles h = refusal_means Q U R T 
 pub fault_passed : (m n : Meaning) → m ≡ n → (e : LintRefusal) → (IsTrue m.honest → Refuses (IsFileFault m.octets) (IsFileCircle m.octets) e)
     → IsTrue n.honest → Refuses (IsFileFault n.octets) (IsFileCircle n.octets) e
 fault_passed m n same e told = subst (λ (k : Meaning). IsTrue k.honest → Refuses (IsFileFault k.octets) (IsFileCircle k.octets) e) same told
+
+-- what was asked for, by what the source means
+pub lint_asked : (m n : Meaning) → m ≡ n → (before after table objects : ℕ) → (IsTrue m.honest → after ≤ before + (2 * length m.octets + 33 * table + 1756 * objects + 456))
+    → IsTrue n.honest → after ≤ before + (2 * length n.octets + 33 * table + 1756 * objects + 456)
+lint_asked m n same before after table objects asked = subst (λ (k : Meaning). IsTrue k.honest → after ≤ before + (2 * length k.octets + 33 * table + 1756 * objects + 456)) same asked
 
 -- ---- sums over the same objects
 -- the object has a height

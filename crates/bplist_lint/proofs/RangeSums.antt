@@ -1,6 +1,7 @@
 -- Sums over the numbers below a bound, and those over the objects below it.
-use Rattle.std.proofs.Common.{◌≡◌, ℕ, zero, suc, ◌+◌, Bool, true, false, cond, List, [], ◌∷◌, ◌++◌, length, Option, Some, None, unwrap_or, sum, sum_by, filter, filter_map, refl, sym, ap, ◌∙◌, arith}
+use Rattle.std.proofs.Common.{◌≡◌, ℕ, zero, suc, ◌+◌, ◌≤◌, Bool, true, false, cond, List, [], ◌∷◌, ◌++◌, length, Option, Some, None, unwrap_or, sum, sum_by, filter, filter_map, refl, sym, ap, ◌∙◌, subst, inl, inr, arith}
 use Rattle.std.specs.List.{range_with_len, cons_option}
+use Rattle.std.proofs.lemmas.Bool.{cases_lt}
 use Rattle.std.specs.Option.{option_map_or}
 use Rattle.std.proofs.lemmas.List.Sums.{sum_by-cons, sum_by_push}
 use Rattle.bplist_objects.specs.declared.frame.Frame.{Frame}
@@ -26,6 +27,14 @@ range_more a (suc n) = let e : a + 1 + n ≡ a + suc n = omega arith in ap (λ l
 -- one more number
 pub sum_next : (g : ℕ → ℕ) (n : ℕ) → sum_below g (suc n) ≡ sum_below g n + g n
 sum_next g n = let e : 0 + n ≡ n = omega arith in ap (sum_by g) (range_more 0 n) ∙ sum_by_push g (range_with_len 0 n) (0 + n) ∙ ap (λ k. sum_below g n + g k) e
+
+-- more numbers
+pub sum_on : (g : ℕ → ℕ) (n m : ℕ) → n ≤ m → sum_below g n ≤ sum_below g m
+sum_on g n zero h = let e : n ≡ 0 = omega (arith, h) in rw e (omega arith)
+sum_on g n (suc m) h = elim (cases_lt m n) [
+  | inl up ↦ let e : n ≡ suc m = omega (arith, h, up) in rw e (omega arith)
+  | inr on ↦ omega (arith, sum_on g n m on, sum_next g m)
+]
 
 -- the sum over those of which p holds
 sum_chosen : (g : ℕ → ℕ) (p : ℕ → Bool) (xs : List ℕ) → sum_by g (filter p xs) ≡ sum_by (λ m. cond (p m) (g m) 0) xs
@@ -77,6 +86,11 @@ module _ (f : List ℕ) (F : Frame) where
     extents_next =
         let one = sum_next (λ m. cond (p m) (extent f F m) 0) n in
         omega (arith, one, extents_sum p n, extents_sum p (suc n))
+
+    pub extents_more : extents_below f F p (n + 1) ≡ extents_below f F p n + cond (p n) (extent f F n) 0
+    extents_more =
+        let next : suc n ≡ n + 1 = omega arith in
+        subst (λ k. extents_below f F p k ≡ extents_below f F p n + cond (p n) (extent f F n) 0) next extents_next
 
     pub references_next : references_below f F p (suc n) ≡ references_below f F p n + cond (p n) (references_of n) 0
     references_next =

@@ -5,6 +5,7 @@ use Rattle.std.proofs.lemmas.Nat.{div-mul-add, mod-mul-add, div-add-mod', mul-ad
 use Rattle.std.proofs.lemmas.Grind.{elements}
 use Rattle.std.proofs.lemmas.Bool.{false≢true, cases_eq, cases_lt}
 use Rattle.std.proofs.lemmas.List.{get_or-set_same, get_or-set_other, get_or_default, length-replicate, length-set, length_push}
+use Rattle.std.proofs.lemmas.List.Sums.{count_by-le-length}
 use Rattle.std.proofs.lemmas.List.Elements.{Contains-append_left, Contains-push, Contains-push_cases}
 use Rattle.bplist_objects.specs.declared.frame.Frame.{Frame}
 use Rattle.bplist_objects.specs.declared.head.Head.{Head}
@@ -113,6 +114,13 @@ module _ (references : List ℕ) (marks : List Bool) (stack : List ℕ) where
       | inr e ↦ rw (← e) (inr (get_or-set_same marks' m true false fits))
     ];
   }
+
+-- at the start as many objects are left as there are: one is marked, and waits
+pub work_first : (size top : ℕ) → top < size → count_by not (set (replicate size false) top true) + 1 ≤ size
+work_first size top low =
+    let long = length-replicate {A = Bool} size false in
+    let less = rw (unwritten size top false) at (count-set not (replicate size false) top true false (omega (arith, low, long))) in
+    omega (arith, less, count_by-le-length not (replicate size false), long)
 
 -- object m is marked, and went onto the stack if it was not marked before
 pub record Takes (m : ℕ) (marks : List Bool) (stack : List ℕ) (marks' : List Bool) (stack' : List ℕ) : Type 0 where

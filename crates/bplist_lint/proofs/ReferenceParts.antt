@@ -53,6 +53,17 @@ module _ (references block : List ℕ) (i count : ℕ) (part : IsPart references
         rw (part_at (k - i) under, there) at (here (k - i) (omega (arith, long, under)))
   ]
 
+  -- the same of the references from one on, up to item j of the part
+  pub part_on : (P : ℕ → Type 0) (from j : ℕ) → j ≤ count → ((k : ℕ) → from ≤ k → k < i → P (slice_index references k))
+      → ((k : ℕ) → k < j → P (slice_index (take count block) k)) → (k : ℕ) → from ≤ k → k < i + j → P (slice_index references k)
+  part_on P from j few before here k on low = elim (cases_lt k i) [
+    | inl first ↦ before k on first
+    | inr later ↦
+        let there : i + (k - i) ≡ k = omega (arith, later) in
+        let under : k - i < j = omega (arith, low, later) in
+        rw (part_at (k - i) (omega (arith, under, few)), there) at (here (k - i) under)
+  ]
+
   -- the first without something in the part, if all before it have it
   pub first_in_part : (P : ℕ → Type 0) (m : ℕ) → i ≤ length references → ((k : ℕ) → k < i → P (slice_index references k)) → IsFirstWithout P (take count block) m → IsFirstWithout P references m
   first_in_part P m low before first =

@@ -1,6 +1,7 @@
 -- The states, heights and stack of the walk that finds the least heights, and what is true of them throughout.
 -- Source: profile.
-use Rattle.std.specs.Prelude.{◌≡◌, ◌≢◌, ◌⊎◌, ℕ, suc, ◌<◌, ◌≤◌, Bool, true, false, List, [], length, map, slice_index_or, slice_index, count_by, vec_len, Contains, ⊤}
+use Rattle.std.specs.Prelude.{◌≡◌, ◌≢◌, ◌⊎◌, ℕ, suc, ◌+◌, ◌-◌, ◌*◌, ◌<◌, ◌≤◌, Bool, true, false, cond, List, [], length, map, slice_index_or, slice_index, sum_by, count_by, vec_len, Contains, ⊤}
+use Rattle.std.specs.List.{range_with_len}
 use Rattle.bplist_lint.specs.Graph.{Graph, IsWhole, Ends, Least, greatest}
 use Rattle.bplist_keys.specs.Marks.{IsMarked}
 use Rattle.bplist_lint.specs.ReachSearch.{HasMarks}
@@ -69,9 +70,59 @@ Shows references states heights from (looks.Founded best) = from ≡ 0
     → ((k : ℕ) → k < length references → state_at states (slice_index references k) ≡ Founded)
     × (best ≡ greatest (map (λ m. slice_index heights m) references))
 
+-- what a scan of references from number `from` on has passed: founded objects only, and all that come before a new one
+abbrev pub Passes : List ℕ → List State → ℕ → ScanResult → Type 0
+Passes references states from (looks.New i m) =
+    (from ≤ i) × ((k : ℕ) → from ≤ k → k < i → state_at states (slice_index references k) ≡ Founded)
+Passes references states from looks.Circular = ⊤
+Passes references states from (looks.Founded best) =
+    (k : ℕ) → from ≤ k → k < length references → state_at states (slice_index references k) ≡ Founded
+
+-- how many references are before the one at which the scan of an object with this height slot resumes
+abbrev pub resumed : ℕ → ℕ
+resumed slot = slot - 1
+
+-- the scan of an object with this height slot has met no object of which nothing is known still
+abbrev pub HasMet : List ℕ → List State → ℕ → Type 0
+HasMet references states slot =
+    (slot ≤ length references) × ((k : ℕ) → k < slot → state_at states (slice_index references k) ≢ New)
+
+-- a resumed scan that finds a new object has met all before that
+abbrev pub GoesOn : List ℕ → List State → ℕ → ScanResult → Type 0
+GoesOn references states slot (looks.New i m) =
+    (slot ≤ i) × ((k : ℕ) → k < i → state_at states (slice_index references k) ≢ New)
+GoesOn references states slot _ = ⊤
+
+-- how many bytes a scan asks for that finds this, from number `from` on of `count` references of this width
+abbrev pub scan_bytes : ℕ → ℕ → ℕ → ScanResult → ℕ
+scan_bytes width from count (looks.New i m) = 460 + (i - from) * (3 + width)
+scan_bytes width from count _ = 204 + (count - from) * (3 + width)
+
+-- the same of a scan that resumes, and of the one of all references after it
+abbrev pub turn_bytes : ℕ → ℕ → ℕ → ScanResult → ℕ
+turn_bytes width slot count (looks.New i m) = 460 + (i - resumed slot) * (3 + width)
+turn_bytes width slot count _ = 408 + ((count - resumed slot) * (3 + width) + count * (3 + width))
+
+-- how many bytes the walk may still ask for because of an object with this state, height slot and number of references
+abbrev pub left_for : ℕ → State → ℕ → ℕ → ℕ
+left_for width New slot count = 868 + (count * (3 + width) + count * (3 + width))
+left_for width Open slot count = 408 + ((count - resumed slot) * (3 + width) + count * (3 + width))
+left_for width _ slot count = 0
+
+-- and because of the marked objects below n
+abbrev pub left_below : ℕ → (ℕ → List ℕ) → List Bool → List State → List ℕ → ℕ → ℕ
+left_below width refs marks states heights n =
+    sum_by
+    (λ m. cond (slice_index_or marks m false) (left_for width (state_at states m) (slice_index heights m) (length (refs m))) 0)
+    (range_with_len 0 n)
+
 -- each marked object has all references that it announces, and these are marked
 abbrev pub AreClosed : Graph → List Bool → Type 0
 AreClosed graph marks = (n : ℕ) → IsMarked marks n → IsWhole graph n × HasMarks marks (graph.refs n)
+
+-- no marked object has more references than a height slot can count
+abbrev pub AreFew : (ℕ → List ℕ) → List Bool → Type 0
+AreFew refs marks = (n : ℕ) → IsMarked marks n → length (refs n) < 4294967296
 
 -- what the walk says about the references while no object is open
 abbrev pub Walks : (ℕ → List ℕ) → List Bool → HeightWalk → Type 0

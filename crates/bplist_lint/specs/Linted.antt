@@ -1,8 +1,8 @@
 -- What the linter says about a file that holds a value. Source: profile.
-use Rattle.std.specs.Prelude.{◌≡◌, ℕ, ◌+◌, ◌≤◌, nat_lt, List, [], ◌∷◌, length, slice_index, count_by, filter, None}
+use Rattle.std.specs.Prelude.{◌≡◌, ℕ, ◌+◌, ◌≤◌, min, nat_lt, List, [], ◌∷◌, length, slice_index, count_by, filter, None}
 use Rattle.std.specs.List.{range_with_len}
 use Rattle.bplist_objects.specs.declared.frame.Frame.{Frame}
-use Rattle.bplist_objects.specs.Frame.{IsFrame}
+use Rattle.bplist_objects.specs.Frame.{IsFrame, trailer}
 use Rattle.bplist_objects.specs.Heads.{Content, refs, Spells}
 use Rattle.bplist_objects.specs.Value.{Value}
 use Rattle.bplist_objects.specs.File.{FileHolds}
@@ -56,3 +56,7 @@ HasNoHeights f = (F : Frame) (heights : List ℕ) → IsValid f F heights → �
 pub record KeepsRules (f : List ℕ) (F : Frame) (reached : Reached) : Type 0 where
   pub walked : IsWalked f F reached
   pub keys : KeepReached f F (key_rules None) F.objects
+
+-- how many objects the trailer says that the file has, but no more than it has bytes
+abbrev pub objects_said : List ℕ → ℕ
+objects_said f = min (length f) (trailer f).objects

@@ -30,20 +30,21 @@ pub use Rattle.bplist_cert.specs.Lists.{lists}
 pub use Rattle.bplist_cert.specs.Refusals.{Judges, refused_read}
 pub use Rattle.bplist_cert.specs.Sound.{IsSound}
 pub use Rattle.bplist_cert.specs.Valid.{IsValid, IsVouchedBy}
+pub use Rattle.bplist_lint.specs.BitSets.{count_in}
 pub use Rattle.bplist_lint.specs.Containers.{AreFinished, AreFound, AreMeasured, HasHeight, IsNumbered}
 pub use Rattle.bplist_lint.specs.FileFault.{IsCircle, IsFileCircle, IsFileFault}
 pub use Rattle.bplist_lint.specs.Graph.{AreLeast, AreObjects, AreWhole, Ends, IsCircleOf, IsFirstWithout, IsWhole, Reaches}
-pub use Rattle.bplist_lint.specs.HeightWalks.{AreClosed, AreLeastOf, Finds, Rests, Settles, Shows, Walks, first_state, state_at}
+pub use Rattle.bplist_lint.specs.HeightWalks.{AreClosed, AreFew, AreLeastOf, Finds, GoesOn, HasMet, Passes, Rests, Settles, Shows, Walks, first_state, left_below, resumed, scan_bytes, state_at, turn_bytes}
 pub use Rattle.bplist_lint.specs.KeyLists.{AreAbove, AreRanked, HaveRanks, IsListed, RankKeys, positions_in, ranks_in}
 pub use Rattle.bplist_lint.specs.LeastHeights.{AreLeastHeights, StandLeast}
-pub use Rattle.bplist_lint.specs.Linted.{HasNoHeights, IsLinted, IsLintedBy, KeepsRules, lint_of}
-pub use Rattle.bplist_lint.specs.ReachRules.{IsReachedFault, KeepReached, Tallied, reach_rules}
+pub use Rattle.bplist_lint.specs.Linted.{HasNoHeights, IsLinted, IsLintedBy, KeepsRules, lint_of, objects_said}
+pub use Rattle.bplist_lint.specs.ReachRules.{IsReachedFault, KeepReached, Tallied, is_marked, reach_rules}
 pub use Rattle.bplist_lint.specs.ReachSearch.{AreFollowed, AreGood, HasMarks, IsReady, Looked, Searching, index_count, place_index}
-pub use Rattle.bplist_lint.specs.ReachWalk.{AreNamed, HasRoomFor, IsSteady, IsSteadyWalk, IsWalked, IsWalking, KeepsNames, NotedIn, Worked, of_object, stop_failed}
+pub use Rattle.bplist_lint.specs.ReachWalk.{AreNamed, HasRoomFor, IsSteady, IsSteadyWalk, IsWalked, IsWalking, KeepsNames, NamesMarked, NotedIn, Worked, extent, extents_below, of_object, stop_failed}
 pub use Rattle.bplist_lint.specs.ReferenceGraph.{AreChildless, graph_of, hidden}
 pub use Rattle.bplist_lint.specs.Refusals.{Lints, Refuses, read_of_refusal, lint_failed, no_circle}
 pub use Rattle.bplist_lint.specs.Tallies.{IsRoomy}
-pub use Rattle.bplist_lint.specs.Trail.{AllHave, IsFirstIndex, number, object}
+pub use Rattle.bplist_lint.specs.Trail.{AllHave, IsFirstIndex, number, object, trail_bytes}
 pub use Rattle.bplist_lint.specs.UpgradeAnswers.{Upgrades, upgrade_failed}
 pub use Rattle.bplist_lint.specs.Upgraded.{IsLintedWith, IsUpgraded, Listed, keys_for}
 pub use Rattle.bplist_lint.specs.WellFormed.{IsWellFormed}

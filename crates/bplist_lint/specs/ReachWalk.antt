@@ -92,6 +92,10 @@ pub record KeepsNames (size : ℕ) (before after : NamedKeys) : Type 0 where
   pub all : length after.marks.items ≡ size
   pub keeps : (m : ℕ) → IsMarked before.marks.items m → IsMarked after.marks.items m
 
+-- only marked objects are named
+abbrev pub NamesMarked : List Bool → List Bool → Type 0
+NamesMarked marks named = (m : ℕ) → IsMarked named m → IsMarked marks m
+
 -- the bytes that an object at this place takes, by its head
 abbrev pub extent_by : ℕ → Option Head → ℕ
 extent_by place None = 0

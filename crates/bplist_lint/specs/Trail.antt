@@ -1,5 +1,6 @@
 -- The trail of the walk to the circle. Source: profile.
-use Rattle.std.specs.Prelude.{◌≡◌, ◌≢◌, ℕ, suc, ◌<◌, Bool, List, [], ◌∷◌, ◌++◌, length, slice_index, Contains}
+use Rattle.std.specs.Prelude.{◌≡◌, ◌≢◌, ℕ, suc, ◌+◌, ◌*◌, ◌<◌, Bool, false, cond, List, [], ◌∷◌, ◌++◌, length, slice_index, slice_index_or, sum_by, Contains}
+use Rattle.std.specs.List.{range_with_len}
 use Rattle.bplist_objects.specs.declared.frame.ObjectNo.{ObjectNo}
 use Rattle.bplist_keys.specs.Marks.{IsMarked}
 use Rattle.bplist_lint.specs.Graph.{Reaches, Ends, IsFirstUnfoundedIn}
@@ -21,6 +22,11 @@ pub record IsFirstIndex (trail : List ℕ) (x index : ℕ) : Type 0 where
   pub within : index < length trail
   pub here : slice_index trail index ≡ x
   pub before : (k : ℕ) → k < index → slice_index trail k ≢ x
+
+-- how many bytes the walk asks for because of the marked objects below n, with references of this width
+abbrev pub trail_bytes : ℕ → (ℕ → List ℕ) → List Bool → ℕ → ℕ
+trail_bytes width refs marks n =
+    sum_by (λ m. cond (slice_index_or marks m false) (292 + length (refs m) * (3 + width)) 0) (range_with_len 0 n)
 
 -- exactly the objects of the trail are marked, and each is on it once
 pub record IsTrail (size : ℕ) (met : List Bool) (trail : List ℕ) : Type 0 where

@@ -1,11 +1,11 @@
 //! Finds the circle that keeps the top from being founded.
 
-ghost use Rattle.std.specs.Prelude.{◌≡◌, ◌<◌, ◌≤◌, IsTrue, drop, map, length, slice_index, Contains, IfOk, IfSome};
+ghost use Rattle.std.specs.Prelude.{◌≡◌, ℕ, ◌+◌, ◌*◌, ◌<◌, ◌≤◌, Bool, List, IsTrue, drop, map, length, slice_index, Contains, IfOk, IfSome};
 ghost use Rattle.std.specs.Prelude.{MatchOption};
 ghost use Rattle.std.specs.Result.{result_err};
 ghost use Rattle.bplist_lint.specs.Prelude.{OnlyReads, Judges, Never, refused_read, IsWhole, AreWhole, AreObjects};
 ghost use Rattle.bplist_lint.specs.Prelude.{AreLeast, IsFirstWithout, IsCircleOf, number, object, AllHave};
-ghost use Rattle.bplist_lint.specs.Prelude.{IsFirstIndex};
+ghost use Rattle.bplist_lint.specs.Prelude.{IsFirstIndex, IsMarked, Reaches, trail_bytes};
 
 use crate::graph::{BLOCK, References};
 use bplist_cert::Refusal;
@@ -39,6 +39,9 @@ fn first_without<R: References>(
     requires all_heights { length heights.now ≡ (R.graph graph.old).size }
     ensures same { R.graph graph.new ≡ R.graph graph.old }
     ensures reads { OnlyReads (result_err result) (R.means graph.old) (R.means graph.new) }
+    ensures width { R.width graph.new ≡ R.width graph.old }
+    ensures asks { IsTrue (R.means graph.old).honest → IsWhole (R.graph graph.old) n
+        → R.asked graph.new ≤ R.asked graph.old + (292 + length ((R.graph graph.old).refs n) * (3 + R.width graph.old)) }
     ensures inside { IfOk result (λ m. IfSome m (λ m. m < (R.graph graph.old).size)) }
     ensures first { IsTrue (R.means graph.old).honest → IsWhole (R.graph graph.old) n → IfOk result (λ m. let references = (R.graph graph.old).refs n in
         MatchOption m
@@ -100,6 +103,10 @@ pub fn circle<R: References>(
     requires circular { slice_index heights.now top ≡ 0 }
     ensures same { R.graph graph.new ≡ R.graph graph.old }
     ensures reads { OnlyReads (refused_read result) (R.means graph.old) (R.means graph.new) }
+    ensures asks { IsTrue (R.means graph.old).honest → AreWhole (R.graph graph.old) top → (marks : List Bool)
+        → ((n : ℕ) → Reaches (R.graph graph.old).refs top n → IsMarked marks n)
+        → R.asked graph.new ≤ R.asked graph.old
+        + trail_bytes (R.width graph.old) (R.graph graph.old).refs marks (R.graph graph.old).size }
     ensures circle { IsTrue (R.means graph.old).honest → AreWhole (R.graph graph.old) top
         → Judges (λ circle. IsCircleOf (R.graph graph.old).refs top (map number circle.items)) Never result }
 {

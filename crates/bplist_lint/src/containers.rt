@@ -1,13 +1,13 @@
 //! Checks the keys and finds the heights in one quick pass over the containers. It succeeds if no key is wrong, and if
 //! each container comes before what it refers to, as in the files of all usual writers.
 
-ghost use Rattle.std.specs.Prelude.{◌≡◌, ◌≤◌, ◌<◌, ◌↔◌, ℕ, Bool, List, None, IfOk, IfSome, IsTrue, length, map, slice_index, vec_len};
+ghost use Rattle.std.specs.Prelude.{◌≡◌, ◌+◌, ◌*◌, ◌≤◌, ◌<◌, ◌↔◌, ℕ, Bool, List, None, IfOk, IfSome, IsTrue, length, map, slice_index, vec_len};
 ghost use Rattle.std.specs.Result.{result_err};
 ghost use Rattle.bplist_lint.specs.Prelude.{OnlyReads, frame_in, HonestlyIn, Dict, HasHead, Head as head_record};
 ghost use Rattle.bplist_lint.specs.Prelude.{KeepsAll, KeepsByObject, object_rules, AreClassed, KeysAreSound, IsStamped};
 ghost use Rattle.bplist_lint.specs.Prelude.{IsNew, HasGoodKeys, Reach, IsMarked, KeepReached, reach_rules, AreChildless};
 ghost use Rattle.bplist_lint.specs.Prelude.{AreNamed, AreClasses, Judges, refused_read, Never, key_rules, AreFound};
-ghost use Rattle.bplist_lint.specs.Prelude.{from_bool, AreMeasured, HasHeight, AreFinished};
+ghost use Rattle.bplist_lint.specs.Prelude.{from_bool, AreMeasured, HasHeight, AreFinished, extent, extents_below, is_marked};
 
 use crate::graph::{BLOCK, shape_there};
 use bplist_cert::Refusal;
@@ -43,6 +43,7 @@ fn container_height<P: Offsets>(
     requires within { n < (frame_in (P.means src.old)).objects }
     requires room { 1 ≤ length block.old }
     ensures reads { OnlyReads (result_err result) (P.means src.old) (P.means src.new) }
+    ensures asks { HonestlyIn (P.means src.old) (λ f F. P.asked src.new ≤ P.asked src.old + (36 + extent f F n)) }
     ensures room { length block.new ≡ length block.old }
     ensures same { table.new.classes.table.items ≡ table.old.classes.table.items }
     ensures stamped { IsStamped n table.old.seen.items table.new.seen.items }
@@ -88,6 +89,8 @@ fn measure_containers<P: Offsets>(
     requires childless { length childless.now ≡ (frame_in (P.means src.old)).objects }
     requires heights { length heights.old ≡ (frame_in (P.means src.old)).objects }
     ensures reads { OnlyReads (result_err result) (P.means src.old) (P.means src.new) }
+    ensures asks { HonestlyIn (P.means src.old) (λ f F. P.asked src.new
+        ≤ P.asked src.old + (36 * F.objects + extents_below f F (is_marked marks.now) F.objects)) }
     ensures all { length heights.new ≡ length heights.old }
     ensures same { table.new.classes.table.items ≡ table.old.classes.table.items }
     ensures exact { HonestlyIn (P.means src.old) (λ f F. (named : List Bool) → ((n : ℕ) → IsMarked marks.now n ↔ Reach f F n)
@@ -125,6 +128,8 @@ pub fn quick_heights<P: Offsets>(
     requires marks { length marks.now ≡ (frame_in (P.means src.old)).objects }
     requires childless { length childless.now ≡ (frame_in (P.means src.old)).objects }
     ensures reads { OnlyReads (refused_read result) (P.means src.old) (P.means src.new) }
+    ensures asks { HonestlyIn (P.means src.old) (λ f F. P.asked src.new
+        ≤ P.asked src.old + (36 * F.objects + extents_below f F (is_marked marks.now) F.objects)) }
     ensures all { IfOk result (λ found. IfSome found.0 (λ heights. vec_len heights ≡ (frame_in (P.means src.old)).objects)) }
     ensures same { IfOk result (λ found. found.1.table.items ≡ numbers.table.items) }
     ensures exact { HonestlyIn (P.means src.old) (λ f F. (named : List Bool) → ((n : ℕ) → IsMarked marks.now n ↔ Reach f F n)

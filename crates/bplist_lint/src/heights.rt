@@ -1,10 +1,11 @@
 //! Finds which objects are founded, and their least heights.
 
-ghost use Rattle.std.specs.Prelude.{◌≡◌, ◌≢◌, ℕ, ◌+◌, ◌^◌, ◌<◌, ◌≤◌, Bool, List, [], ◌∷◌, ◌++◌, IsTrue, count_by, length};
-ghost use Rattle.std.specs.Prelude.{map, not, set, take, vec_len, IfOk, MatchOption, OnOk};
+ghost use Rattle.std.specs.Prelude.{◌≡◌, ◌≢◌, ℕ, ◌+◌, ◌-◌, ◌*◌, ◌^◌, ◌<◌, ◌≤◌, Bool, List, [], ◌∷◌, ◌++◌, IsTrue, count_by, length};
+ghost use Rattle.std.specs.Prelude.{map, not, set, slice_index, take, vec_len, IfOk, MatchOption, OnOk};
 ghost use Rattle.bplist_lint.specs.Prelude.{from_bool, OnlyReads, failed_to_read, IsWhole, AreObjects, IsMarked, Finds};
 ghost use Rattle.bplist_lint.specs.Prelude.{Shows, Rests, Settles, Walks, AreClosed, AreLeastOf, state_at};
-ghost use Rattle.bplist_lint.specs.Prelude.{first_state};
+ghost use Rattle.bplist_lint.specs.Prelude.{first_state, AreFew, GoesOn, HasMet, Passes, left_below, resumed, scan_bytes};
+ghost use Rattle.bplist_lint.specs.Prelude.{turn_bytes};
 ghost use Rattle.bplist_lint.specs.declared.heights.State.TheVariants as states;
 
 use crate::graph::{BLOCK, References};
@@ -43,8 +44,8 @@ enum ScanResult {
 #[derive(Drop)]
 struct HeightWalk {
     states: Vec<State>,
-    /// For a founded object its height. For an open object the index of the reference at which its scan resumes. Else
-    /// 0.
+    /// For a founded object its height. For an open object 0 before its first scan, and then the index of the reference
+    /// at which its scan resumes, plus 1. Else 0.
     heights: Vec<u32>,
     /// The open objects. Each is a reference of the one before it.
     stack: Vec<u32>,
@@ -134,6 +135,7 @@ impl HeightWalk {
         requires all { vec_len self.now.heights ≡ vec_len self.now.states }
         ensures finds { Finds (vec_len self.now.states) self.now.states.items self.now.heights.items result }
         ensures shows { Shows objects.now self.now.states.items self.now.heights.items 0 result }
+        ensures passes { Passes objects.now self.now.states.items 0 result }
     {
         let mut best = 0;
         for (k, m) in objects.iter().enumerate() {
@@ -146,10 +148,19 @@ impl HeightWalk {
         ScanResult::Founded(best)
     }
 
-    /// Scans the references of object `n`, from number `from` on. A scan that resumes reads 4, 8, 16, ... references,
-    /// so that an object to which the walk comes back again and again does not have its references read many times.
-    fn look<R: References>(&self, graph: &mut R, n: u32, from: u64) -> Result<ScanResult, Failure>
+    /// Scans the references of object `n`, from number `from` on, in portions: `first` of them, and then ever more. A scan
+    /// that resumes begins with few, so that an object to which the walk comes back again and again does not have its
+    /// references read many times.
+    fn look<R: References>(
+        &self,
+        graph: &mut R,
+        n: u32,
+        from: u64,
+        first: usize,
+    ) -> Result<ScanResult, Failure>
         requires n_in { n < (R.graph graph.old).size }
+        requires some { 4 ≤ first }
+        requires few { first ≤ 32 }
         requires all_states { vec_len self.now.states ≡ (R.graph graph.old).size }
         requires all_heights { vec_len self.now.heights ≡ (R.graph graph.old).size }
         ensures same { R.graph graph.new ≡ R.graph graph.old }
@@ -157,9 +168,18 @@ impl HeightWalk {
         ensures finds { IfOk result (Finds (R.graph graph.old).size self.now.states.items self.now.heights.items) }
         ensures shows { IsTrue (R.means graph.old).honest → IsWhole (R.graph graph.old) n
             → IfOk result (Shows ((R.graph graph.old).refs n) self.now.states.items self.now.heights.items from) }
+        ensures width { R.width graph.new ≡ R.width graph.old }
+        ensures passes { IsTrue (R.means graph.old).honest → IsWhole (R.graph graph.old) n → from ≤ length ((R.graph graph.old).refs n)
+            → IfOk result (Passes ((R.graph graph.old).refs n) self.now.states.items from) }
+        ensures asks { IsTrue (R.means graph.old).honest → IsWhole (R.graph graph.old) n → from ≤ length ((R.graph graph.old).refs n)
+            → IfOk result (λ found. R.asked graph.new
+            ≤ R.asked graph.old + scan_bytes (R.width graph.old) from (length ((R.graph graph.old).refs n)) found) }
+        ensures asks_any { IsTrue (R.means graph.old).honest → IsWhole (R.graph graph.old) n → from ≤ length ((R.graph graph.old).refs n)
+            → R.asked graph.new ≤ R.asked graph.old
+            + (496 + (length ((R.graph graph.old).refs n) - from) * (3 + R.width graph.old)) }
     {
         let mut buffer = [0; BLOCK];
-        let mut portion = if from == 0 { BLOCK } else { FEW };
+        let mut portion = first;
         let mut best = 0;
         let mut done = from;
         let mut more = true;
@@ -189,15 +209,28 @@ impl HeightWalk {
         ensures finds { IfOk result (Finds (R.graph graph.old).size self.now.states.items self.now.heights.items) }
         ensures shows { IsTrue (R.means graph.old).honest → IsWhole (R.graph graph.old) n
             → IfOk result (Shows ((R.graph graph.old).refs n) self.now.states.items self.now.heights.items 0) }
+        ensures width { R.width graph.new ≡ R.width graph.old }
+        ensures goes_on { IsTrue (R.means graph.old).honest → IsWhole (R.graph graph.old) n
+            → HasMet ((R.graph graph.old).refs n) self.now.states.items (slice_index self.now.heights.items n)
+            → IfOk result (GoesOn ((R.graph graph.old).refs n) self.now.states.items (slice_index self.now.heights.items n)) }
+        ensures asks { IsTrue (R.means graph.old).honest → IsWhole (R.graph graph.old) n
+            → HasMet ((R.graph graph.old).refs n) self.now.states.items (slice_index self.now.heights.items n)
+            → IfOk result (λ found. R.asked graph.new ≤ R.asked graph.old + turn_bytes (R.width graph.old)
+            (slice_index self.now.heights.items n) (length ((R.graph graph.old).refs n)) found) }
+        ensures asks_any { IsTrue (R.means graph.old).honest → IsWhole (R.graph graph.old) n
+            → HasMet ((R.graph graph.old).refs n) self.now.states.items (slice_index self.now.heights.items n)
+            → R.asked graph.new ≤ R.asked graph.old + (700
+            + ((length ((R.graph graph.old).refs n) - resumed (slice_index self.now.heights.items n)) * (3 + R.width graph.old)
+            + length ((R.graph graph.old).refs n) * (3 + R.width graph.old))) }
     {
-        let from = self.heights[n as usize] as u64;
-        if from > 0 {
-            match self.look(graph, n, from)? {
+        let slot = self.heights[n as usize] as u64;
+        if slot > 0 {
+            match self.look(graph, n, slot - 1, FEW)? {
                 ScanResult::Founded(_) => {}
                 found => return Ok(found),
             }
         }
-        self.look(graph, n, 0)
+        self.look(graph, n, 0, BLOCK)
     }
 
     /// Settles object `n`, if nothing is known about it, and all that it leads to. Each turn either settles the object
@@ -213,6 +246,19 @@ impl HeightWalk {
         ensures walks { OnOk result (IsTrue (R.means graph.old).honest → (marks : List Bool)
             → AreClosed (R.graph graph.old) marks → IsMarked marks n
             → Walks (R.graph graph.old).refs marks self.old → Walks (R.graph graph.old).refs marks self.new) }
+        ensures width { R.width graph.new ≡ R.width graph.old }
+        ensures asks { IsTrue (R.means graph.old).honest → (marks : List Bool)
+            → AreClosed (R.graph graph.old) marks → IsMarked marks n → Walks (R.graph graph.old).refs marks self.old
+            → AreFew (R.graph graph.old).refs marks
+            → R.asked graph.new ≤ R.asked graph.old + (292 + left_below (R.width graph.old) (R.graph graph.old).refs marks
+            self.old.states.items self.old.heights.items (R.graph graph.old).size) }
+        ensures asks_left { OnOk result (IsTrue (R.means graph.old).honest → (marks : List Bool)
+            → AreClosed (R.graph graph.old) marks → IsMarked marks n → Walks (R.graph graph.old).refs marks self.old
+            → AreFew (R.graph graph.old).refs marks
+            → R.asked graph.new + left_below (R.width graph.old) (R.graph graph.old).refs marks
+            self.new.states.items self.new.heights.items (R.graph graph.old).size
+            ≤ R.asked graph.old + left_below (R.width graph.old) (R.graph graph.old).refs marks
+            self.old.states.items self.old.heights.items (R.graph graph.old).size) }
     {
         match self.states[n as usize] {
             State::New => {}
@@ -222,9 +268,9 @@ impl HeightWalk {
         while let Some(m) = self.stack.pop() {
             match self.look_on(graph, m)? {
                 ScanResult::New(i, next) => {
-                    // While an object waits for a child, its height slot holds the index at which its scan resumes:
-                    // this one or a lower one.
-                    self.heights[m as usize] = i.min(u32::MAX as u64) as u32;
+                    // While an object waits for a child, its height slot holds the index at which its scan resumes, plus
+                    // 1: this one or a lower one.
+                    self.heights[m as usize] = i.min(u32::MAX as u64 - 1) as u32 + 1;
                     self.stack.push(m)?;
                     self.open(next)?;
                 }
@@ -256,6 +302,12 @@ pub fn least_heights<R: References>(
     ensures exact { IsTrue (R.means graph.old).honest → AreClosed (R.graph graph.old) marks.now
         → ((n : ℕ) → IsMarked childless.now n → IsMarked marks.now n × ((R.graph graph.old).refs n ≡ []))
         → IfOk result (λ heights. AreLeastOf (R.graph graph.old).refs marks.now heights.items) }
+    ensures width { R.width graph.new ≡ R.width graph.old }
+    ensures asks { IsTrue (R.means graph.old).honest → AreClosed (R.graph graph.old) marks.now
+        → ((n : ℕ) → IsMarked childless.now n → IsMarked marks.now n × ((R.graph graph.old).refs n ≡ []))
+        → AreFew (R.graph graph.old).refs marks.now
+        → R.asked graph.new ≤ R.asked graph.old + (292 + left_below (R.width graph.old) (R.graph graph.old).refs marks.now
+        (map first_state childless.now) (map from_bool childless.now) (R.graph graph.old).size) }
 {
     let mut walk = HeightWalk::new(alloc, childless)?;
     let mut before = marks.len() as u32;

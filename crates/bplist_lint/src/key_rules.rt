@@ -5,11 +5,15 @@
 //! class, and a key without a class is not a text. A key list has the positions of a dictionary's keys, sorted by the
 //! ranks of their texts. Ranks are classes in the order of the texts.
 
-ghost use Rattle.std.specs.Prelude.{◌≡◌, ◌+◌, ◌^◌, ◌<◌, ◌++◌, [], ℕ, ⊤, Bool, List, None, IfOk, OnOk, length, slice_index, ◌↔◌};
+ghost use Rattle.std.specs.Prelude.{◌≡◌, ◌+◌, ◌*◌, ◌^◌, ◌≤◌, ◌<◌, ◌↔◌, ◌++◌, [], ℕ, ⊤, Bool, List, None, IfOk, OnOk};
+ghost use Rattle.std.specs.Prelude.{count_by, length, slice_index};
 ghost use Rattle.bplist_lint.specs.Prelude.{OnlyReads, frame_in, HonestlyIn, IsSafeHead, Dict, ref, failed_to_read};
 ghost use Rattle.bplist_lint.specs.Prelude.{ranks_in, positions_in, AreRanked, AreAbove, HaveRanks, IsListed};
 ghost use Rattle.bplist_lint.specs.Prelude.{Reach, KeepsAll, KeepsByObject, object_rules, HasHead};
 ghost use Rattle.bplist_lint.specs.Prelude.{KeysAreSound, HasGoodKeys, BreaksKeys, Judges, Never, refused_read, IsMarked};
+ghost use Rattle.bplist_objects.specs.Extents.{HaveRoom};
+ghost use Rattle.bplist_keys.specs.Texts.{IsMarkedText};
+ghost use Rattle.bplist_lint.specs.Prelude.{extent, extents_below, is_marked};
 ghost use Rattle.bplist_lint.specs.Prelude.{AreChildless, KeepReached, AreNamed, key_rules, AreClassed, IsStamped};
 ghost use Rattle.bplist_lint.specs.Prelude.{IsNew, Head as head_record, IsReachedFault, reach_rules, AreClasses, AreRanks};
 
@@ -140,6 +144,7 @@ fn push_positions(keys: &[RankedKey], fault: Fault, positions: &mut Vec<u32>) ->
 fn check_dict_keys<P: Offsets>(src: &mut P, n: u32, table: &mut ClassTable) -> Result<(), Refusal>
     requires { n < (frame_in (P.means src.old)).objects }
     ensures reads { OnlyReads (refused_read result) (P.means src.old) (P.means src.new) }
+    ensures asks { HonestlyIn (P.means src.old) (λ f F. P.asked src.new ≤ P.asked src.old + (36 + extent f F n)) }
     ensures same { table.new.classes.table.items ≡ table.old.classes.table.items }
     ensures stamped { IsStamped n table.old.seen.items table.new.seen.items }
     ensures exact { HonestlyIn (P.means src.old) (λ f F. KeepsAll (KeepsByObject f F n) object_rules
@@ -172,6 +177,8 @@ pub fn check_numbers<P: Offsets>(
     requires marks { length marks.now ≡ (frame_in (P.means src.old)).objects }
     requires childless { length childless.now ≡ (frame_in (P.means src.old)).objects }
     ensures reads { OnlyReads (refused_read result) (P.means src.old) (P.means src.new) }
+    ensures asks { HonestlyIn (P.means src.old) (λ f F. P.asked src.new
+        ≤ P.asked src.old + (36 * F.objects + extents_below f F (is_marked marks.now) F.objects)) }
     ensures same { IfOk result (λ handed. handed.table.items ≡ numbers.table.items) }
     ensures exact { HonestlyIn (P.means src.old) (λ f F. (named : List Bool) → ((n : ℕ) → IsMarked marks.now n ↔ Reach f F n)
         → KeepReached f F reach_rules F.objects → AreChildless f F childless.now
@@ -197,6 +204,8 @@ pub fn known_classes<P: Offsets>(
 ) -> Result<KeyNumbers, Refusal>
     requires { length named.marks.items ≡ (frame_in (P.means src.old)).objects }
     ensures reads { OnlyReads (refused_read result) (P.means src.old) (P.means src.new) }
+    ensures asks { HonestlyIn (P.means src.old) (λ f F. HaveRoom f F (IsMarkedText f F named.marks.items)
+        → P.asked src.new ≤ P.asked src.old + (2 * length f + 364 * count_by (λ marked. marked) named.marks.items)) }
     ensures exact { HonestlyIn (P.means src.old) (λ f F.
         Judges (λ classes. AreClasses f F named.marks.items classes.table.items) Never result) }
 {
@@ -218,6 +227,8 @@ pub fn known_ranks<P: Offsets>(
 ) -> Result<KeyNumbers, Refusal>
     requires { length named.marks.items ≡ (frame_in (P.means src.old)).objects }
     ensures reads { OnlyReads (refused_read result) (P.means src.old) (P.means src.new) }
+    ensures asks { HonestlyIn (P.means src.old) (λ f F. HaveRoom f F (IsMarkedText f F named.marks.items)
+        → P.asked src.new ≤ P.asked src.old + (2 * length f + 72 * count_by (λ marked. marked) named.marks.items)) }
     ensures exact { HonestlyIn (P.means src.old) (λ f F.
         Judges (λ ranks. AreRanks f F named.marks.items ranks.table.items) Never result) }
 {

@@ -1,14 +1,15 @@
 //! The linter: the passes over a file, in their order. With classes the keys are only compared. With ranks, which are
 //! classes too, the certificate also gets key lists.
 
-ghost use Rattle.std.specs.Prelude.{◌≡◌, ◌↔◌, ℕ, ◌<◌, IsTrue, None, IfOk, IfSome, MatchOption, length, vec_len, ⊤};
+ghost use Rattle.std.specs.Prelude.{◌≡◌, ◌↔◌, ℕ, ◌+◌, ◌*◌, ◌≤◌, ◌<◌, IsTrue, None, IfOk, IfSome, MatchOption, length, vec_len, ⊤};
 ghost use Rattle.bplist_lint.specs.Prelude.{OnlyReads, frame_in, Honestly, HonestlyIn, IsFrame, IsSafeFrame, Reach};
 ghost use Rattle.bplist_lint.specs.Prelude.{AreOffsets32, Judges, refused_read, refs_at, Value, FileHolds, Never};
 ghost use Rattle.bplist_lint.specs.Prelude.{IsMarked, AreLeast, AreChildless, IsReachedFault, lists};
 ghost use Rattle.bplist_lint.specs.Prelude.{KeepReached, key_rules, HasRoomFor, IsWalked, AreNamed, IsFileFault};
 ghost use Rattle.bplist_lint.specs.Prelude.{IsFileCircle, Lints, lint_failed, no_circle, KeepsRules, IsLintedBy};
 ghost use Rattle.bplist_lint.specs.Prelude.{IsLinted, IsLintedWith, HasNoHeights, reach_rules, IsSound, lint_of};
-ghost use Rattle.bplist_lint.specs.Prelude.{AreFound, IsNumbered, keys_for};
+ghost use Rattle.bplist_lint.specs.Prelude.{AreFound, IsNumbered, NamesMarked, keys_for};
+ghost use Rattle.bplist_lint.specs.Prelude.{extents_below, is_marked, objects_said};
 ghost use Rattle.bplist_lint.specs.declared.linter.Keys.TheVariants.{Classes, Ranks};
 
 use crate::answer::{Lint, LintRefusal, ObjectNos};
@@ -59,6 +60,10 @@ fn find_heights<P: Offsets>(
     requires all_childless { length childless.now ≡ (frame_in (P.means src.old)).objects }
     requires childless { HonestlyIn (P.means src.old) (λ f F. AreChildless f F childless.now) }
     ensures reads { OnlyReads (refused_read result) (P.means src.old) (P.means src.new) }
+    ensures asks { HonestlyIn (P.means src.old) (λ f F. KeepReached f F reach_rules F.objects
+        → ((n : ℕ) → IsMarked marks.now n ↔ Reach f F n)
+        → P.asked src.new ≤ P.asked src.old
+        + (292 + 868 * F.objects + 8 * extents_below f F (is_marked marks.now) F.objects)) }
     ensures all { IfOk result (λ heights. vec_len heights ≡ (frame_in (P.means src.old)).objects) }
     ensures exact { HonestlyIn (P.means src.old) (λ f F. KeepReached f F reach_rules F.objects → KeepReached f F (key_rules None) F.objects
         → ((n : ℕ) → IsMarked marks.now n ↔ Reach f F n)
@@ -73,9 +78,12 @@ fn find_heights<P: Offsets>(
 /// or else the first fault by these rules.
 ///
 /// If the quick walk meets a fault, slower passes in the order of the objects' numbers find which fault is the first.
-/// Over an honest source they always find one. If they do not, all objects count as named.
+/// Over an honest source they always find one. If they do not, all reached objects count as named.
 fn find_reached<P: Offsets>(alloc: Global, src: &mut P) -> Result<(Reached, NamedKeys), Refusal>
     ensures reads { OnlyReads (refused_read result) (P.means src.old) (P.means src.new) }
+    ensures asks { P.asked src.new ≤ P.asked src.old
+        + (19 * (frame_in (P.means src.old)).table + 160 * (frame_in (P.means src.old)).objects + 164) }
+    ensures only { IfOk result (λ known. NamesMarked known.0.marks.items known.1.marks.items) }
     ensures fits { IfOk result (λ known. HasRoomFor (frame_in (P.means src.old)) known.0) }
     ensures all_named { IfOk result (λ known. length known.1.marks.items ≡ (frame_in (P.means src.old)).objects) }
     ensures exact { HonestlyIn (P.means src.old) (λ f F. Judges
@@ -110,6 +118,8 @@ fn heights_or_circle<P: Offsets>(
     requires fits { HasRoomFor (frame_in (P.means src.old)) reached }
     requires sifted { HonestlyIn (P.means src.old) (λ f F. KeepsRules f F reached) }
     ensures reads { OnlyReads (lint_failed result) (P.means src.old) (P.means src.new) }
+    ensures asks { HonestlyIn (P.means src.old) (λ f F. P.asked src.new ≤ P.asked src.old
+        + (292 + 1160 * F.objects + 12 * extents_below f F (is_marked reached.marks.items) F.objects)) }
     ensures count { IfOk result (λ heights. length heights.items ≡ (frame_in (P.means src.old)).objects) }
     ensures exact { HonestlyIn (P.means src.old) (λ f F.
         Lints (λ heights. IsLintedBy f F (lint_of F (lists heights.items None) reached.tally)) Never (IsFileCircle f) result) }
@@ -141,6 +151,8 @@ fn check_keys<P: Offsets>(
     requires fits { HasRoomFor (frame_in (P.means src.old)) reached.now }
     requires known { HonestlyIn (P.means src.old) (λ f F. IsNumbered f F reached.now numbers.table.items) }
     ensures reads { OnlyReads (refused_read result) (P.means src.old) (P.means src.new) }
+    ensures asks { HonestlyIn (P.means src.old) (λ f F. P.asked src.new ≤ P.asked src.old
+        + (72 * F.objects + 2 * extents_below f F (is_marked reached.now.marks.items) F.objects)) }
     ensures count { IfOk result (λ found. IfSome found.0 (λ heights. vec_len heights ≡ (frame_in (P.means src.old)).objects)) }
     ensures same { IfOk result (λ found. found.1.table.items ≡ numbers.table.items) }
     ensures exact { HonestlyIn (P.means src.old) (λ f F. Judges
@@ -173,6 +185,8 @@ fn finish<P: Offsets>(
     requires all { IfSome heights (λ known. vec_len known ≡ (frame_in (P.means src.old)).objects) }
     requires sifted { HonestlyIn (P.means src.old) (λ f F. KeepsRules f F reached × IfSome heights (λ known. AreFound f F known.items)) }
     ensures reads { OnlyReads (lint_failed result) (P.means src.old) (P.means src.new) }
+    ensures asks { HonestlyIn (P.means src.old) (λ f F. P.asked src.new ≤ P.asked src.old
+        + (292 + 1160 * F.objects + 12 * extents_below f F (is_marked reached.marks.items) F.objects)) }
     ensures count { IfOk result (λ known. length known.items ≡ (frame_in (P.means src.old)).objects) }
     ensures exact { HonestlyIn (P.means src.old) (λ f F.
         Lints (λ known. IsLintedBy f F (lint_of F (lists known.items None) reached.tally)) (IsFileFault f) (IsFileCircle f) result) }
@@ -198,6 +212,8 @@ fn certify_by_classes<P: Offsets>(
     requires all_named { length named.marks.items ≡ (frame_in (P.means src.old)).objects }
     requires walked { HonestlyIn (P.means src.old) (λ f F. IsWalked f F reached × AreNamed f F named.marks.items) }
     ensures reads { OnlyReads (lint_failed result) (P.means src.old) (P.means src.new) }
+    ensures asks { HonestlyIn (P.means src.old) (λ f F. NamesMarked reached.marks.items named.marks.items
+        → P.asked src.new ≤ P.asked src.old + (2 * length f + 14 * F.table + 1596 * F.objects + 292)) }
     ensures count { IfOk result (λ made. length made.heights ≡ (frame_in (P.means src.old)).objects) }
     ensures exact { HonestlyIn (P.means src.old) (λ f F.
         Lints (λ made. IsLintedWith Classes f F made reached.tally) (IsFileFault f) (IsFileCircle f) result) }
@@ -247,6 +263,8 @@ fn lint_opened<P: Offsets>(
     keys: Keys,
 ) -> Result<(Certificate, Tally), LintRefusal>
     ensures reads { OnlyReads (lint_failed result) (P.means src.old) (P.means src.new) }
+    ensures asks { keys ≡ Classes → HonestlyIn (P.means src.old) (λ f F. P.asked src.new
+        ≤ P.asked src.old + (2 * length f + 33 * F.table + 1756 * F.objects + 456)) }
     ensures count { IfOk result (λ known. length known.0.heights ≡ (frame_in (P.means src.old)).objects) }
     ensures exact { HonestlyIn (P.means src.old) (λ f F.
         Lints (λ known. IsLintedWith keys f F known.0 known.1) (IsFileFault f) (IsFileCircle f) result) }
@@ -264,6 +282,8 @@ fn lint_opened<P: Offsets>(
 /// Returns the frame of a file and the places of its objects, or the first broken rule of 1 to 13.
 fn read_places<S: Source>(alloc: Global, src: &mut S) -> Result<(Frame, Vec<u32>), Refusal>
     ensures reads { OnlyReads (refused_read result) (S.means src.old) (S.means src.new) }
+    ensures asks { S.asked src.new ≤ S.asked src.old + (40 + length (S.means src.old).octets) }
+    ensures asks_table { IfOk result (λ known. S.asked src.new ≤ S.asked src.old + (40 + known.0.objects * known.0.offset_size)) }
     ensures safe { IfOk result (λ known. IsSafeFrame (length (S.means src.old).octets) known.0) }
     ensures all { IfOk result (λ known. length known.1.items ≡ known.0.objects) }
     ensures exact { Honestly (S.means src.old) (λ f. Judges
@@ -283,6 +303,8 @@ pub fn lint_file<S: Source>(
     keys: Keys,
 ) -> Result<(Certificate, Tally, Frame), LintRefusal>
     ensures reads { OnlyReads (lint_failed result) (S.means src.old) (S.means src.new) }
+    ensures asks { keys ≡ Classes → Honestly (S.means src.old) (λ f. S.asked src.new
+        ≤ S.asked src.old + (40 + 35 * length f + 2212 * objects_said f)) }
     ensures safe { IfOk result (λ known. IsSafeFrame (length (S.means src.old).octets) known.2) }
     ensures count { IfOk result (λ known. length known.0.heights ≡ known.2.objects) }
     ensures exact { Honestly (S.means src.old) (λ f.
@@ -320,6 +342,8 @@ fn yes(frame: &Frame, tally: &Tally, certificate: Certificate) -> Lint
 /// The reads alternate between a few places. To read a file, put `Pages` around it.
 pub fn lint<S: Source>(alloc: Global, src: &mut S) -> Result<Lint, LintRefusal>
     ensures reads { OnlyReads (lint_failed result) (S.means src.old) (S.means src.new) }
+    ensures asks { Honestly (S.means src.old) (λ f. S.asked src.new
+        ≤ S.asked src.old + (40 + 35 * length f + 2212 * objects_said f)) }
     ensures exact { IsTrue (S.means src.old).honest
         → Lints (IsLinted (S.means src.old).octets) (IsFileFault (S.means src.old).octets)
         (IsFileCircle (S.means src.old).octets) result }

@@ -1,12 +1,12 @@
 //! Finds the objects that the top reaches. The linter needs this only if the quick walk meets a fault. Arrays may
 //! overlap in such a file, so the reference at each place is followed once, however many arrays it is part of.
 
-ghost use Rattle.std.specs.Prelude.{◌≡◌, ◌↔◌, ℕ, ◌+◌, ◌≤◌, ◌<◌, true, false, not, IsTrue, IfOk, OnOk};
+ghost use Rattle.std.specs.Prelude.{◌≡◌, ◌↔◌, ℕ, ◌+◌, ◌*◌, ◌≤◌, ◌<◌, true, false, not, IsTrue, IfOk, OnOk};
 ghost use Rattle.std.specs.Prelude.{replicate, count_by, vec_len};
 ghost use Rattle.std.specs.Result.{result_err};
 ghost use Rattle.bplist_lint.specs.Prelude.{OnlyReads, frame_in, HonestlyIn, content_at, refs, Reach, IsSafeHead};
 ghost use Rattle.bplist_lint.specs.Prelude.{ref_count, AreBelow, failed_to_read, IsMarked, HasMarks, place_index};
-ghost use Rattle.bplist_lint.specs.Prelude.{index_count, IsReady, AreGood, AreFollowed, Looked, Searching};
+ghost use Rattle.bplist_lint.specs.Prelude.{count_in, index_count, IsReady, AreGood, AreFollowed, Looked, Searching};
 
 use crate::bit_set::BitSet;
 use crate::graph::{object_in, shape_there};
@@ -22,7 +22,7 @@ pub struct Marked {
     pub marks: Vec<bool>,
     /// Marks on objects known to have no references. This search knows none.
     pub childless: Vec<bool>,
-    /// All objects, because any of them may be named as a key.
+    /// The same marks, because any reached object may be named as a key.
     pub named: NamedKeys,
 }
 
@@ -42,6 +42,7 @@ impl ReachSearch {
     /// Starts the search with the top.
     fn from_top<P: Framed>(alloc: Global, src: &P) -> Result<ReachSearch, AllocError>
         ensures ready { IfOk result (IsReady (frame_in (P.means src.now))) }
+        ensures work { IfOk result (λ search. count_by not search.marks.items + vec_len search.stack ≤ (frame_in (P.means src.now)).objects) }
         ensures searching { HonestlyIn (P.means src.now) (λ f F. IfOk result (λ search. Searching f F search.stack.items search)) }
     {
         let frame = src.frame();
@@ -79,6 +80,8 @@ fn are_good<P: Framed>(src: &mut P, head: &Head, good: &mut BitSet) -> Result<bo
     requires head { IsSafeHead (frame_in (P.means src.old)) head.now }
     requires size { good.old.size ≡ index_count (frame_in (P.means src.old)) }
     ensures reads { OnlyReads (result_err result) (P.means src.old) (P.means src.new) }
+    ensures asks { P.asked src.new + 8 * count_in good.old.words.items good.old.size
+        ≤ P.asked src.old + (8 + 8 * count_in good.new.words.items good.old.size) }
     ensures size { good.new.size ≡ good.old.size }
     ensures good { HonestlyIn (P.means src.old) (λ f F. AreGood f F good.old.words.items → AreGood f F good.new.words.items) }
     ensures exact { HonestlyIn (P.means src.old) (λ f F. AreGood f F good.old.words.items
@@ -106,6 +109,8 @@ fn follow<P: Framed>(src: &mut P, head: &Head, search: &mut ReachSearch) -> Resu
     requires head { IsSafeHead (frame_in (P.means src.old)) head.now }
     requires ready { IsReady (frame_in (P.means src.old)) search.old }
     ensures reads { OnlyReads (failed_to_read result) (P.means src.old) (P.means src.new) }
+    ensures asks { P.asked src.new + 8 * count_in search.old.followed.words.items search.old.followed.size
+        ≤ P.asked src.old + (8 + 8 * count_in search.new.followed.words.items search.old.followed.size) }
     ensures ready { OnOk result (IsReady (frame_in (P.means src.old)) search.new) }
     ensures good { search.new.good ≡ search.old.good }
     ensures work { OnOk result (count_by not search.new.marks.items + vec_len search.new.stack
@@ -138,11 +143,13 @@ fn follow<P: Framed>(src: &mut P, head: &Head, search: &mut ReachSearch) -> Resu
 /// Marks exactly the objects that the top reaches.
 pub fn mark_reached<P: Offsets>(alloc: Global, src: &mut P) -> Result<Marked, Failure>
     ensures reads { OnlyReads (failed_to_read result) (P.means src.old) (P.means src.new) }
+    ensures asks { P.asked src.new ≤ P.asked src.old
+        + (16 * (frame_in (P.means src.old)).table + 52 * (frame_in (P.means src.old)).objects + 128) }
     ensures all { IfOk result (λ marked. vec_len marked.marks ≡ (frame_in (P.means src.old)).objects) }
     ensures exact { HonestlyIn (P.means src.old) (λ f F. IfOk result (λ marked.
         (n : ℕ) → IsMarked marked.marks.items n ↔ Reach f F n)) }
     ensures childless { IfOk result (λ marked. marked.childless.items ≡ replicate (frame_in (P.means src.old)).objects false) }
-    ensures named { IfOk result (λ marked. marked.named.marks.items ≡ replicate (frame_in (P.means src.old)).objects true) }
+    ensures named { IfOk result (λ marked. marked.named.marks.items ≡ marked.marks.items) }
 {
     let objects = src.frame().objects as usize;
     let mut search = ReachSearch::from_top(alloc, src)?;
@@ -156,11 +163,10 @@ pub fn mark_reached<P: Offsets>(alloc: Global, src: &mut P) -> Result<Marked, Fa
         }
     }
     let ReachSearch { marks, .. } = search;
+    let named = marks.to_vec(alloc)?;
     Ok(Marked {
         marks,
         childless: vec![in alloc; false; objects]?,
-        named: NamedKeys {
-            marks: vec![in alloc; true; objects]?,
-        },
+        named: NamedKeys { marks: named },
     })
 }

@@ -1,7 +1,7 @@
 //! Checks the reached objects in the order of their numbers, by rules 14 to 20 and 31. The tally sums up the objects,
 //! their bytes and their references, and finds the fault of rule 31 if there is no room for an object.
 
-ghost use Rattle.std.specs.Prelude.{◌≡◌, ◌↔◌, ℕ, ◌+◌, ◌-◌, ◌≤◌, ◌<◌, length, Bool, List, Some, MatchResult, IfOk};
+ghost use Rattle.std.specs.Prelude.{◌≡◌, ◌↔◌, ℕ, ◌+◌, ◌-◌, ◌*◌, ◌≤◌, ◌<◌, length, Bool, List, Some, MatchResult, IfOk};
 ghost use Rattle.bplist_lint.specs.Prelude.{OnlyReads, frame_in, HonestlyIn, Gives, read_failed, Reach, IsMarked};
 ghost use Rattle.bplist_lint.specs.Prelude.{Overfull, IsRoomy, Tallied, IsReachedFault, reach_rules};
 
@@ -68,6 +68,8 @@ fn check_reached_object<P: Offsets>(src: &mut P, n: u32, tally: Tally) -> Result
     requires within { n < (frame_in (P.means src.old)).objects }
     requires roomy { IsRoomy (frame_in (P.means src.old)) tally }
     ensures reads { OnlyReads (read_failed result) (P.means src.old) (P.means src.new) }
+    ensures asks { P.asked src.new ≤ P.asked src.old + 36 + (frame_in (P.means src.old)).table }
+    ensures asks_object { IfOk result (λ now. P.asked src.new + tally.used.octets ≤ P.asked src.old + 36 + now.used.octets) }
     ensures roomy { IfOk result (IsRoomy (frame_in (P.means src.old))) }
     ensures exact { HonestlyIn (P.means src.old) (λ f F. (marks : List Bool) → IsMarked marks n → Reach f F n
         → Tallied f F marks n tally → Gives (Tallied f F marks (n + 1)) (IsReachedFault f F reach_rules) result) }
@@ -82,6 +84,8 @@ fn check_reached_object<P: Offsets>(src: &mut P, n: u32, tally: Tally) -> Result
 pub fn check_reached<P: Offsets>(src: &mut P, marks: &[bool]) -> Result<Tally, ObjectFault>
     requires { length marks.now ≡ (frame_in (P.means src.old)).objects }
     ensures reads { OnlyReads (read_failed result) (P.means src.old) (P.means src.new) }
+    ensures asks { P.asked src.new ≤ P.asked src.old
+        + (2 * (frame_in (P.means src.old)).table + 36 * (frame_in (P.means src.old)).objects) }
     ensures roomy { IfOk result (IsRoomy (frame_in (P.means src.old))) }
     ensures exact { HonestlyIn (P.means src.old) (λ f F. ((n : ℕ) → IsMarked marks.now n ↔ Reach f F n)
         → Gives (Tallied f F marks.now F.objects) (IsReachedFault f F reach_rules) result) }

@@ -1,11 +1,11 @@
 //! Checks all reached objects in one quick walk, which succeeds if none of them breaks a rule and all have room.
 
-ghost use Rattle.std.specs.Prelude.{◌≡◌, ◌↔◌, ℕ, ◌+◌, ◌-◌, ◌≤◌, ◌<◌, [], ◌∷◌, ◌++◌, IsTrue, None, IfOk, IfSome};
-ghost use Rattle.std.specs.Prelude.{OnOk, length, min, slice_index, vec_len};
+ghost use Rattle.std.specs.Prelude.{◌≡◌, ◌↔◌, ℕ, ◌+◌, ◌*◌, ◌-◌, ◌≤◌, ◌<◌, [], ◌∷◌, ◌++◌, IsTrue, None, IfOk, IfSome};
+ghost use Rattle.std.specs.Prelude.{OnOk, count_by, not, length, min, slice_index, vec_len};
 ghost use Rattle.bplist_lint.specs.Prelude.{OnlyReads, ObjectFault as object_fault, frame_in, HonestlyIn, content_at};
 ghost use Rattle.bplist_lint.specs.Prelude.{refs, IsSafeHead, ref_count, AreBelow, ref, Dict, failed_to_read, IsMarked};
 ghost use Rattle.bplist_lint.specs.Prelude.{IsRoomy, IsSteady, IsSteadyWalk, Worked, NotedIn, KeepsNames, IsWalking, HasRoomFor, IsWalked};
-ghost use Rattle.bplist_lint.specs.Prelude.{AreNamed, of_object, stop_failed, Read as is_read};
+ghost use Rattle.bplist_lint.specs.Prelude.{AreNamed, NamesMarked, of_object, stop_failed, Read as is_read};
 ghost use Rattle.bplist_lint.specs.declared.walk.Stop.TheVariants.{Memory as is_memory};
 
 use crate::tally::Tally;
@@ -133,9 +133,12 @@ fn mark_body<P: Framed>(
     requires steady { IsSteady (frame_in (P.means src.old)).objects worklist.old }
     requires all_named { length named.old.marks.items ≡ (frame_in (P.means src.old)).objects }
     ensures reads { OnlyReads (stop_failed result) (P.means src.old) (P.means src.new) }
+    ensures asks { P.asked src.new + head.now.body ≤ P.asked src.old + head.now.«end» }
     ensures steady { OnOk result (IsSteady (frame_in (P.means src.old)).objects worklist.new) }
     ensures worked { OnOk result (Worked worklist.old worklist.new) }
     ensures names { KeepsNames (frame_in (P.means src.old)).objects named.old named.new }
+    ensures only { OnOk result (NamesMarked worklist.old.marks.items named.old.marks.items
+        → NamesMarked worklist.new.marks.items named.new.marks.items) }
     ensures exact { OnOk result (HonestlyIn (P.means src.old) (λ f F.
         AreBelow f head.now.body F.ref_size (ref_count head.now.kind head.now.count) F.objects
         × NotedIn (refs (content_at f F head.now)) (ref_count head.now.kind head.now.count) worklist.old worklist.new
@@ -157,8 +160,15 @@ fn visit<P: Offsets>(src: &mut P, n: u32, progress: &mut Progress) -> Result<(),
     requires within { n < (frame_in (P.means src.old)).objects }
     requires steady { IsSteadyWalk (frame_in (P.means src.old)) progress.old }
     ensures reads { OnlyReads (stop_failed result) (P.means src.old) (P.means src.new) }
+    ensures asks { OnOk result (P.asked src.new + progress.old.tally.used.octets ≤ P.asked src.old + progress.new.tally.used.octets + 36) }
+    ensures asks_most { P.asked src.new + progress.old.tally.used.octets ≤ P.asked src.old + (frame_in (P.means src.old)).table + 36 }
+    ensures one { OnOk result (progress.new.tally.reached ≡ progress.old.tally.reached + 1) }
+    ensures few { progress.new.tally.reached ≤ progress.old.tally.reached + 1 }
+    ensures grows { progress.old.tally.reached ≤ progress.new.tally.reached }
     ensures steady { OnOk result (IsSteadyWalk (frame_in (P.means src.old)) progress.new) }
     ensures worked { OnOk result (Worked progress.old.worklist progress.new.worklist) }
+    ensures only { OnOk result (NamesMarked progress.old.worklist.marks.items progress.old.named.marks.items
+        → NamesMarked progress.new.worklist.marks.items progress.new.named.marks.items) }
     ensures walking { OnOk result (HonestlyIn (P.means src.old) (λ f F.
         IsWalking f F (progress.old.worklist.current + 1) (progress.old.worklist.stack.items ++ n ∷ []) progress.old
         → IsWalking f F (progress.old.worklist.current + 1) progress.new.worklist.stack.items progress.new)) }
@@ -202,8 +212,17 @@ fn visit_from<P: Offsets>(src: &mut P, n: u32, progress: &mut Progress) -> Resul
     requires steady { IsSteadyWalk (frame_in (P.means src.old)) progress.old }
     requires empty { vec_len progress.old.worklist.stack ≡ 0 }
     ensures reads { OnlyReads (stop_failed result) (P.means src.old) (P.means src.new) }
+    ensures asks { OnOk result (P.asked src.new + progress.old.tally.used.octets + 36 * progress.old.tally.reached
+        ≤ P.asked src.old + progress.new.tally.used.octets + 36 * progress.new.tally.reached) }
+    ensures asks_most { P.asked src.new + progress.old.tally.used.octets + 36 * progress.old.tally.reached
+        ≤ P.asked src.old + (frame_in (P.means src.old)).table + 36 * (progress.new.tally.reached + 1) }
+    ensures once { OnOk result (progress.new.tally.reached + (count_by not progress.new.worklist.marks.items + vec_len progress.new.worklist.stack)
+        ≤ progress.old.tally.reached + 1 + (count_by not progress.old.worklist.marks.items + vec_len progress.old.worklist.stack)) }
+    ensures few { progress.new.tally.reached ≤ progress.old.tally.reached + 1 + (count_by not progress.old.worklist.marks.items + vec_len progress.old.worklist.stack) }
     ensures steady { OnOk result (IsSteadyWalk (frame_in (P.means src.old)) progress.new) }
     ensures empty { OnOk result (vec_len progress.new.worklist.stack ≡ 0) }
+    ensures only { OnOk result (NamesMarked progress.old.worklist.marks.items progress.old.named.marks.items
+        → NamesMarked progress.new.worklist.marks.items progress.new.named.marks.items) }
     ensures walking { OnOk result (HonestlyIn (P.means src.old) (λ f F. IsMarked progress.old.worklist.marks.items n
         → IsWalking f F n [] progress.old → IsWalking f F (n + 1) [] progress.new)) }
 {
@@ -218,7 +237,9 @@ fn visit_from<P: Offsets>(src: &mut P, n: u32, progress: &mut Progress) -> Resul
 /// Visits all reached objects: marks the top, then visits the marked objects in the order of their numbers.
 fn visit_all<P: Offsets>(alloc: Global, src: &mut P) -> Result<Progress, Stop>
     ensures reads { OnlyReads (stop_failed result) (P.means src.old) (P.means src.new) }
+    ensures asks { P.asked src.new ≤ P.asked src.old + (frame_in (P.means src.old)).table + 36 * (2 * (frame_in (P.means src.old)).objects + 1) }
     ensures steady { IfOk result (IsSteadyWalk (frame_in (P.means src.old))) }
+    ensures only { IfOk result (λ progress. NamesMarked progress.worklist.marks.items progress.named.marks.items) }
     ensures walking { HonestlyIn (P.means src.old) (λ f F. IfOk result (IsWalking f F F.objects [])) }
 {
     let frame = src.frame();
@@ -249,8 +270,10 @@ fn visit_all<P: Offsets>(alloc: Global, src: &mut P) -> Result<Progress, Stop>
 /// others.
 pub fn walk<P: Offsets>(alloc: Global, src: &mut P) -> Result<Option<(Reached, NamedKeys)>, Failure>
     ensures reads { OnlyReads (failed_to_read result) (P.means src.old) (P.means src.new) }
+    ensures asks { P.asked src.new ≤ P.asked src.old + (frame_in (P.means src.old)).table + 36 * (2 * (frame_in (P.means src.old)).objects + 1) }
     ensures fits { IfOk result (λ found. IfSome found (λ known. HasRoomFor (frame_in (P.means src.old)) known.0)) }
     ensures all_named { IfOk result (λ found. IfSome found (λ known. length known.1.marks.items ≡ (frame_in (P.means src.old)).objects)) }
+    ensures only { IfOk result (λ found. IfSome found (λ known. NamesMarked known.0.marks.items known.1.marks.items)) }
     ensures exact { HonestlyIn (P.means src.old) (λ f F. IfOk result (λ found. IfSome found
         (λ known. IsWalked f F known.0 × AreNamed f F known.1.marks.items))) }
 {

@@ -1,7 +1,9 @@
-use Rattle.std.proofs.Common.{◌≡◌, ◌<◌, arith, rules, length, replicate, false, sym, ◌∙◌}
+use Rattle.std.proofs.Common.{◌≡◌, ◌<◌, arith, rules, inl, inr, length, replicate, false, sym, ◌∙◌}
 use Rattle.std.proofs.lemmas.List.{get_or_read}
 use Rattle.std.proofs.lemmas.List.Elements.{Contains-push}
 use Rattle.bplist_lint.proofs.TrailSteps.{fewer_left, numbers_named, trail_none, trail_more, leading_more, leading_start, is_circle, is_next, founded_all}
+use Rattle.bplist_lint.proofs.HeightCosts.{trail_on, trail_marked, trail_zero}
+use Rattle.bplist_lint.proofs.MarkSteps.{fresh-set, none_marked}
 use Rattle.bplist_lint.proofs.circle.circle.Goals as goal
 use Rattle.bplist_lint.proofs.circle.circle.Goals.{else-walk-test, then-walk-test+in_ok-push+in_ok-m+in-None}
 
@@ -14,6 +16,8 @@ walk-init g c =
       inside = c.requires.top;
       placed = rw (all_new, c.in_ok-trail.ensures.items, ← c.requires.all_heights) (trail_none _);
       leading = λ honest whole. rw c.in_ok-trail.ensures.items (leading_start _ _ _ (c.requires.heights honest) c.requires.circular);
+      width = cc;
+      asked = λ honest whole. rw all_new (λ n is. absurd (none_marked _ n is), omega (arith, trail_zero (g.R.References.width c.args.graph.now) (g.R.References.graph c.args.graph.now).refs (length c.args.heights.now) (g.R.References.graph c.args.graph.now).size));
     }
 
 pub walk-preserved : goal.walk-preserved
@@ -31,6 +35,13 @@ walk-preserved g c =
           let l = c.walk.invariant.leading honest whole in
           let n = is_next _ _ _ _ _ (c.requires.heights honest) l.reached (first honest (whole _ l.reached)) in
           rw c.in_ok-push.ensures.items (leading_more _ _ _ _ _ l n.0 n.1);
+      width = c.in_ok-m.ensures.width ∙ c.walk.invariant.width;
+      asked = λ honest whole.
+          let l = c.walk.invariant.leading honest whole in
+          let a = c.walk.invariant.asked honest whole in
+          let one = (rw (c.walk.invariant.same, c.walk.invariant.reads, c.walk.invariant.width) at c.in_ok-m.ensures.asks) honest (whole _ l.reached) in
+          let more = trail_on (g.R.References.width c.args.graph.now) (g.R.References.graph c.args.graph.now).refs c.walk.met.items c.walk.x (g.R.References.graph c.args.graph.now).size c.walk.invariant.inside p.all_met new in
+          (λ n is. elim (fresh-set c.walk.met.items c.walk.x n is) [ inl old ↦ a.0 n old | inr e ↦ rw e l.reached ], omega (arith, a.1, one, more));
     }
 
 pub returns-clause-circle : goal.returns-clause-circle

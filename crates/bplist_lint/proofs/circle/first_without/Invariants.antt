@@ -1,4 +1,4 @@
-use Rattle.std.proofs.Common.{◌≡◌, ◌^◌, ◌*◌, ◌+◌, ◌-◌, ◌≤◌, cond, false, length, IsTrue}
+use Rattle.std.proofs.Common.{◌≡◌, ◌^◌, ◌*◌, ◌+◌, ◌-◌, ◌≤◌, cond, true, false, length, IsTrue}
 use Rattle.bplist_lint.specs.Graph.{IsWhole}
 use Rattle.bplist_lint.specs.Trail.{AllHave}
 use Rattle.bplist_lint.proofs.circle.first_without.Given as goal
@@ -7,6 +7,9 @@ abbrev pub invariant-loop-more : goal.invariant-loop-more
 invariant-loop-more g l = record {
   same : g.R.References.graph l.graph ≡ g.R.References.graph l.fn.graph;
   reads : g.R.References.means l.graph ≡ g.R.References.means l.fn.graph;
+  width : g.R.References.width l.graph ≡ g.R.References.width l.fn.graph;
+  counted : g.R.References.asked l.graph ≤ g.R.References.asked l.fn.graph + 36 + l.done * (3 + g.R.References.width l.fn.graph);
+  counted_more : l.more ≡ true → g.R.References.asked l.graph ≤ g.R.References.asked l.fn.graph + l.done * (3 + g.R.References.width l.fn.graph);
   room : length l.block ≡ 32;
   have : IsTrue (g.R.References.means l.fn.graph).honest → IsWhole (g.R.References.graph l.fn.graph) l.n
       → (l.done ≤ length ((g.R.References.graph l.fn.graph).refs l.n))

@@ -6,6 +6,8 @@ use Rattle.bplist_objects.specs.Framed.{frame_in}
 use Rattle.bplist_objects.specs.Safe.{ref_count}
 use Rattle.bplist_objects.specs.Scan.{ref}
 use Rattle.bplist_objects.proofs.HeadTies.{shape_announced}
+use Rattle.bplist_objects.proofs.ScanLaws.{asked_on, asked_within}
+use Rattle.bplist_lint.proofs.ExtentBytes.{refs_bytes}
 use Rattle.bplist_keys.specs.Classes.{HaveSeenKeys}
 use Rattle.bplist_cert.specs.KeyRepeats.{HasGoodKeys}
 use Rattle.bplist_cert.proofs.KeyRepeats.{keys_inside, good_at, classed_texts, apart_differ}
@@ -29,6 +31,7 @@ loop-done-preserved g c =
     let low : done + now ≤ ref_count head.kind head.count = omega (arith, c.min-now.ensures, c.refs_of-refs.ensures, i.within) in
     record {
       reads = c.in_ok-read_refs_in.ensures.reads ∙ i.reads;
+      asked = asked_on (g.P.Source.asked c.args.src.now + 36) _ _ done now F.ref_size i.asked (rw (i.reads, long) at c.read_refs_in.ensures.asks);
       room = room;
       within = omega (arith, low, c.refs_of-refs.ensures);
       same = c.are_new.ensures.same ∙ i.same;

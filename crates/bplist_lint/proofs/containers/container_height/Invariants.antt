@@ -1,5 +1,5 @@
-use Rattle.std.proofs.Common.{◌≡◌, ℕ, ◌-◌, ◌≤◌, ◌<◌, min, map, take, length, slice_index, None}
-use Rattle.bplist_objects.specs.Framed.{HonestlyIn}
+use Rattle.std.proofs.Common.{◌≡◌, ℕ, ◌+◌, ◌*◌, ◌-◌, ◌≤◌, ◌<◌, min, map, take, length, slice_index, None}
+use Rattle.bplist_objects.specs.Framed.{HonestlyIn, frame_in}
 use Rattle.bplist_objects.specs.ObjectRules.{KeepsByObject, object_rules}
 use Rattle.bplist_objects.specs.Rules.{KeepsAll}
 use Rattle.bplist_objects.specs.Scan.{ref}
@@ -17,6 +17,7 @@ invariant-loop-done g l =
     let keys = key_count l.head.kind l.head.count in
     record {
       reads : means l.src ≡ means l.fn.src;
+      asked : g.P.Source.asked l.src ≤ g.P.Source.asked l.fn.src + 36 + l.done * (frame_in (means l.fn.src)).ref_size;
       room : length l.block ≡ length l.fn.block;
       within : l.done ≤ l.refs;
       same : l.table.classes.table.items ≡ l.fn.table.classes.table.items;

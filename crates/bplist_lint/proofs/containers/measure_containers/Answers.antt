@@ -8,6 +8,8 @@ use Rattle.bplist_objects.proofs.ReachedObjects.{reach_within}
 use Rattle.bplist_keys.specs.Classes.{IsNew}
 use Rattle.bplist_lint.proofs.ContainerSteps.{AreFinishedFrom, finished_first, finished_more, finished_over, finished_all}
 use Rattle.bplist_lint.proofs.KeyClasses.{reached_sound, keys_known}
+use Rattle.bplist_lint.specs.ReachRules.{is_marked}
+use Rattle.bplist_lint.proofs.RangeSums.{extents_more}
 use Rattle.bplist_lint.proofs.KeySteps.{childless_keys}
 use Rattle.bplist_lint.proofs.containers.measure_containers.Goals.{else-marks-n-via-then-marks-n+else-not-childless-n, else-marks-n-via-else-marks-n}
 use Rattle.bplist_lint.proofs.containers.measure_containers.Goals as goal
@@ -15,6 +17,7 @@ use Rattle.bplist_lint.proofs.containers.measure_containers.Goals as goal
 pub loop-n-init : goal.loop-n-init
 loop-n-init g c = record {
   reads = refl;
+  asked = λ honest. rw c.frame-frame.ensures.frame (omega arith);
   all = refl;
   room = refl;
   same = refl;
@@ -33,6 +36,11 @@ loop-n-preserved-then-not-childless-n g c =
     let next : n + 1 ≡ c.loop-n.n = omega (arith, c.loop-n-test.true) in
     record {
       reads = c.in_ok-height.ensures.reads ∙ i.reads;
+      asked = λ honest.
+          let more = rw (← next) at (i.asked honest) in
+          let own = rw c.if-marks-n.true at (extents_more f F (is_marked c.args.marks.now) n) in
+          let one = (rw i.reads at c.in_ok-height.ensures.asks) honest in
+          omega (arith, more, own, one);
       all = grind (arith, common_steps);
       room = c.container_height.ensures.room ∙ i.room;
       same = c.container_height.ensures.same ∙ i.same;
@@ -68,6 +76,10 @@ loop-n-preserved g c =
     let next : n + 1 ≡ c.loop-n.n = omega (arith, c.loop-n-test.true) in
     record {
       reads = i.reads;
+      asked = λ honest.
+          let more = rw (← next) at (i.asked honest) in
+          let over = extents_more f F (is_marked c.args.marks.now) n in
+          omega (arith, more, over);
       all = i.all;
       room = i.room;
       same = i.same;

@@ -1,11 +1,11 @@
-use Rattle.std.proofs.Common.{◌≡◌, ◌↔◌, ◌⊎◌, ℕ, ◌<◌, Bool, List, length, map, slice_index}
+use Rattle.std.proofs.Common.{◌≡◌, ◌↔◌, ◌⊎◌, ℕ, ◌+◌, ◌*◌, ◌≤◌, ◌<◌, Bool, List, length, map, slice_index}
 use Rattle.std.specs.Int.{from_bool}
 use Rattle.bplist_objects.specs.Framed.{HonestlyIn}
 use Rattle.bplist_objects.specs.Reach.{Reach}
 use Rattle.bplist_keys.specs.Marks.{IsMarked}
 use Rattle.bplist_keys.specs.Ranks.{AreClasses}
-use Rattle.bplist_lint.specs.ReachRules.{KeepReached, reach_rules}
-use Rattle.bplist_lint.specs.ReachWalk.{AreNamed}
+use Rattle.bplist_lint.specs.ReachRules.{KeepReached, is_marked, reach_rules}
+use Rattle.bplist_lint.specs.ReachWalk.{AreNamed, extents_below}
 use Rattle.bplist_lint.specs.ReferenceGraph.{AreChildless}
 use Rattle.bplist_lint.proofs.ContainerSteps.{AreFinishedFrom}
 use Rattle.bplist_lint.proofs.containers.measure_containers.Given as goal
@@ -16,6 +16,8 @@ invariant-loop-n g l =
     let classes = l.fn.table.classes.table.items in
     record {
       reads : means l.src ≡ means l.fn.src;
+      asked : HonestlyIn (means l.fn.src) (λ f F. g.P.Source.asked l.src + 36 * l.n + extents_below f F (is_marked l.marks) l.n
+          ≤ g.P.Source.asked l.fn.src + 36 * F.objects + extents_below f F (is_marked l.marks) F.objects);
       all : length l.heights ≡ length l.fn.heights;
       room : length l.block ≡ 32;
       same : l.table.classes.table.items ≡ classes;

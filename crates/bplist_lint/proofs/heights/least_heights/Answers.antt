@@ -16,6 +16,8 @@ loop-n-init g c = record {
   };
   sees = λ m h is. absurd (let low = marked_within c.args.marks.now m is in grind (arith, common_steps));
   walking = λ honest closed known. rw (c.in_ok-walk.ensures.states, c.in_ok-walk.ensures.heights) (walking_first _ _ _ known);
+  width = cc;
+  asked = λ honest closed known few. rw (c.in_ok-walk.ensures.states, c.in_ok-walk.ensures.heights) (omega arith);
 }
 
 pub loop-n-preserved : goal.loop-n-preserved
@@ -36,6 +38,10 @@ loop-n-preserved g c =
         ])
       ];
       walking = λ honest closed known. (rw (i.same, i.reads) at walked.walks) honest _ closed found.1 (i.walking honest closed known);
+      width = c.settle_from.ensures.width ∙ i.width;
+      asked = λ honest closed known few.
+          let step = (rw (i.same, i.reads, i.width) at walked.asks_left) honest _ closed found.1 (i.walking honest closed known) few in
+          omega (arith, i.asked honest closed known few, step);
     }
 
 pub returns-clause-exact : goal.returns-clause-exact

@@ -7,6 +7,8 @@ use Rattle.bplist_keys.proofs.LookUps.{new_low, stamped_low}
 use Rattle.bplist_cert.proofs.CheckSteps.{refused_weaker}
 use Rattle.bplist_lint.proofs.KeySteps.{keys_fault, keys_more, keys_over, childless_keys}
 use Rattle.bplist_lint.proofs.KeyClasses.{reached_sound, keys_known}
+use Rattle.bplist_lint.specs.ReachRules.{is_marked}
+use Rattle.bplist_lint.proofs.RangeSums.{extents_more}
 use Rattle.bplist_lint.proofs.key_rules.check_numbers.Goals as goal
 use Rattle.bplist_lint.proofs.key_rules.check_numbers.Goals.{then-marks-n+then-not-childless-n+in_ok-check_dict_keys, else-marks-n, else-marks-n-via-then-marks-n+else-not-childless-n, else-marks-n-via-else-marks-n}
 
@@ -36,6 +38,10 @@ loop-n-preserved g c =
     elim c.if-marks-n.branch [
       | then-marks-n+then-not-childless-n+in_ok-check_dict_keys w ↦ record {
         reads = rw w.src-is (w.in_ok-check_dict_keys.ensures.reads ∙ v.reads);
+        asked = λ honest.
+            let own = rw w.if-marks-n.true at (extents_more f F (is_marked c.args.marks.now) n) in
+            let one = (rw v.reads at w.in_ok-check_dict_keys.ensures.asks) honest in
+            rw w.src-is (omega (arith, v.asked honest, own, one));
         same = rw w.table-is (w.in_ok-check_dict_keys.ensures.same ∙ v.same);
         low = λ honest. rw w.table-is (stamped_low n _ _ w.check_dict_keys.ensures.stamped (v.low honest));
         exact = λ honest named marks kept childless are_named classes.
@@ -46,6 +52,9 @@ loop-n-preserved g c =
       }
       | else-marks-n w ↦ record {
         reads = rw w.src-is v.reads;
+        asked = λ honest.
+            let over = extents_more f F (is_marked c.args.marks.now) n in
+            rw w.src-is (omega (arith, v.asked honest, over));
         same = rw w.table-is v.same;
         low = λ honest x. rw w.table-is (let l = v.low honest x in omega (arith, l));
         exact = λ honest named marks kept childless are_named classes.

@@ -10,6 +10,8 @@ use Rattle.bplist_lint.specs.declared.graph.View.TheVariants as views
 use Rattle.bplist_lint.proofs.Passes.{check_means, linted_yes, circled}
 use Rattle.bplist_lint.proofs.ReferenceGraph.{reach_iff}
 use Rattle.bplist_lint.proofs.ValueHeights.{all_whole}
+use Rattle.bplist_lint.proofs.KeyClasses.{reached_sound}
+use Rattle.bplist_lint.proofs.WalkCosts.{trail_few}
 use Rattle.bplist_lint.proofs.linter.heights_or_circle.Goals as goal
 
 pub returns-in_err-heights-clause-exact : goal.returns-in_err-heights-clause-exact
@@ -56,3 +58,43 @@ pub circle-requires-clause-heights : goal.circle-requires-clause-heights
 circle-requires-clause-heights g c = rw (c.new-objects.ensures.means, c.new-objects.ensures.view, c.in_ok-heights.ensures.reads, c.frame-frame.ensures.frame, c.deref-then-index-eq0.ensures.value) (λ honest.
     let s = c.requires.sifted honest in
     (rw c.deref.ensures.value at c.in_ok-heights.ensures.exact) honest s.walked.tallied.kept s.keys s.walked.marked)
+
+pub returns-in_err-heights-clause-asks : goal.returns-in_err-heights-clause-asks
+returns-in_err-heights-clause-asks g c = λ honest.
+    let s = c.requires.sifted honest in
+    let first = (rw c.deref.ensures.value at c.in_err-heights.ensures.asks) honest s.walked.tallied.kept s.walked.marked in
+    omega (arith, first)
+
+pub returns-in_err-circle-clause-asks : goal.returns-in_err-circle-clause-asks
+returns-in_err-circle-clause-asks g c = λ honest.
+    let f = (g.P.Source.means c.args.src.now).octets in
+    let F : Frame = frame_in (g.P.Source.means c.args.src.now) in
+    let framed = c.frame-frame.ensures.framed.framed honest in
+    let s = c.requires.sifted honest in
+    let safe = c.frame-frame.ensures.framed.safe in
+    let marks = c.args.reached.marks.items in
+    let sound = reached_sound f F marks c.requires.fits.all_marks framed s.walked.marked s.walked.tallied.kept in
+    let few = trail_few f F views.All safe.safe.ref_low marks c.requires.fits.all_marks sound s.walked.marked F.objects (omega arith) in
+    let first = (rw c.deref.ensures.value at c.in_ok-heights.ensures.asks) honest s.walked.tallied.kept s.walked.marked in
+    let asked = (rw (c.new-objects.ensures.means, c.new-objects.ensures.view, c.in_ok-heights.ensures.reads, c.frame-frame.ensures.frame) at c.circle.ensures.asks) honest (λ n r. all_whole f F framed s.walked.tallied.kept views.All n ((reach_iff f F n).0 r)) marks (λ n r. (s.walked.marked n).1 ((reach_iff f F n).0 r)) in
+    omega (arith, first, few, asked, c.new-objects.ensures.asked)
+
+pub returns-then-index-eq0-clause-asks : goal.returns-then-index-eq0-clause-asks
+returns-then-index-eq0-clause-asks g c = λ honest.
+    let f = (g.P.Source.means c.args.src.now).octets in
+    let F : Frame = frame_in (g.P.Source.means c.args.src.now) in
+    let framed = c.frame-frame.ensures.framed.framed honest in
+    let s = c.requires.sifted honest in
+    let safe = c.frame-frame.ensures.framed.safe in
+    let marks = c.args.reached.marks.items in
+    let sound = reached_sound f F marks c.requires.fits.all_marks framed s.walked.marked s.walked.tallied.kept in
+    let few = trail_few f F views.All safe.safe.ref_low marks c.requires.fits.all_marks sound s.walked.marked F.objects (omega arith) in
+    let first = (rw c.deref.ensures.value at c.in_ok-heights.ensures.asks) honest s.walked.tallied.kept s.walked.marked in
+    let asked = (rw (c.new-objects.ensures.means, c.new-objects.ensures.view, c.in_ok-heights.ensures.reads, c.frame-frame.ensures.frame) at c.circle.ensures.asks) honest (λ n r. all_whole f F framed s.walked.tallied.kept views.All n ((reach_iff f F n).0 r)) marks (λ n r. (s.walked.marked n).1 ((reach_iff f F n).0 r)) in
+    omega (arith, first, few, asked, c.new-objects.ensures.asked)
+
+pub returns-clause-asks : goal.returns-clause-asks
+returns-clause-asks g c = λ honest.
+    let s = c.requires.sifted honest in
+    let first = (rw c.deref.ensures.value at c.in_ok-heights.ensures.asks) honest s.walked.tallied.kept s.walked.marked in
+    omega (arith, first)

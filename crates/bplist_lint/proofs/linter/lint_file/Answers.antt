@@ -1,7 +1,9 @@
-use Rattle.std.proofs.Common.{◌∙◌}
+use Rattle.std.proofs.Common.{◌≤◌, ◌*◌, ap, ◌∙◌, arith}
+use Rattle.std.proofs.Math.Nat.{mul-le-mul_left}
 use Rattle.std.proofs.lemmas.Result.{err_from_is_err_and}
 use Rattle.bplist_lint.specs.FileFault.{IsFileCircle}
-use Rattle.bplist_lint.proofs.Passes.{check_means, fault_passed}
+use Rattle.bplist_objects.specs.declared.frame.Frame.{Frame}
+use Rattle.bplist_lint.proofs.Passes.{check_means, fault_passed, lint_asked}
 use Rattle.bplist_lint.proofs.linter.lint_file.Goals as goal
 
 pub returns-in_err-frame-clause-exact : goal.returns-in_err-frame-clause-exact
@@ -14,3 +16,30 @@ pub returns-in_err-certificate-clause-exact : goal.returns-in_err-certificate-cl
 returns-in_err-certificate-clause-exact g c = λ honest.
     let p = err_from_is_err_and c.from_residual-in_err-certificate.result c.from_residual-in_err-certificate.ensures.1 in
     rw (p.1, p.2) (fault_passed _ _ (c.new-file.ensures.means ∙ c.in_ok-frame.ensures.reads) c.in_err-certificate.field-0.0 c.in_err-certificate.ensures.exact honest)
+
+pub returns-in_err-frame-clause-asks : goal.returns-in_err-frame-clause-asks
+returns-in_err-frame-clause-asks g c = λ is honest. omega (arith, c.in_err-frame.ensures.asks)
+
+pub returns-in_err-certificate-clause-asks : goal.returns-in_err-certificate-clause-asks
+returns-in_err-certificate-clause-asks g c = λ is honest.
+    let fr = c.in_ok-frame.ensures in
+    let F : Frame = c.in_ok-frame.frame in
+    let made = c.new-file.ensures in
+    let told = lint_asked _ _ (made.means ∙ fr.reads) _ _ _ _ (c.lint_opened.ensures.asks is) honest in
+    let table = ap (λ (x : Frame). x.table) made.frame in
+    let objects = ap (λ (x : Frame). x.objects) made.frame in
+    let spelled = ap (λ (x : Frame). x.objects) (fr.exact honest).0.spelled in
+    let each : F.objects * 1 ≤ F.objects * F.offset_size = mul-le-mul_left F.objects fr.safe.safe.offset_low in
+    omega (arith, told, made.asked, fr.asks_table, table, objects, spelled, each, fr.safe.safe.room, fr.safe.top)
+
+pub returns-clause-asks : goal.returns-clause-asks
+returns-clause-asks g c = λ is honest.
+    let fr = c.in_ok-frame.ensures in
+    let F : Frame = c.in_ok-frame.frame in
+    let made = c.new-file.ensures in
+    let told = lint_asked _ _ (made.means ∙ fr.reads) _ _ _ _ (c.lint_opened.ensures.asks is) honest in
+    let table = ap (λ (x : Frame). x.table) made.frame in
+    let objects = ap (λ (x : Frame). x.objects) made.frame in
+    let spelled = ap (λ (x : Frame). x.objects) (fr.exact honest).0.spelled in
+    let each : F.objects * 1 ≤ F.objects * F.offset_size = mul-le-mul_left F.objects fr.safe.safe.offset_low in
+    omega (arith, told, made.asked, fr.asks_table, table, objects, spelled, each, fr.safe.safe.room, fr.safe.top)

@@ -1,4 +1,4 @@
-use Rattle.std.proofs.Common.{subst, sym}
+use Rattle.std.proofs.Common.{subst, sym, ◌∙◌, arith}
 use Rattle.bplist_objects.specs.declared.frame.Frame.{Frame}
 use Rattle.bplist_objects.specs.Framed.{frame_in}
 use Rattle.bplist_cert.specs.Lists.{Lists}
@@ -21,4 +21,22 @@ returns-clause-exact g c = λ honest.
           subst (λ (made : Lists). IsLintedWith c.args.keys f F made tally) (sym w.certificate-is)
           (subst (λ (keys : Keys). IsLintedWith keys f F w.in_ok-certificate-in-Ranks.certificate tally) (sym w.in-Ranks.is)
           ((rw c.in_ok-reached.ensures.reads at w.in_ok-certificate-in-Ranks.ensures.exact) honest))
+    ]
+
+pub returns-in_err-certificate-in-Classes-clause-asks : goal.returns-in_err-certificate-in-Classes-clause-asks
+returns-in_err-certificate-in-Classes-clause-asks g c = λ is honest.
+    let first = c.in_ok-reached.ensures in
+    omega (arith, first.asks, (rw first.reads at c.in_err-certificate-in-Classes.ensures.asks) honest first.only)
+
+pub returns-in_err-certificate-in-Ranks-clause-asks : goal.returns-in_err-certificate-in-Ranks-clause-asks
+returns-in_err-certificate-in-Ranks-clause-asks g c = λ is honest. absurd (cc (sym is ∙ c.in-Ranks.is))
+
+pub returns-clause-asks : goal.returns-clause-asks
+returns-clause-asks g c = λ is honest.
+    let first = c.in_ok-reached.ensures in
+    elim c.match-keys.branch [
+      | in-Classes+in_ok-certificate-in-Classes w ↦
+          let more = (rw first.reads at w.in_ok-certificate-in-Classes.ensures.asks) honest first.only in
+          rw w.src-is (omega (arith, first.asks, more))
+      | in-Ranks+in_ok-certificate-in-Ranks w ↦ absurd (cc (sym is ∙ w.in-Ranks.is))
     ]

@@ -8,6 +8,7 @@ use Rattle.bplist_objects.specs.Scan.{nth_number}
 use Rattle.bplist_objects.proofs.BodyLaws.{refs_fit}
 use Rattle.bplist_lint.specs.ReachSearch.{place_index, reference_at}
 use Rattle.bplist_lint.proofs.ReachSteps.{size_small, numbers_low, reference_at_k, all_good, some_there}
+use Rattle.bplist_lint.proofs.BitCounts.{count_more}
 use Rattle.bplist_lint.proofs.reach.are_good.Goals as goal
 
 pub refs_of-requires : goal.refs_of-requires
@@ -65,7 +66,14 @@ loop-number-preserved g c =
     let same = ap (λ v. v.items) next.words in
     record {
       reads = c.in_ok-reference.ensures.reads ∙ i.reads;
+      asked =
+          (let low = numbers_low f F h c.frame-frame.ensures.framed.safe.safe.ref_low c.requires.head in
+          let inside : j < c.args.good.now.size = omega (arith, low, c.loop-number-test.true, c.place_index-first.ensures, c.refs_of.ensures, c.requires.size) in
+          let more = count_more c.loop-number.good.words.items c.insert.new.self.words.items j c.args.good.now.size inside (i.outside inside) c.insert.ensures.here c.insert.ensures.keeps c.insert.ensures.only in
+          let one = rw c.frame-frame.ensures.frame at c.in_ok-reference.ensures.asks in
+          rw same (omega (arith, i.asked, more, one, c.frame-frame.ensures.framed.safe.safe.ref_high)));
       size = next.size ∙ c.insert.ensures.size ∙ i.size;
+      outside = rw same (λ low. next.outside (omega (arith, low, c.insert.ensures.size, i.size)));
       from = omega (arith, next.from, i.from);
       good = λ honest known m is. elim (c.insert.ensures.only m (rw same at is)) [
         | inl old ↦ i.good honest known m old

@@ -15,6 +15,7 @@ use Rattle.bplist_lint.specs.declared.bit_set.BitSet.{BitSet}
 use Rattle.bplist_lint.specs.declared.reach.ReachSearch.{ReachSearch}
 use Rattle.bplist_lint.proofs.ReachSteps.{Takes, takes_new, takes_old, size_small, numbers_low, reference_at_k, all_marked}
 use Rattle.bplist_lint.proofs.HeightSteps.{among_at}
+use Rattle.bplist_lint.proofs.BitCounts.{count_more}
 use Rattle.bplist_lint.proofs.reach.follow.Goals as goal
 use Rattle.bplist_lint.proofs.reach.follow.Goals.{then-not-index+in_ok-push, else-not-index}
 
@@ -101,6 +102,13 @@ loop-number-preserved g c =
     let same = ap (λ v. v.items) next.words in
     record {
       reads = c.in_ok-reference.ensures.reads ∙ i.reads;
+      asked =
+          (let low = numbers_low f F h c.frame-frame.ensures.framed.safe.safe.ref_low c.requires.head in
+          let inside : j < c.args.search.now.followed.size = omega (arith, low, c.loop-number-test.true, c.place_index-first.ensures, c.refs_of.ensures, c.requires.ready.followed_size) in
+          let more = count_more before.followed.words.items c.insert.new.self.words.items j c.args.search.now.followed.size inside (i.outside inside) put.here put.keeps put.only in
+          let one = rw c.frame-frame.ensures.frame at c.in_ok-reference.ensures.asks in
+          rw same (omega (arith, i.asked, more, one, c.frame-frame.ensures.framed.safe.safe.ref_high)));
+      outside = rw same (λ low. next.outside (omega (arith, low, put.size, i.ready.followed_size, c.requires.ready.followed_size)));
       ready = record {
         all_marks = omega (arith, taken.all, i.ready.all_marks);
         stack_in = taken.stack_in _ m_low i.ready.stack_in;

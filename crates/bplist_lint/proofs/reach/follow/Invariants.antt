@@ -1,9 +1,9 @@
-use Rattle.std.proofs.Common.{◌≡◌, ℕ, ◌+◌, ◌-◌, ◌<◌, ◌≤◌, not, count_by, vec_len}
+use Rattle.std.proofs.Common.{◌≡◌, ℕ, ◌+◌, ◌*◌, ◌-◌, ◌<◌, ◌≤◌, not, count_by, vec_len}
 use Rattle.bplist_objects.specs.Framed.{frame_in, HonestlyIn}
 use Rattle.bplist_objects.specs.Heads.{content_at, refs}
 use Rattle.bplist_objects.specs.Safe.{ref_count}
 use Rattle.bplist_objects.specs.Scan.{AreBelow}
-use Rattle.bplist_lint.specs.BitSets.{IsIn}
+use Rattle.bplist_lint.specs.BitSets.{IsIn, count_in}
 use Rattle.bplist_lint.specs.ReachSearch.{IsReady, AreFollowed, Looked}
 use Rattle.bplist_lint.proofs.reach.follow.Given as goal
 
@@ -12,6 +12,9 @@ invariant-loop-number g l =
     let means = g.P.Source.means in
     record {
       reads : means l.src ≡ means l.fn.src;
+      asked : g.P.Source.asked l.src + 8 * count_in l.fn.search.followed.words.items l.fn.search.followed.size
+          ≤ g.P.Source.asked l.fn.src + 8 * count_in l.search.followed.words.items l.fn.search.followed.size;
+      outside : l.number < l.fn.search.followed.size → IsIn l.search.followed.words.items l.number → ⊥;
       ready : IsReady (frame_in (means l.fn.src)) l.search;
       good : l.search.good ≡ l.fn.search.good;
       from : l.first ≤ l.number;

@@ -1,13 +1,16 @@
-use Rattle.std.proofs.Common.{◌≡◌, [], arith, refl, sym, ap, ◌∙◌}
+use Rattle.std.proofs.Common.{◌≡◌, [], length, arith, refl, sym, ap, ◌∙◌}
 use Rattle.std.proofs.lemmas.Grind.{common_steps}
 use Rattle.std.proofs.lemmas.Bool.{false≢true}
-use Rattle.std.proofs.lemmas.List.{nil_from_length}
+use Rattle.std.proofs.lemmas.List.{nil_from_length, length_push}
 use Rattle.bplist_objects.specs.declared.frame.Frame.{Frame}
 use Rattle.bplist_objects.specs.Framed.{frame_in}
 use Rattle.bplist_objects.specs.Spelled.{refs_at}
 use Rattle.bplist_lint.specs.declared.bit_set.BitSet.{BitSet}
 use Rattle.bplist_lint.proofs.ObjectReferences.{no_refs_shape, broken_count, refs_as_shape}
-use Rattle.bplist_lint.proofs.ReachSteps.{ready_popped, searching_step, searching_none, searching_end}
+use Rattle.bplist_lint.specs.BitSets.{count_in}
+use Rattle.bplist_lint.specs.ReachSearch.{index_count}
+use Rattle.bplist_lint.proofs.BitCounts.{count_few}
+use Rattle.bplist_lint.proofs.ReachSteps.{ready_popped, searching_step, searching_none, searching_end, size_small}
 use Rattle.bplist_lint.proofs.reach.mark_reached.Goals as goal
 
 pub loop-n-preserved-in_default-2 : goal.loop-n-preserved-in_default-2
@@ -15,6 +18,7 @@ loop-n-preserved-in_default-2 g c =
     let i = c.loop-n.invariant in
     record {
       reads = c.in_ok-head.ensures.reads ∙ i.reads;
+      asked = omega (arith, i.asked, c.in_ok-head.ensures.asks, ap length c.in-Some.ensures.items, length_push c.pop.new.self.items c.in-Some.n);
       ready = ready_popped _ _ _ _ _ i.ready c.in-Some.ensures.items refl;
       searching = λ honest.
           let w = rw c.in-Some.ensures.items at (i.searching honest) in
@@ -32,6 +36,12 @@ loop-n-preserved-in_ok-follow g c =
     let i = c.loop-n.invariant in
     record {
       reads = c.in_ok-follow.ensures.reads ∙ c.in_ok-all.ensures.reads ∙ c.in_ok-head.ensures.reads ∙ i.reads;
+      asked =
+          (let F : Frame = frame_in (g.P.Source.means c.args.src.now) in
+          let good = rw i.ready.good_size at c.in_ok-all.ensures.asks in
+          let followed = rw i.ready.followed_size at c.in_ok-follow.ensures.asks in
+          let same = ap (λ (s : BitSet). count_in s.words.items (index_count F)) c.follow.ensures.good in
+          omega (arith, i.asked, c.in_ok-head.ensures.asks, good, followed, same, c.in_ok-follow.ensures.work, ap length c.in-Some.ensures.items, length_push c.pop.new.self.items c.in-Some.n));
       ready = rw (c.in_ok-all.ensures.reads, c.in_ok-head.ensures.reads, i.reads) at c.in_ok-follow.ensures.ready;
       searching = λ honest.
           let w = rw c.in-Some.ensures.items at (i.searching honest) in
@@ -49,6 +59,9 @@ loop-n-preserved g c =
     let i = c.loop-n.invariant in
     record {
       reads = c.in_ok-all.ensures.reads ∙ c.in_ok-head.ensures.reads ∙ i.reads;
+      asked =
+          (let good = rw i.ready.good_size at c.in_ok-all.ensures.asks in
+          omega (arith, i.asked, c.in_ok-head.ensures.asks, good, ap length c.in-Some.ensures.items, length_push c.pop.new.self.items c.in-Some.n));
       ready = ready_popped _ _ _ _ _ i.ready c.in-Some.ensures.items c.are_good.ensures.size;
       searching = λ honest.
           let f = (g.P.Source.means c.args.src.now).octets in
@@ -66,3 +79,8 @@ pub returns-clause-exact : goal.returns-clause-exact
 returns-clause-exact g c = λ honest.
     let empty : c.loop-n.search.stack.items ≡ [] = grind (arith, common_steps) in
     searching_end _ _ _ _ _ (rw empty at (c.loop-n.invariant.searching honest))
+
+pub returns-clause-asks : goal.returns-clause-asks
+returns-clause-asks g c =
+    let F : Frame = frame_in (g.P.Source.means c.args.src.now) in
+    omega (arith, c.loop-n.invariant.asked, count_few c.loop-n.search.good.words.items (index_count F), count_few c.loop-n.search.followed.words.items (index_count F), size_small F, c.frame.ensures.framed.safe.safe.ref_high)

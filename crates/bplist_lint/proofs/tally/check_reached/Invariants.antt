@@ -1,4 +1,4 @@
-use Rattle.std.proofs.Common.{◌≡◌, ◌↔◌, ℕ}
+use Rattle.std.proofs.Common.{◌≡◌, ◌↔◌, ◌+◌, ◌*◌, ◌≤◌, ℕ}
 use Rattle.bplist_objects.specs.Framed.{frame_in, HonestlyIn}
 use Rattle.bplist_objects.specs.Reach.{Reach}
 use Rattle.bplist_keys.specs.Marks.{IsMarked}
@@ -11,6 +11,7 @@ invariant-loop-n g l =
     let means = g.P.Source.means in
     record {
       reads : means l.src ≡ means l.fn.src;
+      asked : g.P.Source.asked l.src ≤ g.P.Source.asked l.fn.src + (l.tally.used.octets + 36 * l.n);
       roomy : IsRoomy (frame_in (means l.fn.src)) l.tally;
       exact : HonestlyIn (means l.fn.src) (λ f F. ((n : ℕ) → IsMarked l.marks n ↔ Reach f F n) → Tallied f F l.marks l.n l.tally);
     }

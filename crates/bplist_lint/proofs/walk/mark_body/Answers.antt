@@ -1,4 +1,4 @@
-use Rattle.std.proofs.Common.{◌+◌, ◌<◌, ◌≤◌, arith, length, refl, sym, ◌∙◌}
+use Rattle.std.proofs.Common.{◌+◌, ◌<◌, ◌≤◌, arith, inl, inr, length, refl, sym, ◌∙◌}
 use Rattle.std.proofs.lemmas.Grind.{common_steps}
 use Rattle.bplist_objects.specs.declared.frame.Frame.{Frame}
 use Rattle.bplist_objects.specs.Framed.{frame_in}
@@ -8,7 +8,7 @@ use Rattle.bplist_objects.specs.Scan.{ref}
 use Rattle.bplist_objects.proofs.BlockSteps.{still_of, block_is, each_more}
 use Rattle.bplist_objects.proofs.References.{length-refs, nth-refs}
 use Rattle.bplist_keys.specs.Marks.{IsMarked}
-use Rattle.bplist_lint.proofs.MarkSteps.{noted_more, named_front}
+use Rattle.bplist_lint.proofs.MarkSteps.{noted_more, named_front, front_marked}
 use Rattle.bplist_lint.proofs.walk.mark_body.Goals as goal
 
 pub loop-refs-preserved : goal.loop-refs-preserved
@@ -26,10 +26,15 @@ loop-refs-preserved g c =
     let most : from + length lent ≤ ref_count h.kind h.count = omega (arith, block.long, block.within) in
     record {
       reads = c.in_ok-read.ensures.reads ∙ i.reads;
+      asked = omega (arith, i.asked, c.in_ok-read.ensures.asks_block);
       of = still_of i.of c.in_ok-read.ensures.same;
       steady = rw c.frame-frame.ensures.frame at marked.steady;
       worked = record { current = marked.worked.current ∙ i.worked.current; work = omega (arith, marked.worked.work, i.worked.work) };
       names = record { all = c.insert_all.ensures.all ∙ i.names.all; keeps = λ m h. c.insert_all.ensures.keeps m (i.names.keeps m h) };
+      only = λ before m is. elim (c.insert_all.ensures.only m is) [
+        | inl old ↦ marked.noted.keeps_marks m (i.only before m old)
+        | inr found ↦ front_marked c.keys_among.result lent c.mark_block.new.worklist.marks.items m found marked.noted.all
+      ];
       named = λ honest dict. each_more (λ k. k < h.count → IsMarked names (ref f F h k)) block
           (λ k low key. c.insert_all.ensures.keeps _ (i.named honest dict k low key))
           (λ j low key.

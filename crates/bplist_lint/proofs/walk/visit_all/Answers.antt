@@ -4,6 +4,8 @@ use Rattle.std.proofs.lemmas.List.{get_or_read}
 use Rattle.bplist_objects.specs.declared.frame.Frame.{Frame}
 use Rattle.bplist_objects.specs.Framed.{frame_in}
 use Rattle.bplist_lint.proofs.Walks.{walking_start, walking_over}
+use Rattle.bplist_lint.proofs.MarkSteps.{none_marked}
+use Rattle.bplist_lint.proofs.ReachSteps.{work_first}
 use Rattle.bplist_lint.proofs.walk.visit_all.Goals as goal
 use Rattle.bplist_lint.proofs.walk.visit_all.Goals.{then-index+in_ok-visit_from, else-index}
 
@@ -13,6 +15,9 @@ loop-n-init g c =
     let childless_new : c.in_ok-childless.childless.items ≡ replicate c.frame-frame.result.objects false = search rules in
     record {
       reads = cc;
+      asked = omega arith;
+      once = rw (marks_new, c.new-2.ensures, c.in_ok-with_capacity.ensures.items, c.frame-frame.ensures.frame) (let first = work_first (frame_in (g.P.Source.means c.args.src.now)).objects (frame_in (g.P.Source.means c.args.src.now)).top.0 c.frame-frame.ensures.framed.safe.top in omega (arith, first));
+      only = λ m is. absurd (none_marked c.frame-frame.result.objects m (rw c.in_ok-named.ensures at is));
       steady = search rules;
       empty = grind (arith, common_steps);
       walking = λ honest.
@@ -32,12 +37,18 @@ loop-n-preserved g c =
     elim c.if-index.branch [
       | then-index+in_ok-visit_from w ↦ rw (w.src-is, w.progress-is) (record {
         reads = w.in_ok-visit_from.ensures.reads ∙ i.reads;
+        asked = omega (arith, i.asked, w.in_ok-visit_from.ensures.asks);
+        once = omega (arith, i.once, w.in_ok-visit_from.ensures.once);
+        only = w.in_ok-visit_from.ensures.only i.only;
         steady = rw i.reads at w.in_ok-visit_from.ensures.steady;
         empty = w.in_ok-visit_from.ensures.empty;
         walking = λ honest. (rw i.reads at w.in_ok-visit_from.ensures.walking) honest (sym read ∙ w.if-index.true) (i.walking honest);
       })
       | else-index w ↦ rw (w.src-is, w.progress-is) (record {
         reads = i.reads;
+        asked = i.asked;
+        once = omega (arith, i.once);
+        only = i.only;
         steady = i.steady;
         empty = i.empty;
         walking = λ honest. walking_over _ _ _ _ _ _ _ (i.walking honest) (sym read ∙ w.if-index.false);

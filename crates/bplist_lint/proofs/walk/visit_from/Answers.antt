@@ -9,6 +9,9 @@ loop-m-init g c =
     record {
       reads = c.in_ok-visit.ensures.reads;
       steady = c.in_ok-visit.ensures.steady;
+      asked = omega (arith, c.in_ok-visit.ensures.asks, c.in_ok-visit.ensures.one);
+      once = omega (arith, c.in_ok-visit.ensures.one, c.in_ok-visit.ensures.worked.work);
+      only = c.in_ok-visit.ensures.only;
       current = c.in_ok-visit.ensures.worked.current;
       walking = λ honest marked w. c.in_ok-visit.ensures.walking honest (rw none (walking_on _ _ _ _ _ _ _ w marked));
     }
@@ -35,6 +38,9 @@ loop-m-preserved g c =
     record {
       reads = c.in_ok-visit-2.ensures.reads ∙ i.reads;
       steady = rw i.reads at c.in_ok-visit-2.ensures.steady;
+      asked = omega (arith, i.asked, c.in_ok-visit-2.ensures.asks, c.in_ok-visit-2.ensures.one);
+      once = omega (arith, i.once, c.in_ok-visit-2.ensures.one, c.in_ok-visit-2.ensures.worked.work);
+      only = λ before. c.in_ok-visit-2.ensures.only (i.only before);
       current = c.in_ok-visit-2.ensures.worked.current ∙ i.current;
       walking = λ honest marked w. (rw (i.reads, i.current) at c.in_ok-visit-2.ensures.walking) honest (rw c.in-Some.ensures.items at (i.walking honest marked w));
     }

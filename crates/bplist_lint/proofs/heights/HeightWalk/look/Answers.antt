@@ -1,30 +1,30 @@
-use Rattle.std.proofs.Common.{◌≡◌, ◌≢◌, ◌+◌, ◌-◌, ◌*◌, ◌^◌, ◌<◌, ◌≤◌, max, length, refl, sym, arith, ◌∙◌}
+use Rattle.std.proofs.Common.{◌≡◌, ◌≢◌, ◌+◌, ◌-◌, ◌*◌, ◌^◌, ◌<◌, ◌≤◌, max, length, take, refl, sym, arith, ◌∙◌}
 use Rattle.std.proofs.lemmas.Bool.{cond_both, eqb-true, eqb-false}
 use Rattle.std.proofs.lemmas.Grind.{common_steps}
 use Rattle.std.proofs.lemmas.List.{length-take, get_or-take}
 use Rattle.std.proofs.lemmas.Result.{err_from_is_err_and}
 use Rattle.bplist_lint.specs.HeightWalks.{state_at}
 use Rattle.bplist_lint.specs.declared.heights.State.TheVariants.{Founded}
-use Rattle.bplist_lint.proofs.ReferenceParts.{contains_part, item_at, part_all}
+use Rattle.bplist_lint.proofs.ReferenceParts.{contains_part, item_at, part_all, part_on}
 use Rattle.bplist_lint.proofs.HeightSteps.{greatest_part}
+use Rattle.bplist_lint.proofs.HeightCosts.{scan_more, scan_within, scan_block}
 use Rattle.bplist_lint.proofs.heights.HeightWalk.look.Goals as goal
-use Rattle.bplist_lint.proofs.heights.HeightWalk.look.Goals.{then-from-eq0, else-from-eq0}
 
 pub loop-more-init : goal.loop-more-init
-loop-more-init g c =
-    let portion : (0 < c.if-from-eq0.portion) × (c.if-from-eq0.portion ≤ 32) = elim c.if-from-eq0.branch [
-      | then-from-eq0 w ↦ let is = w.portion-is in (omega (arith, is), omega (arith, is))
-      | else-from-eq0 w ↦ let is = w.portion-is in (omega (arith, is), omega (arith, is))
-    ] in
-    record {
-      same = refl;
-      reads = refl;
-      room = refl;
-      some = portion.0;
-      few = portion.1;
-      low = λ bound all. omega arith;
-      looked = λ honest whole start. rw start (omega arith, λ k low. absurd (omega (arith, low)), refl, λ less. absurd (cc less));
-    }
+loop-more-init g c = record {
+  same = refl;
+  reads = refl;
+  width = refl;
+  behind = omega arith;
+  counted = let none : c.args.from - c.args.from ≡ 0 = omega arith in rw none (omega (arith, c.requires.some));
+  counted_more = λ _. let none : c.args.from - c.args.from ≡ 0 = omega arith in rw none (omega (arith, c.requires.some));
+  room = refl;
+  some = c.requires.some;
+  few = c.requires.few;
+  low = λ bound all. omega arith;
+  looked = λ honest whole start. rw start (omega arith, λ k low. absurd (omega (arith, low)), refl, λ less. absurd (cc less));
+  passed = λ honest whole within. (within, λ k on low. absurd (omega (arith, on, low)), λ less. absurd (cc less));
+}
 
 pub slice_bounds-buffer-end : goal.slice_bounds-buffer-end
 slice_bounds-buffer-end g c = let i = c.loop-more.invariant in omega (arith, i.few, i.room)
@@ -118,9 +118,16 @@ loop-more-preserved g c =
     let heights = c.args.self.now.heights.items in
     let best : c.max-best.result ≡ max c.loop-more.best c.in-Founded.height = grind (arith, common_steps) in
     let long : length c.read.new.block ≡ c.loop-more.portion = grind (arith, common_steps) in
+    let asked = rw i.width at c.in_ok-count.ensures.asks in
+    let scanned = scan_more _ _ _ c.args.from c.loop-more.done c.in_ok-count.count c.loop-more.portion c.min-portion.result (g.R.References.width c.args.graph.now)
+    (i.counted_more c.loop-more-test.true) asked i.behind (omega (arith, i.few, c.min-portion.ensures)) (omega (arith, i.some, i.few, c.min-portion.ensures)) in
     record {
       same = c.read.ensures.same ∙ i.same;
       reads = c.in_ok-count.ensures.reads ∙ i.reads;
+      width = c.read.ensures.width ∙ i.width;
+      behind = omega (arith, i.behind);
+      counted = scanned.0;
+      counted_more = λ full. scanned.1 (eqb-true c.in_ok-count.count c.loop-more.portion full);
       room = grind (arith, common_steps);
       some = omega (arith, i.some, c.min-portion.ensures);
       few = omega (arith, c.min-portion.ensures);
@@ -134,6 +141,15 @@ loop-more-preserved g c =
             best ∙ greatest_part heights _ _ _ _ _ _ o.0 part o.2 shows.1,
             λ less. let other : c.in_ok-count.count ≢ c.loop-more.portion = eqb-false _ _ less in omega (arith, part.0, long, other),
           );
+      passed = λ honest whole within.
+          let o = i.passed honest whole within in
+          let part = (rw (i.same, i.reads) at c.in_ok-count.ensures.value) honest whole in
+          let lent = length-take c.in_ok-count.count c.read.new.block in
+          let block = take c.in_ok-count.count c.read.new.block in (
+            omega (arith, o.0, part.0),
+            part_on _ _ _ _ part (λ m. state_at states m ≡ Founded) c.args.from c.in_ok-count.count (omega arith) o.1 (λ k low. c.in-Founded.ensures.passes k (omega arith) (omega (arith, low, lent, part.0))),
+            λ less. let other : c.in_ok-count.count ≢ c.loop-more.portion = eqb-false _ _ less in omega (arith, part.0, long, other),
+          );
     }
 
 pub returns-clause-same : goal.returns-clause-same
@@ -144,3 +160,79 @@ returns-clause-reads g c = c.loop-more.invariant.reads
 
 pub returns-clause-finds : goal.returns-clause-finds
 returns-clause-finds g c = c.loop-more.invariant.low
+
+pub returns-in_err-count-clause-width : goal.returns-in_err-count-clause-width
+returns-in_err-count-clause-width g c = c.read.ensures.width ∙ c.loop-more.invariant.width
+
+pub returns-in_err-count-clause-passes : goal.returns-in_err-count-clause-passes
+returns-in_err-count-clause-passes g c = λ honest whole within.
+    let p = err_from_is_err_and c.from_residual.result c.from_residual.ensures.1 in rw p.1 tt
+
+pub returns-in_err-count-clause-asks : goal.returns-in_err-count-clause-asks
+returns-in_err-count-clause-asks g c = λ honest whole within.
+    let p = err_from_is_err_and c.from_residual.result c.from_residual.ensures.1 in rw p.1 tt
+
+pub returns-in_err-count-clause-asks_any : goal.returns-in_err-count-clause-asks_any
+returns-in_err-count-clause-asks_any g c = λ honest whole within.
+    let i = c.loop-more.invariant in
+    let o = i.passed honest whole within in
+    scan_within _ _ c.args.from c.loop-more.done _ 460 (g.R.References.width c.args.graph.now) (omega (arith, i.counted_more c.loop-more-test.true, i.few, c.read.ensures.asks_any)) o.0 (omega arith)
+
+pub returns-in-New-clause-width : goal.returns-in-New-clause-width
+returns-in-New-clause-width g c = c.read.ensures.width ∙ c.loop-more.invariant.width
+
+pub returns-in-New-clause-passes : goal.returns-in-New-clause-passes
+returns-in-New-clause-passes g c = λ honest whole within.
+    let i = c.loop-more.invariant in
+    let part = (rw (i.same, i.reads) at c.in_ok-count.ensures.value) honest whole in
+    let shows = c.in-New.ensures.shows in
+    let lent = length-take c.in_ok-count.count c.read.new.block in
+    (omega (arith, i.behind), part_on _ _ _ _ part (λ m. state_at c.args.self.now.states.items m ≡ Founded) c.args.from c.in-New.k (omega (arith, shows.0, lent)) (i.passed honest whole within).1 (λ k low. c.in-New.ensures.passes.1 k (omega arith) low))
+
+pub returns-in-New-clause-asks : goal.returns-in-New-clause-asks
+returns-in-New-clause-asks g c = λ honest whole within.
+    let i = c.loop-more.invariant in
+    scan_within _ _ c.args.from c.loop-more.done (c.loop-more.done + c.in-New.k) 460 (g.R.References.width c.args.graph.now) (omega (arith, i.counted_more c.loop-more-test.true, i.few, c.read.ensures.asks_any)) (omega arith) (omega arith)
+
+pub returns-in-New-clause-asks_any : goal.returns-in-New-clause-asks_any
+returns-in-New-clause-asks_any g c = λ honest whole within.
+    let i = c.loop-more.invariant in
+    let o = i.passed honest whole within in
+    scan_within _ _ c.args.from c.loop-more.done _ 460 (g.R.References.width c.args.graph.now) (omega (arith, i.counted_more c.loop-more-test.true, i.few, c.read.ensures.asks_any)) o.0 (omega arith)
+
+pub returns-in-Circular-clause-width : goal.returns-in-Circular-clause-width
+returns-in-Circular-clause-width g c = c.read.ensures.width ∙ c.loop-more.invariant.width
+
+pub returns-in-Circular-clause-asks : goal.returns-in-Circular-clause-asks
+returns-in-Circular-clause-asks g c = λ honest whole within.
+    let i = c.loop-more.invariant in
+    let o = i.passed honest whole within in
+    let part = (rw (i.same, i.reads) at c.in_ok-count.ensures.value) honest whole in
+    let asked = rw i.width at c.in_ok-count.ensures.asks in
+    scan_within _ _ c.args.from (c.loop-more.done + c.in_ok-count.count) _ 204 (g.R.References.width c.args.graph.now) (scan_block _ _ _ c.args.from c.loop-more.done c.in_ok-count.count c.loop-more.portion (g.R.References.width c.args.graph.now) (i.counted_more c.loop-more-test.true) asked i.behind i.few) (omega (arith, o.0, part.0)) (omega arith)
+
+pub returns-in-Circular-clause-asks_any : goal.returns-in-Circular-clause-asks_any
+returns-in-Circular-clause-asks_any g c = λ honest whole within.
+    let i = c.loop-more.invariant in
+    let o = i.passed honest whole within in
+    scan_within _ _ c.args.from c.loop-more.done _ 460 (g.R.References.width c.args.graph.now) (omega (arith, i.counted_more c.loop-more-test.true, i.few, c.read.ensures.asks_any)) o.0 (omega arith)
+
+pub returns-clause-width : goal.returns-clause-width
+returns-clause-width g c = c.loop-more.invariant.width
+
+pub returns-clause-passes : goal.returns-clause-passes
+returns-clause-passes g c = λ honest whole within k on low.
+    let o = c.loop-more.invariant.passed honest whole within in
+    o.1 k on (omega (arith, low, o.2 c.loop-more-test.false))
+
+pub returns-clause-asks : goal.returns-clause-asks
+returns-clause-asks g c = λ honest whole within.
+    let i = c.loop-more.invariant in
+    let o = i.passed honest whole within in
+    scan_within _ _ c.args.from c.loop-more.done _ 204 (g.R.References.width c.args.graph.now) (omega (arith, i.counted, i.few)) o.0 (omega arith)
+
+pub returns-clause-asks_any : goal.returns-clause-asks_any
+returns-clause-asks_any g c = λ honest whole within.
+    let i = c.loop-more.invariant in
+    let o = i.passed honest whole within in
+    scan_within _ _ c.args.from c.loop-more.done _ 204 (g.R.References.width c.args.graph.now) (omega (arith, i.counted, i.few)) o.0 (omega arith)

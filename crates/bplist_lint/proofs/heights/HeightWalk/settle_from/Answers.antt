@@ -1,8 +1,9 @@
-use Rattle.std.proofs.Common.{◌≡◌, ◌≢◌, ◌<◌, ℕ, ◌++◌, ◌∷◌, [], length, get_or, refl, ◌∙◌, arith}
+use Rattle.std.proofs.Common.{◌≡◌, ◌≢◌, ◌<◌, ◌+◌, ℕ, ◌++◌, ◌∷◌, [], length, get_or, refl, sym, ◌∙◌, arith}
 use Rattle.std.proofs.lemmas.Grind.{common_steps}
-use Rattle.std.proofs.lemmas.List.{get_or_push, length_push, get_or-set_other}
+use Rattle.std.proofs.lemmas.List.{get_or_push, length_push, get_or-set_same, get_or-set_other}
 use Rattle.bplist_lint.specs.declared.heights.State.TheVariants.{Open, Founded, Circular}
-use Rattle.bplist_lint.proofs.HeightSteps.{work, stays_known, top_within, top_room, top_marked, standing_back, standing_open, standing_settle, work_settle, walking_back, walking_open, walking_settle, not_founded, least_height, among_at}
+use Rattle.bplist_lint.proofs.HeightCosts.{no_height, met_open, met_settle, met_on, left_settle, left_first, left_on, left_open}
+use Rattle.bplist_lint.proofs.HeightSteps.{work, stays_known, top_open, top_within, top_room, top_marked, standing_back, standing_open, standing_settle, work_settle, walking_back, walking_open, walking_settle, not_founded, least_height, among_at}
 use Rattle.bplist_lint.proofs.heights.HeightWalk.settle_from.Goals as goal
 
 pub look_on-requires-clause-n_in : goal.look_on-requires-clause-n_in
@@ -26,10 +27,27 @@ loop-m-preserved-in-Continue-branch-5 g c =
     let within : next < length states = omega (arith, new.0, s.all_states) in
     let heights' = c.open-in-New-2.new.self.heights.items in
     let long : length heights' ≡ length heights = grind (arith, common_steps) in
-    let others : (k : ℕ) → k ≢ m → get_or heights' k 0 ≡ get_or heights k 0 = λ k ne. rw c.open-in-New-2.ensures.heights (get_or-set_other heights m k c.min.result 0 ne) in
+    let others : (k : ℕ) → k ≢ m → get_or heights' k 0 ≡ get_or heights k 0 = λ k ne. rw c.open-in-New-2.ensures.heights (get_or-set_other heights m k (c.min.result + 1) 0 ne) in
     record {
       same = c.look_on.ensures.same ∙ i.same;
       reads = c.in_ok-i.ensures.reads ∙ i.reads;
+      width = c.look_on.ensures.width ∙ i.width;
+      costs = λ honest marks closed marked w0 few.
+          let both = i.costs honest marks closed marked w0 few in
+          let w = rw c.in-Some.ensures.items at (i.walking honest marks closed marked w0) in
+          let m_marked = top_marked _ _ _ _ _ _ m s w in
+          let whole = closed m m_marked in
+          let opened = top_open _ _ _ _ m s in
+          let met = both.0 m opened in
+          let shows = rw c.in-New-2.is at ((rw (i.same, i.reads) at c.in_ok-i.ensures.shows) honest whole.0) in
+          let goes = rw c.in-New-2.is at ((rw (i.same, i.reads) at c.in_ok-i.ensures.goes_on) honest whole.0 met) in
+          let asked = rw c.in-New-2.is at ((rw (i.same, i.reads, i.width) at c.in_ok-i.ensures.asks) honest whole.0 met) in
+          let m_low = top_within _ _ _ _ _ s in
+          let slot : get_or heights' m 0 ≡ c.in-New-2.i + 1 = rw (c.open-in-New-2.ensures.heights, get_or-set_same heights m (c.min.result + 1) 0 (omega (arith, m_low, s.all_heights))) (omega (arith, c.min.ensures, shows.0, few m m_marked)) in
+          let zero_slot = no_height _ _ _ _ s next new.1 in
+          let other : next ≢ m = λ e. absurd (cc (sym new.1 ∙ (rw (← e) at opened))) in
+          let left = left_on (g.R.References.width c.args.graph.now) (g.R.References.graph c.args.graph.now).refs marks (g.R.References.graph c.args.graph.now).size states heights heights' m c.in-New-2.i next m_low new.0 s.all_states m_marked (rw shows.1 (whole.1 _ shows.0)) opened new.1 shows.0 goes.0 slot others zero_slot other in
+          rw c.open-in-New-2.ensures.states (met_on _ states heights heights' m c.in-New-2.i next both.0 within zero_slot shows.0 shows.1 goes.1 slot others, omega (arith, both.1, asked, left));
       standing = rw (c.open-in-New-2.ensures.states, c.in_ok-open-in-New-2.ensures.stack, c.in_ok-push-in-New-2.ensures.items)
           (standing_open _ _ _ _ next (standing_back _ _ _ _ _ s heights' long others) new.0 new.1);
       settles = record {
@@ -67,6 +85,16 @@ loop-m-preserved-in-Circular g c =
     record {
       same = c.look_on.ensures.same ∙ i.same;
       reads = c.in_ok-i.ensures.reads ∙ i.reads;
+      width = c.look_on.ensures.width ∙ i.width;
+      costs = λ honest marks closed marked w0 few.
+          let both = i.costs honest marks closed marked w0 few in
+          let w = rw c.in-Some.ensures.items at (i.walking honest marks closed marked w0) in
+          let m_marked = top_marked _ _ _ _ _ _ m s w in
+          let whole = closed m m_marked in
+          let opened = top_open _ _ _ _ m s in
+          let asked = rw c.in-Circular.is at ((rw (i.same, i.reads, i.width) at c.in_ok-i.ensures.asks) honest whole.0 (both.0 m opened)) in
+          let left = left_settle (g.R.References.width c.args.graph.now) (g.R.References.graph c.args.graph.now).refs marks (g.R.References.graph c.args.graph.now).size states c.loop-m.self.heights.items m 0 Circular (top_within _ _ _ _ _ s) s.all_states s.all_heights m_marked opened (λ slot count. refl) in
+          rw (c.settle.ensures.states, c.settle.ensures.heights) (met_settle _ states c.loop-m.self.heights.items m 0 Circular both.0 within (λ e. cc e) (λ e. cc e), omega (arith, both.1, asked, left));
       standing = rw (c.settle.ensures.states, c.settle.ensures.heights, c.settle.ensures.stack)
           (standing_settle _ _ _ _ m s Circular 0 (λ e. cc e) refl (λ e. cc e) (λ h. absurd (omega arith)));
       settles = record {
@@ -111,6 +139,16 @@ loop-m-preserved g c =
     record {
       same = c.look_on.ensures.same ∙ i.same;
       reads = c.in_ok-i.ensures.reads ∙ i.reads;
+      width = c.look_on.ensures.width ∙ i.width;
+      costs = λ honest marks closed marked w0 few.
+          let both = i.costs honest marks closed marked w0 few in
+          let w = rw c.in-Some.ensures.items at (i.walking honest marks closed marked w0) in
+          let m_marked = top_marked _ _ _ _ _ _ m s w in
+          let whole = closed m m_marked in
+          let opened = top_open _ _ _ _ m s in
+          let asked = rw c.in-Founded.is at ((rw (i.same, i.reads, i.width) at c.in_ok-i.ensures.asks) honest whole.0 (both.0 m opened)) in
+          let left = left_settle (g.R.References.width c.args.graph.now) (g.R.References.graph c.args.graph.now).refs marks (g.R.References.graph c.args.graph.now).size states c.loop-m.self.heights.items m (c.in-Founded.best + 1) Founded (top_within _ _ _ _ _ s) s.all_states s.all_heights m_marked opened (λ slot count. refl) in
+          rw (settled.states, settled.heights) (met_settle _ states c.loop-m.self.heights.items m (c.in-Founded.best + 1) Founded both.0 within (λ e. cc e) (λ e. cc e), omega (arith, both.1, asked, left));
       standing = rw (settled.states, settled.heights, settled.stack)
           (standing_settle _ _ _ _ m s Founded _ (λ e. cc e) refl (λ _. omega (arith, low)) (λ _. refl));
       settles = record {
