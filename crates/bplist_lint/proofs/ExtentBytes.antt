@@ -1,8 +1,10 @@
 -- What objects take bounds what is read of them.
 use Rattle.std.proofs.Common.{◌≡◌, ℕ, zero, suc, ◌+◌, ◌-◌, ◌*◌, ◌<◌, ◌≤◌, ◌↔◌, Bool, true, false, List, refl, sym, ap, ◌∙◌, subst, arith}
+use Rattle.std.proofs.Math.Nat.{mul-le-mul_right}
 use Rattle.std.proofs.lemmas.Bool.{false≢true}
 use Rattle.bplist_objects.specs.declared.frame.Frame.{Frame}
 use Rattle.bplist_objects.specs.declared.head.Head.{Head}
+use Rattle.bplist_objects.specs.declared.head.Kind.TheVariants.{Dict}
 use Rattle.bplist_objects.specs.Extents.{Sums}
 use Rattle.bplist_objects.specs.Frame.{off, IsFrame}
 use Rattle.bplist_objects.specs.Heads.{HasShape}
@@ -33,6 +35,13 @@ module _ (f : List ℕ) (F : Frame) where
   refs_bytes n head low shape =
       let fit = refs_fit F.ref_size head.count head.kind low in
       omega (arith, fit.0, shape.has.body, shape.has.ends, extent_is n head shape)
+
+  -- and so are those to keys
+  pub keys_bytes : (n : ℕ) (head : Head) → 1 ≤ F.ref_size → head.kind ≡ Dict → HasShape f F n head → head.count * F.ref_size ≤ extent f F n
+  keys_bytes n head low dict shape =
+      let two : ref_count head.kind head.count ≡ 2 * head.count = ap (λ kind. ref_count kind head.count) dict in
+      let most : head.count * F.ref_size ≤ ref_count head.kind head.count * F.ref_size = mul-le-mul_right F.ref_size (omega (arith, two)) in
+      omega (arith, most, refs_bytes n head low shape)
 
   module _ (marks : List Bool) (sound : AreSound f F marks) (marked : (n : ℕ) → IsMarked marks n ↔ Reach f F n) where
     -- a marked object has a head
