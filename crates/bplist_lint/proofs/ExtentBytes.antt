@@ -54,19 +54,16 @@ module _ (f : List ℕ) (F : Frame) where
     -- the marked objects below n take this many bytes
     sums_at : (n : ℕ) → n ≤ F.objects → Sums f F (Reach f F) n (extents_below f F (is_marked marks) n)
     sums_at zero low = sums_none f F (Reach f F)
-    sums_at (suc n) low = go (is_marked marks n) refl
+    sums_at (suc n) low = go (sums_at n (omega (arith, low))) (is_marked marks n) refl
       where
-        before : Sums f F (Reach f F) n (extents_below f F (is_marked marks) n)
-        before = sums_at n (omega (arith, low))
-
-        go : (b : Bool) → is_marked marks n ≡ b → Sums f F (Reach f F) (suc n) (extents_below f F (is_marked marks) (suc n))
-        go true e =
+        go : Sums f F (Reach f F) n (extents_below f F (is_marked marks) n) → (b : Bool) → is_marked marks n ≡ b → Sums f F (Reach f F) (suc n) (extents_below f F (is_marked marks) (suc n))
+        go before true e =
             let shape = shape_of n (omega (arith, low)) e in
             let bytes = shape.0.«end» - off f F n in
             let next = rw e at (extents_next f F (is_marked marks) n) in
             let both : extents_below f F (is_marked marks) n + bytes ≡ extents_below f F (is_marked marks) (suc n) = omega (arith, next, extent_is n shape.0 shape.1) in
             subst (Sums f F (Reach f F) (suc n)) both (sums_more f F (Reach f F) n bytes (extents_below f F (is_marked marks) n) ((marked n).0 e) (shape_extent f F n shape.0 shape.1) before)
-        go false e =
+        go before false e =
             let next = rw e at (extents_next f F (is_marked marks) n) in
             let same : extents_below f F (is_marked marks) n ≡ extents_below f F (is_marked marks) (suc n) = omega (arith, next) in
             subst (Sums f F (Reach f F) (suc n)) same (sums_same f F (Reach f F) n (extents_below f F (is_marked marks) n) (λ r. false≢true (sym e ∙ (marked n).1 r)) before)

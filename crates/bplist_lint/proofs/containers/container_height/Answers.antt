@@ -31,7 +31,7 @@ loop-done-preserved g c =
     let low : done + now ≤ ref_count head.kind head.count = omega (arith, c.min-now.ensures, c.refs_of-refs.ensures, i.within) in
     record {
       reads = c.in_ok-read_refs_in.ensures.reads ∙ i.reads;
-      asked = asked_on (g.P.Source.asked c.args.src.now + 36) _ _ done now F.ref_size i.asked (rw (i.reads, long) at c.read_refs_in.ensures.asks);
+      asked = asked_on (g.P.Source.asked c.args.src.now + 36) _ _ done now F.ref_size i.asked (rw i.reads at c.read_refs_in.ensures.asks);
       room = room;
       within = omega (arith, low, c.refs_of-refs.ensures);
       same = c.are_new.ensures.same ∙ i.same;
@@ -86,8 +86,7 @@ returns-in_err-read_refs_in-clause-asks g c = λ honest.
     let done = c.loop-done.done in
     let now = c.min-now.result in
     let low : done + now ≤ ref_count head.kind head.count = omega (arith, c.min-now.ensures, c.refs_of-refs.ensures, i.within) in
-    let long : length c.read_refs_in.new.into ≡ now = grind (arith, common_steps) in
-    let read = asked_on start _ _ done now F.ref_size i.asked (rw (i.reads, long) at c.read_refs_in.ensures.asks) in
+    let read = asked_on start _ _ done now F.ref_size i.asked (rw i.reads at c.read_refs_in.ensures.asks) in
     let all = asked_within start _ (done + now) (ref_count head.kind head.count) F.ref_size read low in
     omega (arith, all, fit)
 
@@ -103,13 +102,12 @@ returns-then-not-are_new-clause-asks g c = λ honest.
     let done = c.loop-done.done in
     let now = c.min-now.result in
     let low : done + now ≤ ref_count head.kind head.count = omega (arith, c.min-now.ensures, c.refs_of-refs.ensures, i.within) in
-    let long : length c.read_refs_in.new.into ≡ now = grind (arith, common_steps) in
-    let read = asked_on start _ _ done now F.ref_size i.asked (rw (i.reads, long) at c.read_refs_in.ensures.asks) in
+    let read = asked_on start _ _ done now F.ref_size i.asked (rw i.reads at c.read_refs_in.ensures.asks) in
     let all = asked_within start _ (done + now) (ref_count head.kind head.count) F.ref_size read low in
     omega (arith, all, fit)
 
-pub returns-in_default-2-clause-asks : goal.returns-in_default-2-clause-asks
-returns-in_default-2-clause-asks g c = λ honest.
+pub returns-in_default-greatest_height-clause-asks : goal.returns-in_default-greatest_height-clause-asks
+returns-in_default-greatest_height-clause-asks g c = λ honest.
     let i = c.loop-done.invariant in
     let f = (g.P.Source.means c.args.src.now).octets in
     let F : Frame = frame_in (g.P.Source.means c.args.src.now) in
@@ -120,8 +118,7 @@ returns-in_default-2-clause-asks g c = λ honest.
     let done = c.loop-done.done in
     let now = c.min-now.result in
     let low : done + now ≤ ref_count head.kind head.count = omega (arith, c.min-now.ensures, c.refs_of-refs.ensures, i.within) in
-    let long : length c.read_refs_in.new.into ≡ now = grind (arith, common_steps) in
-    let read = asked_on start _ _ done now F.ref_size i.asked (rw (i.reads, long) at c.read_refs_in.ensures.asks) in
+    let read = asked_on start _ _ done now F.ref_size i.asked (rw i.reads at c.read_refs_in.ensures.asks) in
     let all = asked_within start _ (done + now) (ref_count head.kind head.count) F.ref_size read low in
     omega (arith, all, fit)
 
