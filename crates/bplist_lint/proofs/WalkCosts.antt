@@ -115,3 +115,10 @@ module _ (f : List ℕ) (F : Frame) (view : View) (low : 1 ≤ F.ref_size) where
             let own : term n ≡ 0 = ap (λ b. cond b (292 + length (refs_in view f F n) * (3 + F.ref_size)) 0) e in
             let more : trail_bytes F.ref_size (refs_in view f F) marks (suc n) ≡ trail_bytes F.ref_size (refs_in view f F) marks n + term n = sum_next term n in
             omega (arith, before, next, more, own)
+
+-- what is asked for at most, if that is bounded
+pub left_within : (before after some most : ℕ) → after ≤ before + (292 + some) → some ≤ most → after ≤ before + (292 + most)
+left_within before after some most asked less = omega (arith, asked, less)
+
+pub trail_within : (before after some most : ℕ) → after ≤ before + some → some ≤ most → after ≤ before + most
+trail_within before after some most asked less = omega (arith, asked, less)

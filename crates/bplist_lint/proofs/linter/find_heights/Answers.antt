@@ -1,14 +1,11 @@
-use Rattle.std.proofs.Common.{◌+◌, ◌≤◌, map, arith}
-use Rattle.std.specs.Int.{from_bool}
+use Rattle.std.proofs.Common.{arith}
 use Rattle.bplist_objects.specs.declared.frame.Frame.{Frame}
 use Rattle.bplist_objects.specs.Framed.{frame_in}
-use Rattle.bplist_lint.specs.HeightWalks.{first_state, left_below}
-use Rattle.bplist_lint.specs.ReferenceGraph.{refs_in}
 use Rattle.bplist_lint.specs.declared.graph.View.TheVariants as views
 use Rattle.bplist_lint.proofs.ObjectReferences.{none_in_view}
 use Rattle.bplist_lint.proofs.ValueHeights.{all_closed, are_least_all}
 use Rattle.bplist_lint.proofs.KeyClasses.{reached_sound}
-use Rattle.bplist_lint.proofs.WalkCosts.{shown_fit, heights_left}
+use Rattle.bplist_lint.proofs.WalkCosts.{shown_fit, heights_left, left_within}
 use Rattle.bplist_lint.proofs.linter.find_heights.Goals as goal
 
 pub returns-clause-exact : goal.returns-clause-exact
@@ -28,9 +25,9 @@ returns-in_err-least_heights-clause-asks g c = λ honest kept marked.
     let sound = reached_sound f F c.args.marks.now c.requires.marks framed marked kept in
     let few = shown_fit f F views.Values safe.safe.ref_low c.args.marks.now c.requires.marks sound marked safe.small in
     let left = heights_left f F views.Values safe.safe.ref_low c.args.marks.now c.requires.marks sound marked c.args.childless.now F.objects (omega arith) in
-    let asked : g.P.Source.asked c.least_heights.new.graph.source.now ≤ g.P.Source.asked c.new-objects.result.source.now + (292 + left_below F.ref_size (refs_in views.Values f F) c.args.marks.now (map first_state c.args.childless.now) (map from_bool c.args.childless.now) F.objects) =
-    (rw (c.new-objects.ensures.means, c.new-objects.ensures.view) at c.least_heights.ensures.asks) honest (all_closed f F framed kept c.args.marks.now marked views.Values) (λ n m. let b = c.requires.childless honest n m in ((marked n).1 b.0, none_in_view f F n views.Values b.1)) few in
-    omega (arith, asked, left, c.new-objects.ensures.asked)
+    let asked = (rw (c.new-objects.ensures.means, c.new-objects.ensures.view) at c.least_heights.ensures.asks) honest (all_closed f F framed kept c.args.marks.now marked views.Values) (λ n m. let b = c.requires.childless honest n m in ((marked n).1 b.0, none_in_view f F n views.Values b.1)) few in
+    let told = left_within _ _ _ _ asked left in
+    omega (arith, told, c.new-objects.ensures.asked)
 
 pub returns-clause-asks : goal.returns-clause-asks
 returns-clause-asks g c = λ honest kept marked.
@@ -41,6 +38,6 @@ returns-clause-asks g c = λ honest kept marked.
     let sound = reached_sound f F c.args.marks.now c.requires.marks framed marked kept in
     let few = shown_fit f F views.Values safe.safe.ref_low c.args.marks.now c.requires.marks sound marked safe.small in
     let left = heights_left f F views.Values safe.safe.ref_low c.args.marks.now c.requires.marks sound marked c.args.childless.now F.objects (omega arith) in
-    let asked : g.P.Source.asked c.least_heights.new.graph.source.now ≤ g.P.Source.asked c.new-objects.result.source.now + (292 + left_below F.ref_size (refs_in views.Values f F) c.args.marks.now (map first_state c.args.childless.now) (map from_bool c.args.childless.now) F.objects) =
-    (rw (c.new-objects.ensures.means, c.new-objects.ensures.view) at c.least_heights.ensures.asks) honest (all_closed f F framed kept c.args.marks.now marked views.Values) (λ n m. let b = c.requires.childless honest n m in ((marked n).1 b.0, none_in_view f F n views.Values b.1)) few in
-    omega (arith, asked, left, c.new-objects.ensures.asked)
+    let asked = (rw (c.new-objects.ensures.means, c.new-objects.ensures.view) at c.least_heights.ensures.asks) honest (all_closed f F framed kept c.args.marks.now marked views.Values) (λ n m. let b = c.requires.childless honest n m in ((marked n).1 b.0, none_in_view f F n views.Values b.1)) few in
+    let told = left_within _ _ _ _ asked left in
+    omega (arith, told, c.new-objects.ensures.asked)

@@ -1,4 +1,4 @@
-use Rattle.std.proofs.Common.{◌≡◌, ◌+◌, ◌≤◌, ◌<◌, length, slice_index, arith}
+use Rattle.std.proofs.Common.{◌≡◌, ◌<◌, length, slice_index, arith}
 use Rattle.std.proofs.lemmas.Grind.{common_steps}
 use Rattle.std.proofs.lemmas.List.{get_or_read}
 use Rattle.std.proofs.lemmas.Result.{err_from_is_err_and}
@@ -6,14 +6,12 @@ use Rattle.bplist_objects.specs.declared.frame.Frame.{Frame}
 use Rattle.bplist_objects.specs.Answers.{Never}
 use Rattle.bplist_objects.specs.Framed.{frame_in}
 use Rattle.bplist_lint.specs.FileFault.{IsFileCircle}
-use Rattle.bplist_lint.specs.ReferenceGraph.{refs_in}
-use Rattle.bplist_lint.specs.Trail.{trail_bytes}
 use Rattle.bplist_lint.specs.declared.graph.View.TheVariants as views
 use Rattle.bplist_lint.proofs.Passes.{check_means, linted_yes, circled}
 use Rattle.bplist_lint.proofs.ReferenceGraph.{reach_iff}
 use Rattle.bplist_lint.proofs.ValueHeights.{all_whole}
 use Rattle.bplist_lint.proofs.KeyClasses.{reached_sound}
-use Rattle.bplist_lint.proofs.WalkCosts.{trail_few}
+use Rattle.bplist_lint.proofs.WalkCosts.{trail_few, trail_within}
 use Rattle.bplist_lint.proofs.linter.heights_or_circle.Goals as goal
 
 pub returns-in_err-heights-clause-exact : goal.returns-in_err-heights-clause-exact
@@ -79,9 +77,9 @@ returns-in_err-circle-clause-asks g c = λ honest.
     let sound = reached_sound f F marks all framed s.walked.marked s.walked.tallied.kept in
     let few = trail_few f F views.All safe.safe.ref_low marks all sound s.walked.marked F.objects (omega arith) in
     let first = (rw c.deref.ensures.value at c.in_ok-heights.ensures.asks) honest s.walked.tallied.kept s.walked.marked in
-    let asked : g.P.Source.asked c.circle.new.graph.source.now ≤ g.P.Source.asked c.new-objects.result.source.now + trail_bytes F.ref_size (refs_in views.All f F) marks F.objects =
-    (rw (c.new-objects.ensures.means, c.new-objects.ensures.view, c.in_ok-heights.ensures.reads, c.frame-frame.ensures.frame) at c.circle.ensures.asks) honest (λ n r. all_whole f F framed s.walked.tallied.kept views.All n ((reach_iff f F n).0 r)) marks (λ n r. (s.walked.marked n).1 ((reach_iff f F n).0 r)) in
-    omega (arith, first, few, asked, c.new-objects.ensures.asked)
+    let asked = (rw (c.new-objects.ensures.means, c.new-objects.ensures.view, c.in_ok-heights.ensures.reads, c.frame-frame.ensures.frame) at c.circle.ensures.asks) honest (λ n r. all_whole f F framed s.walked.tallied.kept views.All n ((reach_iff f F n).0 r)) marks (λ n r. (s.walked.marked n).1 ((reach_iff f F n).0 r)) in
+    let told = trail_within _ _ _ _ asked few in
+    omega (arith, first, told, c.new-objects.ensures.asked)
 
 pub returns-then-index-eq0-clause-asks : goal.returns-then-index-eq0-clause-asks
 returns-then-index-eq0-clause-asks g c = λ honest.
@@ -95,9 +93,9 @@ returns-then-index-eq0-clause-asks g c = λ honest.
     let sound = reached_sound f F marks all framed s.walked.marked s.walked.tallied.kept in
     let few = trail_few f F views.All safe.safe.ref_low marks all sound s.walked.marked F.objects (omega arith) in
     let first = (rw c.deref.ensures.value at c.in_ok-heights.ensures.asks) honest s.walked.tallied.kept s.walked.marked in
-    let asked : g.P.Source.asked c.circle.new.graph.source.now ≤ g.P.Source.asked c.new-objects.result.source.now + trail_bytes F.ref_size (refs_in views.All f F) marks F.objects =
-    (rw (c.new-objects.ensures.means, c.new-objects.ensures.view, c.in_ok-heights.ensures.reads, c.frame-frame.ensures.frame) at c.circle.ensures.asks) honest (λ n r. all_whole f F framed s.walked.tallied.kept views.All n ((reach_iff f F n).0 r)) marks (λ n r. (s.walked.marked n).1 ((reach_iff f F n).0 r)) in
-    omega (arith, first, few, asked, c.new-objects.ensures.asked)
+    let asked = (rw (c.new-objects.ensures.means, c.new-objects.ensures.view, c.in_ok-heights.ensures.reads, c.frame-frame.ensures.frame) at c.circle.ensures.asks) honest (λ n r. all_whole f F framed s.walked.tallied.kept views.All n ((reach_iff f F n).0 r)) marks (λ n r. (s.walked.marked n).1 ((reach_iff f F n).0 r)) in
+    let told = trail_within _ _ _ _ asked few in
+    omega (arith, first, told, c.new-objects.ensures.asked)
 
 pub returns-clause-asks : goal.returns-clause-asks
 returns-clause-asks g c = λ honest.
