@@ -117,8 +117,8 @@ module _ (f : List ℕ) (F : Frame) (view : View) (low : 1 ≤ F.ref_size) where
             omega (arith, before, next, more, own)
 
 -- what is asked for at most, if that is bounded
-pub left_within : (before after some most : ℕ) → after ≤ before + (292 + some) → some ≤ most → after ≤ before + (292 + most)
-left_within before after some most asked less = omega (arith, asked, less)
+pub left_within : (start before after some most : ℕ) → before ≡ start → after ≤ before + (292 + some) → some ≤ most → after ≤ start + (292 + most)
+left_within start before after some most same asked less = omega (arith, same, asked, less)
 
-pub trail_within : (before after some most : ℕ) → after ≤ before + some → some ≤ most → after ≤ before + most
-trail_within before after some most asked less = omega (arith, asked, less)
+pub trail_within : (start before after some most : ℕ) → before ≡ start → after ≤ before + some → some ≤ most → after ≤ start + most
+trail_within start before after some most same asked less = omega (arith, same, asked, less)

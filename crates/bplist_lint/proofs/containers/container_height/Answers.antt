@@ -1,4 +1,4 @@
-use Rattle.std.proofs.Common.{◌≡◌, ℕ, ◌+◌, ◌<◌, ◌≤◌, ◌++◌, min, None, List, length, drop, slice_index, refl, ◌∙◌, inl, inr, ap, subst, arith}
+use Rattle.std.proofs.Common.{◌≡◌, ℕ, ◌+◌, ◌<◌, ◌≤◌, ◌++◌, min, None, List, length, take, drop, slice_index, refl, ◌∙◌, inl, inr, ap, subst, arith}
 use Rattle.std.proofs.lemmas.Grind.{common_steps}
 use Rattle.std.proofs.lemmas.List.{get_or_append_left}
 use Rattle.bplist_objects.specs.declared.frame.Frame.{Frame}
@@ -28,10 +28,11 @@ loop-done-preserved g c =
     let block : List ℕ = into ++ drop now c.loop-done.block in
     let long : length into ≡ now = grind (arith, common_steps) in
     let room : length block ≡ length c.args.block.now = grind (arith, common_steps) in
+    let short : length (take now c.loop-done.block) ≡ now = grind (arith, common_steps) in
     let low : done + now ≤ ref_count head.kind head.count = omega (arith, c.min-now.ensures, c.refs_of-refs.ensures, i.within) in
     record {
       reads = c.in_ok-read_refs_in.ensures.reads ∙ i.reads;
-      asked = asked_on (g.P.Source.asked c.args.src.now + 36) _ _ done now F.ref_size i.asked (rw i.reads at c.read_refs_in.ensures.asks);
+      asked = asked_on (g.P.Source.asked c.args.src.now + 36) _ _ done now F.ref_size i.asked (rw (i.reads, short) at c.read_refs_in.ensures.asks);
       room = room;
       within = omega (arith, low, c.refs_of-refs.ensures);
       same = c.are_new.ensures.same ∙ i.same;
@@ -85,8 +86,9 @@ returns-in_err-read_refs_in-clause-asks g c = λ honest.
     let start = g.P.Source.asked c.args.src.now + 36 in
     let done = c.loop-done.done in
     let now = c.min-now.result in
+    let short : length (take now c.loop-done.block) ≡ now = grind (arith, common_steps) in
     let low : done + now ≤ ref_count head.kind head.count = omega (arith, c.min-now.ensures, c.refs_of-refs.ensures, i.within) in
-    let read = asked_on start _ _ done now F.ref_size i.asked (rw i.reads at c.read_refs_in.ensures.asks) in
+    let read = asked_on start _ _ done now F.ref_size i.asked (rw (i.reads, short) at c.read_refs_in.ensures.asks) in
     let all = asked_within start _ (done + now) (ref_count head.kind head.count) F.ref_size read low in
     omega (arith, all, fit)
 
@@ -101,8 +103,9 @@ returns-then-not-are_new-clause-asks g c = λ honest.
     let start = g.P.Source.asked c.args.src.now + 36 in
     let done = c.loop-done.done in
     let now = c.min-now.result in
+    let short : length (take now c.loop-done.block) ≡ now = grind (arith, common_steps) in
     let low : done + now ≤ ref_count head.kind head.count = omega (arith, c.min-now.ensures, c.refs_of-refs.ensures, i.within) in
-    let read = asked_on start _ _ done now F.ref_size i.asked (rw i.reads at c.read_refs_in.ensures.asks) in
+    let read = asked_on start _ _ done now F.ref_size i.asked (rw (i.reads, short) at c.read_refs_in.ensures.asks) in
     let all = asked_within start _ (done + now) (ref_count head.kind head.count) F.ref_size read low in
     omega (arith, all, fit)
 
@@ -117,8 +120,9 @@ returns-in_default-greatest_height-clause-asks g c = λ honest.
     let start = g.P.Source.asked c.args.src.now + 36 in
     let done = c.loop-done.done in
     let now = c.min-now.result in
+    let short : length (take now c.loop-done.block) ≡ now = grind (arith, common_steps) in
     let low : done + now ≤ ref_count head.kind head.count = omega (arith, c.min-now.ensures, c.refs_of-refs.ensures, i.within) in
-    let read = asked_on start _ _ done now F.ref_size i.asked (rw i.reads at c.read_refs_in.ensures.asks) in
+    let read = asked_on start _ _ done now F.ref_size i.asked (rw (i.reads, short) at c.read_refs_in.ensures.asks) in
     let all = asked_within start _ (done + now) (ref_count head.kind head.count) F.ref_size read low in
     omega (arith, all, fit)
 

@@ -71,7 +71,7 @@ returns-in_err-mark_block-clause-asks g c =
     let fit = refs_fit F.ref_size h.count h.kind c.frame-frame.ensures.framed.safe.safe.ref_low in
     let block = block_is i.reads i.of c.block-block.ensures (c.in_ok-read.ensures.next c.if-branch.true) in
     let read = rw i.reads at c.in_ok-read.ensures.asks_block in
-    let all = asked_within (g.P.Source.asked c.args.src.now) _ c.read.new.self.next (ref_count h.kind h.count) F.ref_size (omega (arith, i.asked, read)) block.within in
+    let all = asked_within (g.P.Source.asked c.args.src.now) (g.P.Source.asked c.read.new.src) c.read.new.self.next (ref_count h.kind h.count) F.ref_size (omega (arith, i.asked, read)) block.within in
     omega (arith, all, fit.0, c.requires.head.body)
 
 pub returns-clause-asks : goal.returns-clause-asks
