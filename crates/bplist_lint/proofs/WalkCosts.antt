@@ -117,8 +117,10 @@ module _ (f : List ℕ) (F : Frame) (view : View) (low : 1 ≤ F.ref_size) where
             omega (arith, before, next, more, own)
 
 -- what is asked for at most, if that is bounded
-pub left_within : (start before after some most : ℕ) → before ≡ start → after ≤ before + (292 + some) → some ≤ most → after ≤ start + (292 + most)
-left_within start before after some most same asked less = omega (arith, same, asked, less)
+pub left_within : (start before after some objects bytes : ℕ) → before ≡ start → after ≤ before + (292 + some) → some ≤ 868 * objects + 8 * bytes
+    → after ≤ start + (292 + 868 * objects + 8 * bytes)
+left_within start before after some objects bytes same asked less = omega (arith, same, asked, less)
 
-pub trail_within : (start before after some most : ℕ) → before ≡ start → after ≤ before + some → some ≤ most → after ≤ start + most
-trail_within start before after some most same asked less = omega (arith, same, asked, less)
+pub trail_within : (start middle before after some objects bytes : ℕ) → middle ≤ start + (292 + 868 * objects + 8 * bytes) → before ≡ middle → after ≤ before + some
+    → some ≤ 292 * objects + 4 * bytes → after ≤ start + (292 + 1160 * objects + 12 * bytes)
+trail_within start middle before after some objects bytes first same asked less = omega (arith, first, same, asked, less)
