@@ -23,7 +23,7 @@ sum_raised g h i (suc n) low more same = elim (cases_lt i n) [
 ]
 
 -- the bit of a number
-bit : List ℕ → ℕ → ℕ
+abbrev bit : List ℕ → ℕ → ℕ
 bit words k = bit_at (slice_index words (k / 64)) (k % 64)
 
 bit_small : (words : List ℕ) (k : ℕ) → bit words k < 2
@@ -40,11 +40,11 @@ count_few words (suc n) =
 pub count_more : (old new : List ℕ) (i n : ℕ) → i < n → (IsIn old i → ⊥) → IsIn new i → ((k : ℕ) → IsIn old k → IsIn new k) → ((k : ℕ) → IsIn new k → IsIn old k ⊎ (k ≡ i))
     → count_in new n ≡ count_in old n + 1
 count_more old new i n low outside here keeps only =
-    let none : bit old i ≡ 0 = elim (cases_eq (bit old i) 1) [ inl is ↦ absurd (outside is) | inr no ↦ omega (arith, no, bit_small old i) ] in
+    let none : bit old i ≡ 0 = elim (cases_eq (bit old i) 1) [ inl is ↦ absurd (outside is) | inr ne ↦ omega (arith, ne, bit_small old i) ] in
     sum_raised (bit old) (bit new) i n low (omega (arith, none, here)) (λ k other. elim (cases_eq (bit old k) 1) [
       | inl is ↦ omega (arith, is, keeps k is)
-      | inr no ↦ elim (cases_eq (bit new k) 1) [
-        | inl now ↦ elim (only k now) [ inl was ↦ absurd (no was) | inr e ↦ absurd (other e) ]
-        | inr not_now ↦ omega (arith, no, not_now, bit_small old k, bit_small new k)
+      | inr ne ↦ elim (cases_eq (bit new k) 1) [
+        | inl now ↦ elim (only k now) [ inl was ↦ absurd (ne was) | inr e ↦ absurd (other e) ]
+        | inr not_now ↦ omega (arith, ne, not_now, bit_small old k, bit_small new k)
       ]
     ])

@@ -1,8 +1,10 @@
 -- What objects take bounds what is read of them.
 use Rattle.std.proofs.Common.{◌≡◌, ℕ, zero, suc, ◌+◌, ◌-◌, ◌*◌, ◌<◌, ◌≤◌, ◌↔◌, Bool, true, false, List, refl, sym, ap, ◌∙◌, subst, arith}
+use Rattle.std.proofs.Math.Nat.{mul-le-mul_right}
 use Rattle.std.proofs.lemmas.Bool.{false≢true}
 use Rattle.bplist_objects.specs.declared.frame.Frame.{Frame}
 use Rattle.bplist_objects.specs.declared.head.Head.{Head}
+use Rattle.bplist_objects.specs.declared.head.Kind.TheVariants.{Dict}
 use Rattle.bplist_objects.specs.Extents.{Sums}
 use Rattle.bplist_objects.specs.Frame.{off, IsFrame}
 use Rattle.bplist_objects.specs.Heads.{HasShape}
@@ -34,6 +36,13 @@ module _ (f : List ℕ) (F : Frame) where
       let fit = refs_fit F.ref_size head.count head.kind low in
       omega (arith, fit.0, shape.has.body, shape.has.ends, extent_is n head shape)
 
+  -- and so are those to keys
+  pub keys_bytes : (n : ℕ) (head : Head) → 1 ≤ F.ref_size → head.kind ≡ Dict → HasShape f F n head → head.count * F.ref_size ≤ extent f F n
+  keys_bytes n head low dict shape =
+      let two : ref_count head.kind head.count ≡ 2 * head.count = ap (λ kind. ref_count kind head.count) dict in
+      let most : head.count * F.ref_size ≤ ref_count head.kind head.count * F.ref_size = mul-le-mul_right F.ref_size (omega (arith, two)) in
+      omega (arith, most, refs_bytes n head low shape)
+
   module _ (marks : List Bool) (sound : AreSound f F marks) (marked : (n : ℕ) → IsMarked marks n ↔ Reach f F n) where
     -- a marked object has a head
     pub shape_of : (n : ℕ) → n < F.objects → IsMarked marks n → (head : Head) × HasShape f F n head
@@ -45,19 +54,16 @@ module _ (f : List ℕ) (F : Frame) where
     -- the marked objects below n take this many bytes
     sums_at : (n : ℕ) → n ≤ F.objects → Sums f F (Reach f F) n (extents_below f F (is_marked marks) n)
     sums_at zero low = sums_none f F (Reach f F)
-    sums_at (suc n) low = go (is_marked marks n) refl
+    sums_at (suc n) low = go (sums_at n (omega (arith, low))) (is_marked marks n) refl
       where
-        before : Sums f F (Reach f F) n (extents_below f F (is_marked marks) n)
-        before = sums_at n (omega (arith, low))
-
-        go : (b : Bool) → is_marked marks n ≡ b → Sums f F (Reach f F) (suc n) (extents_below f F (is_marked marks) (suc n))
-        go true e =
+        go : Sums f F (Reach f F) n (extents_below f F (is_marked marks) n) → (b : Bool) → is_marked marks n ≡ b → Sums f F (Reach f F) (suc n) (extents_below f F (is_marked marks) (suc n))
+        go before true e =
             let shape = shape_of n (omega (arith, low)) e in
             let bytes = shape.0.«end» - off f F n in
             let next = rw e at (extents_next f F (is_marked marks) n) in
             let both : extents_below f F (is_marked marks) n + bytes ≡ extents_below f F (is_marked marks) (suc n) = omega (arith, next, extent_is n shape.0 shape.1) in
             subst (Sums f F (Reach f F) (suc n)) both (sums_more f F (Reach f F) n bytes (extents_below f F (is_marked marks) n) ((marked n).0 e) (shape_extent f F n shape.0 shape.1) before)
-        go false e =
+        go before false e =
             let next = rw e at (extents_next f F (is_marked marks) n) in
             let same : extents_below f F (is_marked marks) n ≡ extents_below f F (is_marked marks) (suc n) = omega (arith, next) in
             subst (Sums f F (Reach f F) (suc n)) same (sums_same f F (Reach f F) n (extents_below f F (is_marked marks) n) (λ r. false≢true (sym e ∙ (marked n).1 r)) before)

@@ -99,7 +99,7 @@ module _ (refs : ℕ → List ℕ) (states : List State) (heights : List ℕ) wh
     | inl c ↦ absurd (closed (sym c.1 ∙ is))
     | inr c ↦
         let old = met n (sym c.1 ∙ is) in
-        rw (get_or-set_other heights n m h 0 c.0) (old.0, λ k low. stays_known states m state within known _ (old.1 k low))
+        rw (get_or-set_other heights m n h 0 c.0) (old.0, λ k low. stays_known states m state within known _ (old.1 k low))
   ]
 
   -- the object on top waits for the next one, which is its reference i
@@ -116,7 +116,7 @@ module _ (refs : ℕ → List ℕ) (states : List State) (heights : List ℕ) wh
 
 -- ---- the walk
 module _ (width : ℕ) (refs : ℕ → List ℕ) (marks : List Bool) (size : ℕ) where
-  term : List State → List ℕ → ℕ → ℕ
+  abbrev term : List State → List ℕ → ℕ → ℕ
   term states heights m = cond (slice_index_or marks m false) (left_for width (state_at states m) (slice_index heights m) (length (refs m))) 0
 
   marked_term : (states : List State) (heights : List ℕ) (m : ℕ) → IsMarked marks m → term states heights m ≡ left_for width (state_at states m) (slice_index heights m) (length (refs m))
@@ -194,7 +194,7 @@ module _ (width : ℕ) (refs : ℕ → List ℕ) (marks : List Bool) (size : ℕ
 
 -- ---- the circle
 module _ (width : ℕ) (refs : ℕ → List ℕ) where
-  step : List Bool → ℕ → ℕ
+  abbrev step : List Bool → ℕ → ℕ
   step met m = cond (slice_index_or met m false) (292 + length (refs m) * (3 + width)) 0
 
   -- one more object is met

@@ -149,7 +149,7 @@ named_front keys block marks j m low few is inside named =
 pub front_marked : (keys : ℕ) (block : List ℕ) (marks : List Bool) (m : ℕ) → Contains (take keys block) m → ((k : ℕ) → k < length block → IsMarked marks (slice_index block k)) → IsMarked marks m
 front_marked keys block marks m c all =
     let short = length-take keys block in
-    let there : slice_index block c.0 ≡ m = sym (get_or-take keys block c.0 0 (omega (arith, c.1, short))) ∙ get_or_default (take keys block) c.0 0 c.1 ∙ sym (get_or_default (take keys block) c.0 m c.1) ∙ c.2 in
+    let there : slice_index block c.0 ≡ m = sym (get_or-take keys block c.0 0 (omega (arith, c.1, short))) ∙ sym (get_or_default (take keys block) c.0 m 0 c.1) ∙ c.2 in
     subst (IsMarked marks) there (all c.0 (omega (arith, c.1, short)))
 
 -- no object is marked at first

@@ -74,9 +74,12 @@ pub fault_passed : (m n : Meaning) → m ≡ n → (e : LintRefusal) → (IsTrue
 fault_passed m n same e told = subst (λ (k : Meaning). IsTrue k.honest → Refuses (IsFileFault k.octets) (IsFileCircle k.octets) e) same told
 
 -- what was asked for, by what the source means
-pub lint_asked : (m n : Meaning) → m ≡ n → (before after table objects : ℕ) → (IsTrue m.honest → after ≤ before + (2 * length m.octets + 33 * table + 1756 * objects + 456))
-    → IsTrue n.honest → after ≤ before + (2 * length n.octets + 33 * table + 1756 * objects + 456)
-lint_asked m n same before after table objects asked = subst (λ (k : Meaning). IsTrue k.honest → after ≤ before + (2 * length k.octets + 33 * table + 1756 * objects + 456)) same asked
+pub lint_asked : (m n : Meaning) → m ≡ n → (was now : Frame) → was ≡ now → (before after : ℕ)
+    → (IsTrue m.honest → after ≤ before + (2 * length m.octets + 33 * was.table + 1756 * was.objects + 456))
+    → IsTrue n.honest → after ≤ before + (2 * length n.octets + 33 * now.table + 1756 * now.objects + 456)
+lint_asked m n same was now framed before after asked honest =
+    let told = asked (subst (λ (k : Meaning). IsTrue k.honest) (sym same) honest) in
+    omega (arith, told, ap (λ (k : Meaning). length k.octets) same, ap (λ (x : Frame). x.table) framed, ap (λ (x : Frame). x.objects) framed)
 
 -- ---- sums over the same objects
 -- the object has a height

@@ -97,6 +97,10 @@ module _ (f : List ℕ) (F : Frame) where
         let one = sum_next (λ m. cond (p m) (references_of m) 0) n in
         omega (arith, one, references_sum p n, references_sum p (suc n))
 
+  -- what more objects take
+  pub extents_on : (p : ℕ → Bool) (n m : ℕ) → n ≤ m → extents_below f F p n ≤ extents_below f F p m
+  extents_on p n m low = omega (arith, extents_sum p n, extents_sum p m, sum_on (λ k. cond (p k) (extent f F k) 0) n m low)
+
   -- ---- the references of objects that spell something
   module _ (p : ℕ → Bool) (spell : (n : ℕ) → p n ≡ true → (c : Content) × Spells f F n c) where
     -- how many references the heads of these announce

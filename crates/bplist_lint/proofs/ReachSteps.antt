@@ -116,10 +116,10 @@ module _ (references : List ℕ) (marks : List Bool) (stack : List ℕ) where
   }
 
 -- at the start as many objects are left as there are: one is marked, and waits
-pub work_first : (size top : ℕ) → top < size → count_by not (set (replicate size false) top true) + 1 ≤ size
-work_first size top low =
+pub work_first : (size first : ℕ) → first < size → count_by not (set (replicate size false) first true) + 1 ≤ size
+work_first size first low =
     let long = length-replicate {A = Bool} size false in
-    let less = rw (unwritten size top false) at (count-set not (replicate size false) top true false (omega (arith, low, long))) in
+    let less = rw (unwritten size first false) at (count-set not (replicate size false) first true false (omega (arith, low, long))) in
     omega (arith, less, count_by-le-length not (replicate size false), long)
 
 -- object m is marked, and went onto the stack if it was not marked before

@@ -76,42 +76,51 @@ module _ (f : List ℕ) (F : Frame) (view : View) (low : 1 ≤ F.ref_size) where
       -- before the walk for the heights
       pub heights_left : (n : ℕ) → n ≤ F.objects → left_below F.ref_size (refs_in view f F) marks (map first_state childless) (map from_bool childless) n ≤ 868 * n + 8 * extents_below f F (is_marked marks) n
       heights_left zero within = omega arith
-      heights_left (suc n) within = go (is_marked marks n) refl
+      heights_left (suc n) within = go (heights_left n (omega (arith, within))) (is_marked marks n) refl
         where
           term : ℕ → ℕ
           term m = cond (slice_index_or marks m false) (left_for F.ref_size (state_at (map first_state childless) m) (slice_index (map from_bool childless) m) (length (refs_in view f F m))) 0
 
-          go : (b : Bool) → is_marked marks n ≡ b → left_below F.ref_size (refs_in view f F) marks (map first_state childless) (map from_bool childless) (suc n) ≤ 868 * suc n + 8 * extents_below f F (is_marked marks) (suc n)
-          go true e =
+          go : left_below F.ref_size (refs_in view f F) marks (map first_state childless) (map from_bool childless) n ≤ 868 * n + 8 * extents_below f F (is_marked marks) n → (b : Bool) → is_marked marks n ≡ b → left_below F.ref_size (refs_in view f F) marks (map first_state childless) (map from_bool childless) (suc n) ≤ 868 * suc n + 8 * extents_below f F (is_marked marks) (suc n)
+          go before true e =
               let shape = shape_of f F marks sound marked n (omega (arith, within)) e in
               let next = rw e at (extents_next f F (is_marked marks) n) in
               let own : term n ≡ left_for F.ref_size (state_at (map first_state childless) n) (slice_index (map from_bool childless) n) (length (refs_in view f F n)) =
               ap (λ b. cond b (left_for F.ref_size (state_at (map first_state childless) n) (slice_index (map from_bool childless) n) (length (refs_in view f F n))) 0) e in
               let more : left_below F.ref_size (refs_in view f F) marks (map first_state childless) (map from_bool childless) (suc n) ≡ left_below F.ref_size (refs_in view f F) marks (map first_state childless) (map from_bool childless) n + term n = sum_next term n in
-              omega (arith, heights_left n (omega (arith, within)), next, more, own, first_left n shape.0 shape.1)
-          go false e =
+              omega (arith, before, next, more, own, first_left n shape.0 shape.1)
+          go before false e =
               let next = rw e at (extents_next f F (is_marked marks) n) in
               let own : term n ≡ 0 = ap (λ b. cond b (left_for F.ref_size (state_at (map first_state childless) n) (slice_index (map from_bool childless) n) (length (refs_in view f F n))) 0) e in
               let more : left_below F.ref_size (refs_in view f F) marks (map first_state childless) (map from_bool childless) (suc n) ≡ left_below F.ref_size (refs_in view f F) marks (map first_state childless) (map from_bool childless) n + term n = sum_next term n in
-              omega (arith, heights_left n (omega (arith, within)), next, more, own)
+              omega (arith, before, next, more, own)
 
     -- the walk to the circle
     pub trail_few : (n : ℕ) → n ≤ F.objects → trail_bytes F.ref_size (refs_in view f F) marks n ≤ 292 * n + 4 * extents_below f F (is_marked marks) n
     trail_few zero within = omega arith
-    trail_few (suc n) within = go (is_marked marks n) refl
+    trail_few (suc n) within = go (trail_few n (omega (arith, within))) (is_marked marks n) refl
       where
         term : ℕ → ℕ
         term m = cond (slice_index_or marks m false) (292 + length (refs_in view f F m) * (3 + F.ref_size)) 0
 
-        go : (b : Bool) → is_marked marks n ≡ b → trail_bytes F.ref_size (refs_in view f F) marks (suc n) ≤ 292 * suc n + 4 * extents_below f F (is_marked marks) (suc n)
-        go true e =
+        go : trail_bytes F.ref_size (refs_in view f F) marks n ≤ 292 * n + 4 * extents_below f F (is_marked marks) n → (b : Bool) → is_marked marks n ≡ b → trail_bytes F.ref_size (refs_in view f F) marks (suc n) ≤ 292 * suc n + 4 * extents_below f F (is_marked marks) (suc n)
+        go before true e =
             let shape = shape_of f F marks sound marked n (omega (arith, within)) e in
             let next = rw e at (extents_next f F (is_marked marks) n) in
             let own : term n ≡ 292 + length (refs_in view f F n) * (3 + F.ref_size) = ap (λ b. cond b (292 + length (refs_in view f F n) * (3 + F.ref_size)) 0) e in
             let more : trail_bytes F.ref_size (refs_in view f F) marks (suc n) ≡ trail_bytes F.ref_size (refs_in view f F) marks n + term n = sum_next term n in
-            omega (arith, trail_few n (omega (arith, within)), next, more, own, scan_few n shape.0 shape.1)
-        go false e =
+            omega (arith, before, next, more, own, scan_few n shape.0 shape.1)
+        go before false e =
             let next = rw e at (extents_next f F (is_marked marks) n) in
             let own : term n ≡ 0 = ap (λ b. cond b (292 + length (refs_in view f F n) * (3 + F.ref_size)) 0) e in
             let more : trail_bytes F.ref_size (refs_in view f F) marks (suc n) ≡ trail_bytes F.ref_size (refs_in view f F) marks n + term n = sum_next term n in
-            omega (arith, trail_few n (omega (arith, within)), next, more, own)
+            omega (arith, before, next, more, own)
+
+-- what is asked for at most, if that is bounded
+pub left_within : (start before after some objects bytes : ℕ) → before ≡ start → after ≤ before + (292 + some) → some ≤ 868 * objects + 8 * bytes
+    → after ≤ start + (292 + 868 * objects + 8 * bytes)
+left_within start before after some objects bytes same asked less = omega (arith, same, asked, less)
+
+pub trail_within : (start middle before after some objects bytes : ℕ) → middle ≤ start + (292 + 868 * objects + 8 * bytes) → before ≡ middle → after ≤ before + some
+    → some ≤ 292 * objects + 4 * bytes → after ≤ start + (292 + 1160 * objects + 12 * bytes)
+trail_within start middle before after some objects bytes first same asked less = omega (arith, first, same, asked, less)

@@ -1,4 +1,4 @@
-use Rattle.std.proofs.Common.{◌≡◌, ◌<◌, arith, rules, inl, inr, length, replicate, false, sym, ◌∙◌}
+use Rattle.std.proofs.Common.{◌≡◌, ◌<◌, arith, rules, inl, inr, length, replicate, set, true, false, sym, ◌∙◌}
 use Rattle.std.proofs.lemmas.List.{get_or_read}
 use Rattle.std.proofs.lemmas.List.Elements.{Contains-push}
 use Rattle.bplist_lint.proofs.TrailSteps.{fewer_left, numbers_named, trail_none, trail_more, leading_more, leading_start, is_circle, is_next, founded_all}
@@ -75,3 +75,60 @@ index_in-index-requires g c =
 
 pub tail-requires : goal.tail-requires
 tail-requires g c = omega (arith, c.index_in-index.ensures.within, c.deref.ensures.len, c.deref-2.ensures.len)
+
+pub returns-in_err-push-clause-asks : goal.returns-in_err-push-clause-asks
+returns-in_err-push-clause-asks g c = λ honest whole marks are.
+    let a = c.walk.invariant.asked honest whole in
+    let few = trail_marked (g.R.References.width c.args.graph.now) (g.R.References.graph c.args.graph.now).refs c.walk.met.items marks (g.R.References.graph c.args.graph.now).size (λ n is. are n (a.0 n is)) in
+    omega (arith, a.1, few)
+
+pub returns-in_err-m-clause-asks : goal.returns-in_err-m-clause-asks
+returns-in_err-m-clause-asks g c = λ honest whole marks are.
+    let l = c.walk.invariant.leading honest whole in
+    let a = c.walk.invariant.asked honest whole in
+    let x = c.walk.x in
+    let met = c.walk.met.items in
+    let p = c.walk.invariant.placed in
+    let new = sym (get_or_read met x c.index.result.now (omega (arith, p.all_met, c.walk.invariant.inside)) c.index.ensures false) ∙ c.walk-test.true in
+    let one = (rw (c.walk.invariant.same, c.walk.invariant.reads, c.walk.invariant.width) at c.first_without.ensures.asks) honest (whole _ l.reached) in
+    let more = trail_on (g.R.References.width c.args.graph.now) (g.R.References.graph c.args.graph.now).refs met x (g.R.References.graph c.args.graph.now).size c.walk.invariant.inside p.all_met new in
+    let few = trail_marked (g.R.References.width c.args.graph.now) (g.R.References.graph c.args.graph.now).refs (set met x true) marks (g.R.References.graph c.args.graph.now).size (λ n is. elim (fresh-set met x n is) [ inl old ↦ are n (a.0 n old) | inr e ↦ are n (rw e l.reached) ]) in
+    omega (arith, a.1, one, more, few)
+
+pub returns-in_err-named-clause-asks : goal.returns-in_err-named-clause-asks
+returns-in_err-named-clause-asks g c = λ honest whole marks are. elim c.walk-test.branch [
+  | else-walk-test w ↦
+      let a = c.walk.invariant.asked honest whole in
+      let few = trail_marked (g.R.References.width c.args.graph.now) (g.R.References.graph c.args.graph.now).refs c.walk.met.items marks (g.R.References.graph c.args.graph.now).size (λ n is. are n (a.0 n is)) in
+      rw w.graph-is (omega (arith, a.1, few))
+  | then-walk-test+in_ok-push+in_ok-m+in-None w ↦
+      let l = c.walk.invariant.leading honest whole in
+      let a = c.walk.invariant.asked honest whole in
+      let x = c.walk.x in
+      let met = c.walk.met.items in
+      let p = c.walk.invariant.placed in
+      let new = sym (get_or_read met x c.index.result.now (omega (arith, p.all_met, c.walk.invariant.inside)) c.index.ensures false) ∙ w.walk-test.true in
+      let one = (rw (c.walk.invariant.same, c.walk.invariant.reads, c.walk.invariant.width) at w.in_ok-m.ensures.asks) honest (whole _ l.reached) in
+      let more = trail_on (g.R.References.width c.args.graph.now) (g.R.References.graph c.args.graph.now).refs met x (g.R.References.graph c.args.graph.now).size c.walk.invariant.inside p.all_met new in
+      let few = trail_marked (g.R.References.width c.args.graph.now) (g.R.References.graph c.args.graph.now).refs (set met x true) marks (g.R.References.graph c.args.graph.now).size (λ n is. elim (fresh-set met x n is) [ inl old ↦ are n (a.0 n old) | inr e ↦ are n (rw e l.reached) ]) in
+      rw w.graph-is (omega (arith, a.1, one, more, few))
+]
+
+pub returns-clause-asks : goal.returns-clause-asks
+returns-clause-asks g c = λ honest whole marks are. elim c.walk-test.branch [
+  | else-walk-test w ↦
+      let a = c.walk.invariant.asked honest whole in
+      let few = trail_marked (g.R.References.width c.args.graph.now) (g.R.References.graph c.args.graph.now).refs c.walk.met.items marks (g.R.References.graph c.args.graph.now).size (λ n is. are n (a.0 n is)) in
+      rw w.graph-is (omega (arith, a.1, few))
+  | then-walk-test+in_ok-push+in_ok-m+in-None w ↦
+      let l = c.walk.invariant.leading honest whole in
+      let a = c.walk.invariant.asked honest whole in
+      let x = c.walk.x in
+      let met = c.walk.met.items in
+      let p = c.walk.invariant.placed in
+      let new = sym (get_or_read met x c.index.result.now (omega (arith, p.all_met, c.walk.invariant.inside)) c.index.ensures false) ∙ w.walk-test.true in
+      let one = (rw (c.walk.invariant.same, c.walk.invariant.reads, c.walk.invariant.width) at w.in_ok-m.ensures.asks) honest (whole _ l.reached) in
+      let more = trail_on (g.R.References.width c.args.graph.now) (g.R.References.graph c.args.graph.now).refs met x (g.R.References.graph c.args.graph.now).size c.walk.invariant.inside p.all_met new in
+      let few = trail_marked (g.R.References.width c.args.graph.now) (g.R.References.graph c.args.graph.now).refs (set met x true) marks (g.R.References.graph c.args.graph.now).size (λ n is. elim (fresh-set met x n is) [ inl old ↦ are n (a.0 n old) | inr e ↦ are n (rw e l.reached) ]) in
+      rw w.graph-is (omega (arith, a.1, one, more, few))
+]

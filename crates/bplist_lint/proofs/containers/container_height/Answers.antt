@@ -1,4 +1,4 @@
-use Rattle.std.proofs.Common.{◌≡◌, ℕ, ◌+◌, ◌<◌, ◌≤◌, ◌++◌, min, None, List, length, drop, slice_index, refl, ◌∙◌, inl, inr, ap, subst, arith}
+use Rattle.std.proofs.Common.{◌≡◌, ℕ, ◌+◌, ◌<◌, ◌≤◌, ◌++◌, min, None, List, length, take, drop, slice_index, refl, ◌∙◌, inl, inr, ap, subst, arith}
 use Rattle.std.proofs.lemmas.Grind.{common_steps}
 use Rattle.std.proofs.lemmas.List.{get_or_append_left}
 use Rattle.bplist_objects.specs.declared.frame.Frame.{Frame}
@@ -28,10 +28,11 @@ loop-done-preserved g c =
     let block : List ℕ = into ++ drop now c.loop-done.block in
     let long : length into ≡ now = grind (arith, common_steps) in
     let room : length block ≡ length c.args.block.now = grind (arith, common_steps) in
+    let short : length (take now c.loop-done.block) ≡ now = grind (arith, common_steps) in
     let low : done + now ≤ ref_count head.kind head.count = omega (arith, c.min-now.ensures, c.refs_of-refs.ensures, i.within) in
     record {
       reads = c.in_ok-read_refs_in.ensures.reads ∙ i.reads;
-      asked = asked_on (g.P.Source.asked c.args.src.now + 36) _ _ done now F.ref_size i.asked (rw (i.reads, long) at c.read_refs_in.ensures.asks);
+      asked = asked_on (g.P.Source.asked c.args.src.now + 36) _ _ done now F.ref_size i.asked (rw (i.reads, short) at c.read_refs_in.ensures.asks);
       room = room;
       within = omega (arith, low, c.refs_of-refs.ensures);
       same = c.are_new.ensures.same ∙ i.same;
@@ -73,3 +74,66 @@ returns-clause-exact g c = λ honest kept keys new.
     let seen = rw done at (i.seen honest new dict) in
     (classed_texts f F head classes known.0 framed known.1 inside head.count (omega arith) seen.texts, apart_differ f F head classes known.0 head.count (omega arith) seen.first)) in
     of_checked c.checked_add.result _ _ _ c.checked_add.ensures (good, (c.loop-done.best, measured_all f F n framed c.requires.within kept head shape c.args.heights.now c.loop-done.done c.loop-done.best over (i.measured honest kept), refl))
+
+pub returns-in_err-read_refs_in-clause-asks : goal.returns-in_err-read_refs_in-clause-asks
+returns-in_err-read_refs_in-clause-asks g c = λ honest.
+    let i = c.loop-done.invariant in
+    let f = (g.P.Source.means c.args.src.now).octets in
+    let F : Frame = frame_in (g.P.Source.means c.args.src.now) in
+    let head = c.in-Some.head in
+    let shape = rw c.in-Some.is at (c.in_ok-head.ensures.shape honest) in
+    let fit = refs_bytes f F c.args.n head c.frame-frame.ensures.framed.safe.safe.ref_low shape in
+    let start = g.P.Source.asked c.args.src.now + 36 in
+    let done = c.loop-done.done in
+    let now = c.min-now.result in
+    let short : length (take now c.loop-done.block) ≡ now = grind (arith, common_steps) in
+    let low : done + now ≤ ref_count head.kind head.count = omega (arith, c.min-now.ensures, c.refs_of-refs.ensures, i.within) in
+    let read = asked_on start _ _ done now F.ref_size i.asked (rw (i.reads, short) at c.read_refs_in.ensures.asks) in
+    let all = asked_within start _ (done + now) (ref_count head.kind head.count) F.ref_size read low in
+    omega (arith, all, fit)
+
+pub returns-then-not-are_new-clause-asks : goal.returns-then-not-are_new-clause-asks
+returns-then-not-are_new-clause-asks g c = λ honest.
+    let i = c.loop-done.invariant in
+    let f = (g.P.Source.means c.args.src.now).octets in
+    let F : Frame = frame_in (g.P.Source.means c.args.src.now) in
+    let head = c.in-Some.head in
+    let shape = rw c.in-Some.is at (c.in_ok-head.ensures.shape honest) in
+    let fit = refs_bytes f F c.args.n head c.frame-frame.ensures.framed.safe.safe.ref_low shape in
+    let start = g.P.Source.asked c.args.src.now + 36 in
+    let done = c.loop-done.done in
+    let now = c.min-now.result in
+    let short : length (take now c.loop-done.block) ≡ now = grind (arith, common_steps) in
+    let low : done + now ≤ ref_count head.kind head.count = omega (arith, c.min-now.ensures, c.refs_of-refs.ensures, i.within) in
+    let read = asked_on start _ _ done now F.ref_size i.asked (rw (i.reads, short) at c.read_refs_in.ensures.asks) in
+    let all = asked_within start _ (done + now) (ref_count head.kind head.count) F.ref_size read low in
+    omega (arith, all, fit)
+
+pub returns-in_default-greatest_height-clause-asks : goal.returns-in_default-greatest_height-clause-asks
+returns-in_default-greatest_height-clause-asks g c = λ honest.
+    let i = c.loop-done.invariant in
+    let f = (g.P.Source.means c.args.src.now).octets in
+    let F : Frame = frame_in (g.P.Source.means c.args.src.now) in
+    let head = c.in-Some.head in
+    let shape = rw c.in-Some.is at (c.in_ok-head.ensures.shape honest) in
+    let fit = refs_bytes f F c.args.n head c.frame-frame.ensures.framed.safe.safe.ref_low shape in
+    let start = g.P.Source.asked c.args.src.now + 36 in
+    let done = c.loop-done.done in
+    let now = c.min-now.result in
+    let short : length (take now c.loop-done.block) ≡ now = grind (arith, common_steps) in
+    let low : done + now ≤ ref_count head.kind head.count = omega (arith, c.min-now.ensures, c.refs_of-refs.ensures, i.within) in
+    let read = asked_on start _ _ done now F.ref_size i.asked (rw (i.reads, short) at c.read_refs_in.ensures.asks) in
+    let all = asked_within start _ (done + now) (ref_count head.kind head.count) F.ref_size read low in
+    omega (arith, all, fit)
+
+pub returns-clause-asks : goal.returns-clause-asks
+returns-clause-asks g c = λ honest.
+    let i = c.loop-done.invariant in
+    let f = (g.P.Source.means c.args.src.now).octets in
+    let F : Frame = frame_in (g.P.Source.means c.args.src.now) in
+    let head = c.in-Some.head in
+    let shape = rw c.in-Some.is at (c.in_ok-head.ensures.shape honest) in
+    let fit = refs_bytes f F c.args.n head c.frame-frame.ensures.framed.safe.safe.ref_low shape in
+    let start = g.P.Source.asked c.args.src.now + 36 in
+    let all = asked_within start _ c.loop-done.done (ref_count head.kind head.count) F.ref_size i.asked (omega (arith, i.within, c.refs_of-refs.ensures)) in
+    omega (arith, all, fit)

@@ -105,3 +105,29 @@ pub returns-clause-exact : goal.returns-clause-exact
 returns-clause-exact g c = λ honest named marks kept childless are_named classes none first _.
     let end : c.loop-n.n ≡ 0 = omega (arith, c.loop-n-test.false) in
     finished_all _ _ (c.frame-frame.ensures.framed.framed honest) c.args.marks.now c.args.childless.now marks _ (rw end at (c.loop-n.invariant.finished honest named marks kept childless are_named classes none first))
+
+pub returns-in_err-height-clause-asks : goal.returns-in_err-height-clause-asks
+returns-in_err-height-clause-asks g c = λ honest.
+    let m = g.P.Source.means c.args.src.now in
+    let f = m.octets in
+    let F : Frame = frame_in m in
+    let i = c.loop-n.invariant in
+    let n : ℕ = c.loop-n.n - 1 in
+    let next : n + 1 ≡ c.loop-n.n = omega (arith, c.loop-n-test.true) in
+    let more = rw (← next) at (i.asked honest) in
+    let own = rw c.if-marks-n.true at (extents_more f F (is_marked c.args.marks.now) n) in
+    let one = (rw i.reads at c.container_height.ensures.asks) honest in
+    omega (arith, more, own, one)
+
+pub returns-in-None-clause-asks : goal.returns-in-None-clause-asks
+returns-in-None-clause-asks g c = λ honest.
+    let m = g.P.Source.means c.args.src.now in
+    let f = m.octets in
+    let F : Frame = frame_in m in
+    let i = c.loop-n.invariant in
+    let n : ℕ = c.loop-n.n - 1 in
+    let next : n + 1 ≡ c.loop-n.n = omega (arith, c.loop-n-test.true) in
+    let more = rw (← next) at (i.asked honest) in
+    let own = rw c.if-marks-n.true at (extents_more f F (is_marked c.args.marks.now) n) in
+    let one = (rw i.reads at c.container_height.ensures.asks) honest in
+    omega (arith, more, own, one)

@@ -1,4 +1,4 @@
-use Rattle.std.proofs.Common.{◌≡◌, sym, ◌∙◌, arith}
+use Rattle.std.proofs.Common.{◌≡◌, ◌+◌, ◌≤◌, sym, ap, ◌∙◌, arith}
 use Rattle.std.proofs.lemmas.Bool.{false≢true}
 use Rattle.std.proofs.lemmas.Result.{err_from_is_err_and}
 use Rattle.bplist_objects.specs.declared.frame.Frame.{Frame}
@@ -8,7 +8,7 @@ use Rattle.bplist_cert.proofs.CheckSteps.{refused_weaker}
 use Rattle.bplist_lint.proofs.KeySteps.{keys_fault, keys_more, keys_over, childless_keys}
 use Rattle.bplist_lint.proofs.KeyClasses.{reached_sound, keys_known}
 use Rattle.bplist_lint.specs.ReachRules.{is_marked}
-use Rattle.bplist_lint.proofs.RangeSums.{extents_more}
+use Rattle.bplist_lint.proofs.RangeSums.{extents_more, extents_on}
 use Rattle.bplist_lint.proofs.key_rules.check_numbers.Goals as goal
 use Rattle.bplist_lint.proofs.key_rules.check_numbers.Goals.{then-marks-n+then-not-childless-n+in_ok-check_dict_keys, else-marks-n, else-marks-n-via-then-marks-n+else-not-childless-n, else-marks-n-via-else-marks-n}
 
@@ -69,3 +69,17 @@ loop-n-preserved g c =
 
 pub returns-clause-exact : goal.returns-clause-exact
 returns-clause-exact g c = λ honest named marks kept childless are_named classes m low. c.loop-n.invariant.exact honest named marks kept childless are_named classes m (let end = rw c.frame-frame.ensures.frame at c.loop-n-test.false in omega (arith, low, end))
+
+pub returns-in_err-check_dict_keys-clause-asks : goal.returns-in_err-check_dict_keys-clause-asks
+returns-in_err-check_dict_keys-clause-asks g c = λ honest.
+    let m = g.P.Source.means c.args.src.now in
+    let f = m.octets in
+    let F : Frame = frame_in m in
+    let v = c.loop-n.invariant in
+    let n = c.loop-n.n in
+    let objects = ap (λ (x : Frame). x.objects) c.frame-frame.ensures.frame in
+    let low : n + 1 ≤ F.objects = omega (arith, c.loop-n-test.true, objects) in
+    let own = rw c.if-marks-n.true at (extents_more f F (is_marked c.args.marks.now) n) in
+    let one = (rw v.reads at c.check_dict_keys.ensures.asks) honest in
+    let all = extents_on f F (is_marked c.args.marks.now) (n + 1) F.objects low in
+    omega (arith, v.asked honest, own, one, all, low)

@@ -1,4 +1,5 @@
-use Rattle.std.proofs.Common.{◌≡◌, ◌∙◌, refl, subst, arith}
+use Rattle.std.proofs.Common.{◌≡◌, length, ◌∙◌, refl, subst, arith}
+use Rattle.std.proofs.lemmas.Grind.{common_steps}
 use Rattle.std.proofs.lemmas.List.Sums.{count_by-le-length}
 use Rattle.std.proofs.lemmas.Result.{err_from_is_err_and}
 use Rattle.bplist_octets.specs.Meaning.{Meaning}
@@ -15,6 +16,17 @@ use Rattle.bplist_lint.proofs.KeyClasses.{reached_sound}
 use Rattle.bplist_lint.proofs.Passes.{check_means}
 use Rattle.bplist_lint.proofs.linter.certify_by_classes.Goals.{then-count-objects, else-count-objects}
 use Rattle.bplist_lint.proofs.linter.certify_by_classes.Goals as goal
+
+pub check_keys-requires-clause-known : goal.check_keys-requires-clause-known
+check_keys-requires-clause-known g c =
+    let m = g.P.Source.means c.args.src.now in
+    let same : g.P.Source.means c.if-count-objects.src ≡ m = elim c.if-count-objects.branch [
+      | then-count-objects b ↦ rw b.src-is b.forget_places.ensures.same
+      | else-count-objects b ↦ rw b.src-is refl
+    ] in
+    rw (c.in_ok-classes.ensures.reads, same) (λ honest.
+        let known = c.requires.walked honest in
+        record { walked = known.0; named = c.args.named.marks.items; all = known.1; classes = (rw same at c.in_ok-classes.ensures.exact) honest })
 
 pub returns-in_err-heights-clause-exact : goal.returns-in_err-heights-clause-exact
 returns-in_err-heights-clause-exact g c = λ honest.
@@ -34,9 +46,10 @@ returns-in_err-classes-clause-asks g c = λ honest only.
     let F : Frame = frame_in m in
     let named = c.args.named.marks.items in
     let marks = c.args.reached.marks.items in
-    let framed = rw c.frame.ensures.frame at c.frame.ensures.framed in
+    let framed = c.frame-objects.ensures.framed in
     let walked = (c.requires.walked honest).0 in
-    let sound = reached_sound f F marks c.requires.fits.all_marks (framed.framed honest) walked.marked walked.tallied.kept in
+    let all : length marks ≡ F.objects = (let marks_all = c.requires.fits.all_marks in grind (arith, common_steps)) in
+    let sound = reached_sound f F marks all (framed.framed honest) walked.marked walked.tallied.kept in
     let bytes = extents_tallied f F marks sound walked.marked c.args.reached.tally walked.tallied in
     let room = room_weaker f F (Reach f F) (IsMarkedText f F named) (λ m is. (walked.marked m).0 (only m is.0)) (kept_room f F (framed.framed honest) walked.tallied.kept) in
     let many = count_by-le-length (λ marked. marked) named in
@@ -58,9 +71,10 @@ returns-in_err-heights-clause-asks g c = λ honest only.
     let F : Frame = frame_in m in
     let named = c.args.named.marks.items in
     let marks = c.args.reached.marks.items in
-    let framed = rw c.frame.ensures.frame at c.frame.ensures.framed in
+    let framed = c.frame-objects.ensures.framed in
     let walked = (c.requires.walked honest).0 in
-    let sound = reached_sound f F marks c.requires.fits.all_marks (framed.framed honest) walked.marked walked.tallied.kept in
+    let all : length marks ≡ F.objects = (let marks_all = c.requires.fits.all_marks in grind (arith, common_steps)) in
+    let sound = reached_sound f F marks all (framed.framed honest) walked.marked walked.tallied.kept in
     let bytes = extents_tallied f F marks sound walked.marked c.args.reached.tally walked.tallied in
     let room = room_weaker f F (Reach f F) (IsMarkedText f F named) (λ m is. (walked.marked m).0 (only m is.0)) (kept_room f F (framed.framed honest) walked.tallied.kept) in
     let many = count_by-le-length (λ marked. marked) named in
@@ -83,9 +97,10 @@ returns-in_err-heights-2-clause-asks g c = λ honest only.
     let F : Frame = frame_in m in
     let named = c.args.named.marks.items in
     let marks = c.args.reached.marks.items in
-    let framed = rw c.frame.ensures.frame at c.frame.ensures.framed in
+    let framed = c.frame-objects.ensures.framed in
     let walked = (c.requires.walked honest).0 in
-    let sound = reached_sound f F marks c.requires.fits.all_marks (framed.framed honest) walked.marked walked.tallied.kept in
+    let all : length marks ≡ F.objects = (let marks_all = c.requires.fits.all_marks in grind (arith, common_steps)) in
+    let sound = reached_sound f F marks all (framed.framed honest) walked.marked walked.tallied.kept in
     let bytes = extents_tallied f F marks sound walked.marked c.args.reached.tally walked.tallied in
     let room = room_weaker f F (Reach f F) (IsMarkedText f F named) (λ m is. (walked.marked m).0 (only m is.0)) (kept_room f F (framed.framed honest) walked.tallied.kept) in
     let many = count_by-le-length (λ marked. marked) named in
@@ -109,9 +124,10 @@ returns-clause-asks g c = λ honest only.
     let F : Frame = frame_in m in
     let named = c.args.named.marks.items in
     let marks = c.args.reached.marks.items in
-    let framed = rw c.frame.ensures.frame at c.frame.ensures.framed in
+    let framed = c.frame-objects.ensures.framed in
     let walked = (c.requires.walked honest).0 in
-    let sound = reached_sound f F marks c.requires.fits.all_marks (framed.framed honest) walked.marked walked.tallied.kept in
+    let all : length marks ≡ F.objects = (let marks_all = c.requires.fits.all_marks in grind (arith, common_steps)) in
+    let sound = reached_sound f F marks all (framed.framed honest) walked.marked walked.tallied.kept in
     let bytes = extents_tallied f F marks sound walked.marked c.args.reached.tally walked.tallied in
     let room = room_weaker f F (Reach f F) (IsMarkedText f F named) (λ m is. (walked.marked m).0 (only m is.0)) (kept_room f F (framed.framed honest) walked.tallied.kept) in
     let many = count_by-le-length (λ marked. marked) named in

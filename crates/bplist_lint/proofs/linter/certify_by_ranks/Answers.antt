@@ -10,6 +10,11 @@ use Rattle.bplist_lint.specs.Upgraded.{IsUpgraded}
 use Rattle.bplist_lint.proofs.Passes.{check_means}
 use Rattle.bplist_lint.proofs.linter.certify_by_ranks.Goals as goal
 
+pub check_keys-requires-clause-known : goal.check_keys-requires-clause-known
+check_keys-requires-clause-known g c = rw c.in_ok-ranks.ensures.reads (λ honest.
+    let known = c.requires.walked honest in
+    record { walked = known.0; named = c.args.named.marks.items; all = known.1; classes = (c.in_ok-ranks.ensures.exact honest).classes })
+
 pub returns-in_err-heights-clause-exact : goal.returns-in_err-heights-clause-exact
 returns-in_err-heights-clause-exact g c = λ honest.
     let f = (g.P.Source.means c.args.src.now).octets in

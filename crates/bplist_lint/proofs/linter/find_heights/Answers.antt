@@ -5,7 +5,7 @@ use Rattle.bplist_lint.specs.declared.graph.View.TheVariants as views
 use Rattle.bplist_lint.proofs.ObjectReferences.{none_in_view}
 use Rattle.bplist_lint.proofs.ValueHeights.{all_closed, are_least_all}
 use Rattle.bplist_lint.proofs.KeyClasses.{reached_sound}
-use Rattle.bplist_lint.proofs.WalkCosts.{shown_fit, heights_left}
+use Rattle.bplist_lint.proofs.WalkCosts.{shown_fit, heights_left, left_within}
 use Rattle.bplist_lint.proofs.linter.find_heights.Goals as goal
 
 pub returns-clause-exact : goal.returns-clause-exact
@@ -26,7 +26,7 @@ returns-in_err-least_heights-clause-asks g c = λ honest kept marked.
     let few = shown_fit f F views.Values safe.safe.ref_low c.args.marks.now c.requires.marks sound marked safe.small in
     let left = heights_left f F views.Values safe.safe.ref_low c.args.marks.now c.requires.marks sound marked c.args.childless.now F.objects (omega arith) in
     let asked = (rw (c.new-objects.ensures.means, c.new-objects.ensures.view) at c.least_heights.ensures.asks) honest (all_closed f F framed kept c.args.marks.now marked views.Values) (λ n m. let b = c.requires.childless honest n m in ((marked n).1 b.0, none_in_view f F n views.Values b.1)) few in
-    omega (arith, asked, left, c.new-objects.ensures.asked)
+    left_within (g.P.Source.asked c.args.src.now) _ _ _ F.objects _ c.new-objects.ensures.asked asked left
 
 pub returns-clause-asks : goal.returns-clause-asks
 returns-clause-asks g c = λ honest kept marked.
@@ -38,4 +38,4 @@ returns-clause-asks g c = λ honest kept marked.
     let few = shown_fit f F views.Values safe.safe.ref_low c.args.marks.now c.requires.marks sound marked safe.small in
     let left = heights_left f F views.Values safe.safe.ref_low c.args.marks.now c.requires.marks sound marked c.args.childless.now F.objects (omega arith) in
     let asked = (rw (c.new-objects.ensures.means, c.new-objects.ensures.view) at c.least_heights.ensures.asks) honest (all_closed f F framed kept c.args.marks.now marked views.Values) (λ n m. let b = c.requires.childless honest n m in ((marked n).1 b.0, none_in_view f F n views.Values b.1)) few in
-    omega (arith, asked, left, c.new-objects.ensures.asked)
+    left_within (g.P.Source.asked c.args.src.now) _ _ _ F.objects _ c.new-objects.ensures.asked asked left

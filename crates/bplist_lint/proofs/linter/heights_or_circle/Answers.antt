@@ -11,7 +11,7 @@ use Rattle.bplist_lint.proofs.Passes.{check_means, linted_yes, circled}
 use Rattle.bplist_lint.proofs.ReferenceGraph.{reach_iff}
 use Rattle.bplist_lint.proofs.ValueHeights.{all_whole}
 use Rattle.bplist_lint.proofs.KeyClasses.{reached_sound}
-use Rattle.bplist_lint.proofs.WalkCosts.{trail_few}
+use Rattle.bplist_lint.proofs.WalkCosts.{trail_few, trail_within}
 use Rattle.bplist_lint.proofs.linter.heights_or_circle.Goals as goal
 
 pub returns-in_err-heights-clause-exact : goal.returns-in_err-heights-clause-exact
@@ -73,11 +73,12 @@ returns-in_err-circle-clause-asks g c = λ honest.
     let s = c.requires.sifted honest in
     let safe = c.frame-frame.ensures.framed.safe in
     let marks = c.args.reached.marks.items in
-    let sound = reached_sound f F marks c.requires.fits.all_marks framed s.walked.marked s.walked.tallied.kept in
-    let few = trail_few f F views.All safe.safe.ref_low marks c.requires.fits.all_marks sound s.walked.marked F.objects (omega arith) in
+    let all : length marks ≡ F.objects = (let marks_all = c.requires.fits.all_marks in grind (arith, common_steps)) in
+    let sound = reached_sound f F marks all framed s.walked.marked s.walked.tallied.kept in
+    let few = trail_few f F views.All safe.safe.ref_low marks all sound s.walked.marked F.objects (omega arith) in
     let first = (rw c.deref.ensures.value at c.in_ok-heights.ensures.asks) honest s.walked.tallied.kept s.walked.marked in
     let asked = (rw (c.new-objects.ensures.means, c.new-objects.ensures.view, c.in_ok-heights.ensures.reads, c.frame-frame.ensures.frame) at c.circle.ensures.asks) honest (λ n r. all_whole f F framed s.walked.tallied.kept views.All n ((reach_iff f F n).0 r)) marks (λ n r. (s.walked.marked n).1 ((reach_iff f F n).0 r)) in
-    omega (arith, first, few, asked, c.new-objects.ensures.asked)
+    trail_within (g.P.Source.asked c.args.src.now) _ _ _ _ F.objects _ first c.new-objects.ensures.asked asked few
 
 pub returns-then-index-eq0-clause-asks : goal.returns-then-index-eq0-clause-asks
 returns-then-index-eq0-clause-asks g c = λ honest.
@@ -87,11 +88,12 @@ returns-then-index-eq0-clause-asks g c = λ honest.
     let s = c.requires.sifted honest in
     let safe = c.frame-frame.ensures.framed.safe in
     let marks = c.args.reached.marks.items in
-    let sound = reached_sound f F marks c.requires.fits.all_marks framed s.walked.marked s.walked.tallied.kept in
-    let few = trail_few f F views.All safe.safe.ref_low marks c.requires.fits.all_marks sound s.walked.marked F.objects (omega arith) in
+    let all : length marks ≡ F.objects = (let marks_all = c.requires.fits.all_marks in grind (arith, common_steps)) in
+    let sound = reached_sound f F marks all framed s.walked.marked s.walked.tallied.kept in
+    let few = trail_few f F views.All safe.safe.ref_low marks all sound s.walked.marked F.objects (omega arith) in
     let first = (rw c.deref.ensures.value at c.in_ok-heights.ensures.asks) honest s.walked.tallied.kept s.walked.marked in
     let asked = (rw (c.new-objects.ensures.means, c.new-objects.ensures.view, c.in_ok-heights.ensures.reads, c.frame-frame.ensures.frame) at c.circle.ensures.asks) honest (λ n r. all_whole f F framed s.walked.tallied.kept views.All n ((reach_iff f F n).0 r)) marks (λ n r. (s.walked.marked n).1 ((reach_iff f F n).0 r)) in
-    omega (arith, first, few, asked, c.new-objects.ensures.asked)
+    trail_within (g.P.Source.asked c.args.src.now) _ _ _ _ F.objects _ first c.new-objects.ensures.asked asked few
 
 pub returns-clause-asks : goal.returns-clause-asks
 returns-clause-asks g c = λ honest.

@@ -25,21 +25,17 @@ returns-in_err-certificate-clause-asks g c = λ is honest.
     let fr = c.in_ok-frame.ensures in
     let F : Frame = c.in_ok-frame.frame in
     let made = c.new-file.ensures in
-    let told = lint_asked _ _ (made.means ∙ fr.reads) _ _ _ _ (c.lint_opened.ensures.asks is) honest in
-    let table = ap (λ (x : Frame). x.table) made.frame in
-    let objects = ap (λ (x : Frame). x.objects) made.frame in
+    let told = lint_asked _ _ (made.means ∙ fr.reads) _ F made.frame _ _ (c.lint_opened.ensures.asks is) honest in
     let spelled = ap (λ (x : Frame). x.objects) (fr.exact honest).0.spelled in
     let each : F.objects * 1 ≤ F.objects * F.offset_size = mul-le-mul_left F.objects fr.safe.safe.offset_low in
-    omega (arith, told, made.asked, fr.asks_table, table, objects, spelled, each, fr.safe.safe.room, fr.safe.top)
+    omega (arith, told, made.asked, fr.asks_table, spelled, each, fr.safe.safe.room, fr.safe.top)
 
 pub returns-clause-asks : goal.returns-clause-asks
 returns-clause-asks g c = λ is honest.
     let fr = c.in_ok-frame.ensures in
     let F : Frame = c.in_ok-frame.frame in
     let made = c.new-file.ensures in
-    let told = lint_asked _ _ (made.means ∙ fr.reads) _ _ _ _ (c.lint_opened.ensures.asks is) honest in
-    let table = ap (λ (x : Frame). x.table) made.frame in
-    let objects = ap (λ (x : Frame). x.objects) made.frame in
+    let told = lint_asked _ _ (made.means ∙ fr.reads) _ F made.frame _ _ (c.lint_opened.ensures.asks is) honest in
     let spelled = ap (λ (x : Frame). x.objects) (fr.exact honest).0.spelled in
     let each : F.objects * 1 ≤ F.objects * F.offset_size = mul-le-mul_left F.objects fr.safe.safe.offset_low in
-    omega (arith, told, made.asked, fr.asks_table, table, objects, spelled, each, fr.safe.safe.room, fr.safe.top)
+    omega (arith, told, made.asked, fr.asks_table, spelled, each, fr.safe.safe.room, fr.safe.top)

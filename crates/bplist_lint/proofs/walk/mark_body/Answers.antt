@@ -1,4 +1,4 @@
-use Rattle.std.proofs.Common.{◌+◌, ◌<◌, ◌≤◌, arith, inl, inr, length, refl, sym, ◌∙◌}
+use Rattle.std.proofs.Common.{◌≡◌, ◌*◌, ap, ◌+◌, ◌<◌, ◌≤◌, arith, inl, inr, length, refl, sym, ◌∙◌}
 use Rattle.std.proofs.lemmas.Grind.{common_steps}
 use Rattle.bplist_objects.specs.declared.frame.Frame.{Frame}
 use Rattle.bplist_objects.specs.Framed.{frame_in}
@@ -6,7 +6,9 @@ use Rattle.bplist_objects.specs.Heads.{content_at, refs}
 use Rattle.bplist_objects.specs.Safe.{ref_count}
 use Rattle.bplist_objects.specs.Scan.{ref}
 use Rattle.bplist_objects.proofs.BlockSteps.{still_of, block_is, each_more}
+use Rattle.bplist_objects.proofs.BodyLaws.{refs_fit}
 use Rattle.bplist_objects.proofs.References.{length-refs, nth-refs}
+use Rattle.bplist_objects.proofs.ScanLaws.{asked_within}
 use Rattle.bplist_keys.specs.Marks.{IsMarked}
 use Rattle.bplist_lint.proofs.MarkSteps.{noted_more, named_front, front_marked}
 use Rattle.bplist_lint.proofs.walk.mark_body.Goals as goal
@@ -26,7 +28,7 @@ loop-refs-preserved g c =
     let most : from + length lent ≤ ref_count h.kind h.count = omega (arith, block.long, block.within) in
     record {
       reads = c.in_ok-read.ensures.reads ∙ i.reads;
-      asked = omega (arith, i.asked, c.in_ok-read.ensures.asks_block);
+      asked = omega (arith, i.asked, rw i.reads at c.in_ok-read.ensures.asks_block);
       of = still_of i.of c.in_ok-read.ensures.same;
       steady = rw c.frame-frame.ensures.frame at marked.steady;
       worked = record { current = marked.worked.current ∙ i.worked.current; work = omega (arith, marked.worked.work, i.worked.work) };
@@ -51,3 +53,34 @@ loop-refs-preserved g c =
 
 pub returns-clause-exact : goal.returns-clause-exact
 returns-clause-exact g c = grind (arith, common_steps)
+
+pub returns-in_err-read-clause-asks : goal.returns-in_err-read-clause-asks
+returns-in_err-read-clause-asks g c =
+    let i = c.loop-refs.invariant in
+    let F : Frame = frame_in (g.P.Source.means c.args.src.now) in
+    let h = c.args.head.now in
+    let fit = refs_fit F.ref_size h.count h.kind c.frame-frame.ensures.framed.safe.safe.ref_low in
+    let all : c.loop-refs.refs.bound * F.ref_size ≡ ref_count h.kind h.count * F.ref_size = ap (λ n. n * F.ref_size) i.of.same_bound in
+    omega (arith, i.asked, rw i.reads at c.in_err-read.ensures.asks, all, fit.0, c.requires.head.body)
+
+pub returns-in_err-mark_block-clause-asks : goal.returns-in_err-mark_block-clause-asks
+returns-in_err-mark_block-clause-asks g c =
+    let i = c.loop-refs.invariant in
+    let F : Frame = frame_in (g.P.Source.means c.args.src.now) in
+    let h = c.args.head.now in
+    let fit = refs_fit F.ref_size h.count h.kind c.frame-frame.ensures.framed.safe.safe.ref_low in
+    let block = block_is i.reads i.of c.block-block.ensures (c.in_ok-read.ensures.next c.if-branch.true) in
+    let read = rw i.reads at c.in_ok-read.ensures.asks_block in
+    let all = asked_within (g.P.Source.asked c.args.src.now) (g.P.Source.asked c.read.new.src) c.read.new.self.next (ref_count h.kind h.count) F.ref_size (omega (arith, i.asked, read)) block.within in
+    omega (arith, all, fit.0, c.requires.head.body)
+
+pub returns-clause-asks : goal.returns-clause-asks
+returns-clause-asks g c =
+    let i = c.loop-refs.invariant in
+    let F : Frame = frame_in (g.P.Source.means c.args.src.now) in
+    let h = c.args.head.now in
+    let fit = refs_fit F.ref_size h.count h.kind c.frame-frame.ensures.framed.safe.safe.ref_low in
+    let end = c.in_ok-read.ensures.end c.if-branch.false in
+    let all = asked_within (g.P.Source.asked c.args.src.now) _ c.loop-refs.refs.next (ref_count h.kind h.count) F.ref_size i.asked (omega (arith, end.1, i.of.same_bound)) in
+    let same : c.loop-refs.refs.next * F.ref_size ≡ c.loop-refs.refs.bound * F.ref_size = ap (λ n. n * F.ref_size) end.1 in
+    omega (arith, all, rw i.reads at c.in_ok-read.ensures.asks, same, fit.0, c.requires.head.body)

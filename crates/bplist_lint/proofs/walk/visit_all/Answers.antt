@@ -1,4 +1,4 @@
-use Rattle.std.proofs.Common.{◌≡◌, ◌<◌, arith, rules, false, length, replicate, sym, ◌∙◌}
+use Rattle.std.proofs.Common.{◌≡◌, ◌<◌, vec_len, arith, rules, false, length, replicate, sym, ◌∙◌}
 use Rattle.std.proofs.lemmas.Grind.{common_steps}
 use Rattle.std.proofs.lemmas.List.{get_or_read}
 use Rattle.bplist_objects.specs.declared.frame.Frame.{Frame}
@@ -13,11 +13,12 @@ pub loop-n-init : goal.loop-n-init
 loop-n-init g c =
     let marks_new : c.in_ok-marks.marks.items ≡ replicate c.frame-frame.result.objects false = search rules in
     let childless_new : c.in_ok-childless.childless.items ≡ replicate c.frame-frame.result.objects false = search rules in
+    let no_stack : vec_len c.in_ok-with_capacity.field-0 ≡ 0 = grind (arith, common_steps) in
     record {
       reads = cc;
       asked = omega arith;
-      once = rw (marks_new, c.new-2.ensures, c.in_ok-with_capacity.ensures.items, c.frame-frame.ensures.frame) (let first = work_first (frame_in (g.P.Source.means c.args.src.now)).objects (frame_in (g.P.Source.means c.args.src.now)).top.0 c.frame-frame.ensures.framed.safe.top in omega (arith, first));
-      only = λ m is. absurd (none_marked c.frame-frame.result.objects m (rw c.in_ok-named.ensures at is));
+      once = rw (marks_new, c.new-2.ensures, no_stack, c.frame-frame.ensures.frame) (let first = work_first (frame_in (g.P.Source.means c.args.src.now)).objects (frame_in (g.P.Source.means c.args.src.now)).top.0 c.frame-frame.ensures.framed.safe.top in omega (arith, first));
+      only = λ m is. absurd (none_marked c.frame-frame.result.objects m (rw c.in_ok-new.ensures at is));
       steady = search rules;
       empty = grind (arith, common_steps);
       walking = λ honest.

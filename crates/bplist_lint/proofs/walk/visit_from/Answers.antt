@@ -1,5 +1,6 @@
-use Rattle.std.proofs.Common.{◌≡◌, [], arith, ◌∙◌}
+use Rattle.std.proofs.Common.{◌≡◌, [], length, ap, arith, ◌∙◌}
 use Rattle.std.proofs.lemmas.Grind.{common_steps, elements}
+use Rattle.std.proofs.lemmas.List.{length_push}
 use Rattle.bplist_lint.proofs.Walks.{walking_on}
 use Rattle.bplist_lint.proofs.walk.visit_from.Goals as goal
 
@@ -39,7 +40,7 @@ loop-m-preserved g c =
       reads = c.in_ok-visit-2.ensures.reads ∙ i.reads;
       steady = rw i.reads at c.in_ok-visit-2.ensures.steady;
       asked = omega (arith, i.asked, c.in_ok-visit-2.ensures.asks, c.in_ok-visit-2.ensures.one);
-      once = omega (arith, i.once, c.in_ok-visit-2.ensures.one, c.in_ok-visit-2.ensures.worked.work);
+      once = omega (arith, i.once, c.in_ok-visit-2.ensures.one, c.in_ok-visit-2.ensures.worked.work, ap length c.in-Some.ensures.items, length_push c.pop.new.self.items c.in-Some.m);
       only = λ before. c.in_ok-visit-2.ensures.only (i.only before);
       current = c.in_ok-visit-2.ensures.worked.current ∙ i.current;
       walking = λ honest marked w. (rw (i.reads, i.current) at c.in_ok-visit-2.ensures.walking) honest (rw c.in-Some.ensures.items at (i.walking honest marked w));

@@ -176,7 +176,7 @@ pub returns-in_err-count-clause-asks_any : goal.returns-in_err-count-clause-asks
 returns-in_err-count-clause-asks_any g c = λ honest whole within.
     let i = c.loop-more.invariant in
     let o = i.passed honest whole within in
-    scan_within _ _ c.args.from c.loop-more.done _ 460 (g.R.References.width c.args.graph.now) (omega (arith, i.counted_more c.loop-more-test.true, i.few, c.read.ensures.asks_any)) o.0 (omega arith)
+    scan_within _ _ c.args.from c.loop-more.done _ 496 (g.R.References.width c.args.graph.now) (omega (arith, i.counted_more c.loop-more-test.true, i.few, c.read.ensures.asks_any)) o.0 (omega arith)
 
 pub returns-in-New-clause-width : goal.returns-in-New-clause-width
 returns-in-New-clause-width g c = c.read.ensures.width ∙ c.loop-more.invariant.width
@@ -198,7 +198,7 @@ pub returns-in-New-clause-asks_any : goal.returns-in-New-clause-asks_any
 returns-in-New-clause-asks_any g c = λ honest whole within.
     let i = c.loop-more.invariant in
     let o = i.passed honest whole within in
-    scan_within _ _ c.args.from c.loop-more.done _ 460 (g.R.References.width c.args.graph.now) (omega (arith, i.counted_more c.loop-more-test.true, i.few, c.read.ensures.asks_any)) o.0 (omega arith)
+    scan_within _ _ c.args.from c.loop-more.done _ 496 (g.R.References.width c.args.graph.now) (omega (arith, i.counted_more c.loop-more-test.true, i.few, c.read.ensures.asks_any)) o.0 (omega arith)
 
 pub returns-in-Circular-clause-width : goal.returns-in-Circular-clause-width
 returns-in-Circular-clause-width g c = c.read.ensures.width ∙ c.loop-more.invariant.width
@@ -215,7 +215,7 @@ pub returns-in-Circular-clause-asks_any : goal.returns-in-Circular-clause-asks_a
 returns-in-Circular-clause-asks_any g c = λ honest whole within.
     let i = c.loop-more.invariant in
     let o = i.passed honest whole within in
-    scan_within _ _ c.args.from c.loop-more.done _ 460 (g.R.References.width c.args.graph.now) (omega (arith, i.counted_more c.loop-more-test.true, i.few, c.read.ensures.asks_any)) o.0 (omega arith)
+    scan_within _ _ c.args.from c.loop-more.done _ 496 (g.R.References.width c.args.graph.now) (omega (arith, i.counted_more c.loop-more-test.true, i.few, c.read.ensures.asks_any)) o.0 (omega arith)
 
 pub returns-clause-width : goal.returns-clause-width
 returns-clause-width g c = c.loop-more.invariant.width
@@ -235,4 +235,4 @@ pub returns-clause-asks_any : goal.returns-clause-asks_any
 returns-clause-asks_any g c = λ honest whole within.
     let i = c.loop-more.invariant in
     let o = i.passed honest whole within in
-    scan_within _ _ c.args.from c.loop-more.done _ 204 (g.R.References.width c.args.graph.now) (omega (arith, i.counted, i.few)) o.0 (omega arith)
+    scan_within _ _ c.args.from c.loop-more.done _ 496 (g.R.References.width c.args.graph.now) (omega (arith, i.counted, i.few)) o.0 (omega arith)

@@ -1,7 +1,9 @@
 use Rattle.std.proofs.Common.{◌≡◌, ◌≢◌, ◌<◌, ◌+◌, ℕ, ◌++◌, ◌∷◌, [], length, get_or, refl, sym, ◌∙◌, arith}
 use Rattle.std.proofs.lemmas.Grind.{common_steps}
-use Rattle.std.proofs.lemmas.List.{get_or_push, length_push, get_or-set_same, get_or-set_other}
-use Rattle.bplist_lint.specs.declared.heights.State.TheVariants.{Open, Founded, Circular}
+use Rattle.std.proofs.lemmas.List.{get_or_push, get_or_read, length_push, get_or-set_same, get_or-set_other}
+use Rattle.bplist_objects.proofs.Lists.{none_in}
+use Rattle.bplist_lint.specs.HeightWalks.{state_at}
+use Rattle.bplist_lint.specs.declared.heights.State.TheVariants.{New, Open, Founded, Circular}
 use Rattle.bplist_lint.proofs.HeightCosts.{no_height, met_open, met_settle, met_on, left_settle, left_first, left_on, left_open}
 use Rattle.bplist_lint.proofs.HeightSteps.{work, stays_known, top_open, top_within, top_room, top_marked, standing_back, standing_open, standing_settle, work_settle, walking_back, walking_open, walking_settle, not_founded, least_height, among_at}
 use Rattle.bplist_lint.proofs.heights.HeightWalk.settle_from.Goals as goal
@@ -164,4 +166,74 @@ loop-m-preserved g c =
     }
 
 pub loop-m-init : goal.loop-m-init
-loop-m-init g c = grind (arith, common_steps)
+loop-m-init g c =
+    let n = c.args.n in
+    let states = c.args.self.now.states.items in
+    let heights = c.args.self.now.heights.items in
+    let s = c.requires.rests.standing in
+    let within : n < length states = omega (arith, c.requires.n_in, s.all_states) in
+    let none : c.args.self.now.stack.items ≡ [] = (let empty = c.requires.rests.empty in grind (arith, common_steps)) in
+    let new : state_at states n ≡ New = sym (get_or_read states n c.index.result.now within c.index.ensures New) ∙ c.in-New.is in
+    let zero_slot = no_height _ _ _ _ s n new in
+    record {
+      same = refl;
+      reads = refl;
+      width = refl;
+      standing = rw (c.open.ensures.states, c.open.ensures.heights, c.in_ok-open.ensures.stack, none) (standing_open _ _ _ _ n s c.requires.n_in new);
+      settles = record {
+        sees = rw (c.open.ensures.states, get_or-set_same states n Open New within) (λ e. cc e);
+        keeps = λ k known. rw c.open.ensures.states (stays_known states n Open within (λ e. cc e) k known);
+      };
+      walking = λ honest marks closed marked w0.
+          rw (c.open.ensures.states, c.open.ensures.heights, c.in_ok-open.ensures.stack, none) (walking_open _ _ _ _ [] n w0 marked within (λ k last. absurd (omega (arith, last))));
+      costs = λ honest marks closed marked w0 few.
+          let left = left_first (g.R.References.width c.args.graph.now) (g.R.References.graph c.args.graph.now).refs marks (g.R.References.graph c.args.graph.now).size states heights n c.requires.n_in s.all_states marked new zero_slot in
+          rw (c.open.ensures.states, c.open.ensures.heights) (met_open _ states heights n (λ k is. absurd (none_in k (s.on_stack k is))) within zero_slot, omega (arith, left));
+    }
+
+pub returns-in_err-i-clause-asks : goal.returns-in_err-i-clause-asks
+returns-in_err-i-clause-asks g c = λ honest marks closed marked w0 few.
+    let i = c.loop-m.invariant in
+    let m = c.in-Some.m in
+    let s = rw c.in-Some.ensures.items at i.standing in
+    let both = i.costs honest marks closed marked w0 few in
+    let w = rw c.in-Some.ensures.items at (i.walking honest marks closed marked w0) in
+    let m_marked = top_marked _ _ _ _ _ _ m s w in
+    let opened = top_open _ _ _ _ m s in
+    let asked = (rw (i.same, i.reads, i.width) at c.look_on.ensures.asks_any) honest (closed m m_marked).0 (both.0 m opened) in
+    let left = left_open (g.R.References.width c.args.graph.now) (g.R.References.graph c.args.graph.now).refs marks (g.R.References.graph c.args.graph.now).size c.loop-m.self.states.items c.loop-m.self.heights.items m (top_within _ _ _ _ _ s) m_marked opened in
+    omega (arith, both.1, asked, left)
+
+pub returns-in_err-push-in-New-2-clause-asks : goal.returns-in_err-push-in-New-2-clause-asks
+returns-in_err-push-in-New-2-clause-asks g c = λ honest marks closed marked w0 few.
+    let i = c.loop-m.invariant in
+    let m = c.in-Some.m in
+    let s = rw c.in-Some.ensures.items at i.standing in
+    let both = i.costs honest marks closed marked w0 few in
+    let w = rw c.in-Some.ensures.items at (i.walking honest marks closed marked w0) in
+    let m_marked = top_marked _ _ _ _ _ _ m s w in
+    let opened = top_open _ _ _ _ m s in
+    let asked = (rw (i.same, i.reads, i.width) at c.look_on.ensures.asks_any) honest (closed m m_marked).0 (both.0 m opened) in
+    let left = left_open (g.R.References.width c.args.graph.now) (g.R.References.graph c.args.graph.now).refs marks (g.R.References.graph c.args.graph.now).size c.loop-m.self.states.items c.loop-m.self.heights.items m (top_within _ _ _ _ _ s) m_marked opened in
+    omega (arith, both.1, asked, left)
+
+pub returns-in_err-open-in-New-2-clause-asks : goal.returns-in_err-open-in-New-2-clause-asks
+returns-in_err-open-in-New-2-clause-asks g c = λ honest marks closed marked w0 few.
+    let i = c.loop-m.invariant in
+    let m = c.in-Some.m in
+    let s = rw c.in-Some.ensures.items at i.standing in
+    let both = i.costs honest marks closed marked w0 few in
+    let w = rw c.in-Some.ensures.items at (i.walking honest marks closed marked w0) in
+    let m_marked = top_marked _ _ _ _ _ _ m s w in
+    let opened = top_open _ _ _ _ m s in
+    let asked = (rw (i.same, i.reads, i.width) at c.look_on.ensures.asks_any) honest (closed m m_marked).0 (both.0 m opened) in
+    let left = left_open (g.R.References.width c.args.graph.now) (g.R.References.graph c.args.graph.now).refs marks (g.R.References.graph c.args.graph.now).size c.loop-m.self.states.items c.loop-m.self.heights.items m (top_within _ _ _ _ _ s) m_marked opened in
+    omega (arith, both.1, asked, left)
+
+pub returns-clause-asks : goal.returns-clause-asks
+returns-clause-asks g c = λ honest marks closed marked w0 few.
+    let both = c.loop-m.invariant.costs honest marks closed marked w0 few in
+    omega (arith, both.1)
+
+pub returns-clause-asks_left : goal.returns-clause-asks_left
+returns-clause-asks_left g c = λ honest marks closed marked w0 few. (c.loop-m.invariant.costs honest marks closed marked w0 few).1
