@@ -107,10 +107,13 @@ module _ (refs : ℕ → List ℕ) (states : List State) (heights : List ℕ) wh
       → ((k : ℕ) → k < i → state_at states (slice_index (refs m) k) ≢ New) → slice_index heights' m ≡ i + 1 → ((k : ℕ) → k ≢ m → slice_index heights' k ≡ slice_index heights k)
       → AreMet refs (set states next Open) heights'
   met_on heights' m i next met within zero_slot inside there before slot others n is = elim (cases_eq n m) [
-    | inl e ↦ rw (e, slot) (omega (arith, inside), λ k low. elim (cases_eq k i) [
-      | inl last ↦ rw (last, ← there, get_or-set_same states next Open New within) (λ e. cc e)
-      | inr d ↦ stays_known states next Open within (λ e. cc e) _ (before k (omega (arith, low, d)))
-    ])
+    | inl e ↦ rw (e, slot) (
+      omega (arith, inside),
+      λ k low. elim (cases_eq k i) [
+        | inl last ↦ rw (last, ← there, get_or-set_same states next Open New within) (λ e. cc e)
+        | inr d ↦ stays_known states next Open within (λ e. cc e) _ (before k (omega (arith, low, d)))
+      ],
+    )
     | inr ne ↦ rw (others n ne) (met_open next met within zero_slot n is)
   ]
 

@@ -25,8 +25,8 @@ check_keys-requires-clause-known g c =
       | else-count-objects b ↦ rw b.src-is refl
     ] in
     rw (c.in_ok-classes.ensures.reads, same) (λ honest.
-        let known = c.requires.walked honest in
-        record { walked = known.0; named = c.args.named.marks.items; all = known.1; classes = (rw same at c.in_ok-classes.ensures.exact) honest })
+    let known = c.requires.walked honest in
+    record { walked = known.0; named = c.args.named.marks.items; all = known.1; classes = (rw same at c.in_ok-classes.ensures.exact) honest })
 
 pub returns-in_err-heights-clause-exact : goal.returns-in_err-heights-clause-exact
 returns-in_err-heights-clause-exact g c = λ honest.
