@@ -1,20 +1,11 @@
--- What is shown of a file, and the exit status of a run. Source: profile.
-use Rattle.std.specs.Prelude.{◌≡◌, ◌⊎◌, ℕ, List, [], ◌∷◌, map, string_bytes, Option, Result, Ok, Err}
+-- The exit status of a run. Source: profile.
+use Rattle.std.specs.Prelude.{◌≡◌, ◌⊎◌, ℕ, Result, Ok, Err}
 use Rattle.clap.specs.declared.error.kind.ErrorKind.{ErrorKind}
 use Rattle.clap.specs.declared.error.kind.ErrorKind.TheVariants as kinds
-use Rattle.bplint_engine.specs.declared.output.Led.{Led}
-use Rattle.bplint_engine.specs.declared.output.Led.TheVariants.{There, Nowhere}
-use Rattle.bplint_lines.specs.declared.fault.RunFault.{RunFault}
 use Rattle.bplint_lines.specs.declared.raw_fault.RawFault.{RawFault}
 use Rattle.bplint_lines.specs.declared.fault.Said.{Said}
 use Rattle.bplint_lines.specs.declared.fault.Said.TheVariants.{All, SomeMissing}
 use Rattle.bplint_lines.specs.RawFaults.{raw_report_of}
-
--- the answer of a run that writes nothing but values
-abbrev pub answer_of_led : Result Led RawFault → Result Said RawFault
-answer_of_led (Ok There) = Ok All
-answer_of_led (Ok (Nowhere line)) = Ok SomeMissing
-answer_of_led (Err fault) = Err fault
 
 -- the exit status of an answer; refused memory may replace another fault, because its line takes memory
 abbrev pub EndsWith : Result Said RawFault → ℕ → Type 0

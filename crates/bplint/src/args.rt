@@ -174,7 +174,8 @@ impl<'a> Run<'a> {
             | Ask::Raw { .. }
             | Ask::Rows(
                 Listed {
-                    form: Form::Json, ..
+                    form: Form::Json,
+                    ..
                 },
             )
             | Ask::Textconv => Labels {

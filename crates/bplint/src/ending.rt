@@ -1,7 +1,8 @@
 //! How a run ends: the line of its fault on standard error, with what is below it, and the exit status.
 
-ghost use Rattle.std.specs.Prelude.{◌≡◌, ◌≤◌, Err, MatchResult, None, Ok};
-ghost use Rattle.bplint.specs.ExitStatuses.{EndsWith, IsPrintedWith, IsRefusedWith, answer_of_led};
+ghost use Rattle.std.specs.Prelude.{◌≡◌, ◌≤◌, Err, Ok};
+ghost use Rattle.bplint.specs.ExitStatuses.{EndsWith, IsPrintedWith, IsRefusedWith};
+ghost use Rattle.bplint.specs.Questions.{answer_of, answer_of_led};
 ghost use Rattle.clap.specs.Values.{kind_of};
 
 use crate::output::{OutFault, OutFile};
@@ -29,7 +30,7 @@ pub struct Ending {
 impl Ending {
     /// The end of a run with this answer, with nothing below it.
     pub fn of(alloc: Global, answer: Result<Said, RunFault>) -> Ending
-        ensures { MatchResult answer (λ said. result.answer ≡ Ok said) (λ fault. result.answer ≡ Err (RawFault.Run fault)) }
+        ensures { result.answer ≡ answer_of answer }
     {
         Ending::over(answer.map_err(RawFault::Run), String::new(alloc))
     }

@@ -34,12 +34,7 @@ pub fn prefix_of(alloc: Global, name: &str, named: bool) -> Result<String, Alloc
 
 /// Completes the end of a run whose answer went to OUT: a fault gets the name of its file, or why OUT could not be
 /// written. Nothing is said if nobody reads standard output any more.
-pub fn completed(
-    alloc: Global,
-    line: &Run<'_>,
-    ending: Ending,
-    out: Option<OutFault>,
-) -> Ending {
+pub fn completed(alloc: Global, line: &Run<'_>, ending: Ending, out: Option<OutFault>) -> Ending {
     let is_write = match &ending.answer {
         Ok(_) => return ending,
         Err(RawFault::Run(RunFault::Write { .. })) => true,
@@ -80,8 +75,9 @@ fn joined(line: Result<String, AllocError>, under: &str) -> Result<String, Alloc
 /// Returns the name of the input whose fault ends a run: CERT, if a rule about certificates is broken.
 fn faulty_name<'a>(line: &Run<'a>, ending: &Ending) -> &'a str {
     match &ending.answer {
-        Err(RawFault::Run(RunFault::Fault(fault))) if is_about_certificates(fault.rule) =>
-            line.cert.unwrap_or(""),
+        Err(RawFault::Run(RunFault::Fault(fault))) if is_about_certificates(fault.rule) => line
+            .cert
+            .unwrap_or(""),
         _ => line.file,
     }
 }

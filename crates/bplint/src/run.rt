@@ -1,6 +1,7 @@
 //! Answers what is asked about one FILE.
 
-ghost use Rattle.std.specs.Prelude.{◌≤◌, IsTrue};
+ghost use Rattle.std.specs.Prelude.{◌≡◌, ◌≤◌, IsTrue};
+ghost use Rattle.bplint.specs.Questions.{LeavesAsked, answer_of};
 
 use crate::args::{Ask, Run};
 use crate::ending::{Ending, WRONG_LINE, end, refuse_line};
@@ -69,7 +70,12 @@ fn run_opened<R: Files<File = File> + Print + Eprint>(
         return keep_out(rt, alloc, line);
     }
     let ending = completed(alloc, line, ending, out.fault());
-    end(rt, alloc, &line.prefix, warned(alloc, line, ending, out.written()))
+    end(
+        rt,
+        alloc,
+        &line.prefix,
+        warned(alloc, line, ending, out.written()),
+    )
 }
 
 /// Says that OUT stays as it is, because it is no certificate. Returns the exit status.
@@ -125,7 +131,11 @@ fn answer_on<S: Source + Drop, C: Source, W: Write>(
     file: S,
     cert: &mut C,
     out: &mut W,
-) -> (Ending, S) {
+) -> (Ending, S)
+    ensures exact { IsTrue (S.means file).honest → IsTrue (C.means cert.old).honest
+        → ∥ LeavesAsked line.now.ask line.now.hex (S.means file).octets (C.means cert.old).octets
+        (W.contents out.old) (W.contents out.new) result.0.answer ∥₁ }
+{
     let decoded = match decode(alloc, cert) {
         Ok(decoded) => decoded,
         Err(fault) => return (Ending::with(alloc, RunFault::Read(fault)), file),
@@ -160,7 +170,9 @@ fn answer_on<S: Source + Drop, C: Source, W: Write>(
 }
 
 /// Returns how a run ends with an answer, and FILE.
-fn of<S: Source>(alloc: Global, answered: (Result<Said, RunFault>, S)) -> (Ending, S) {
+fn of<S: Source>(alloc: Global, answered: (Result<Said, RunFault>, S)) -> (Ending, S)
+    ensures { result.0.answer ≡ answer_of answered.0 }
+{
     let (answer, file) = answered;
     (Ending::of(alloc, answer), file)
 }

@@ -113,7 +113,10 @@ fn list<S: Source + Drop, W: Write>(
     };
     match list_all_on(alloc, src, &whole, out) {
         (Err(RunFault::TooLong), src) => match list_on(alloc, src, "", Style::Utf8, out) {
-            (Ok(_), src) => (send(format!(in alloc; "more than {LINES} lines\n"), out), src),
+            (Ok(_), src) => (
+                send(format!(in alloc; "more than {LINES} lines\n"), out),
+                src,
+            ),
             refused => refused,
         },
         answered => answered,

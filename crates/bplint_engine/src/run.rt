@@ -84,7 +84,14 @@ fn run_certified<S: Source, W: Write>(
         Verb::Check => check_on(alloc, src, decoded, out),
         Verb::Get => get_on(alloc, src, decoded, &command.paths, out),
         Verb::Certify => certify_on(alloc, src, command.sorted, command.hex, out),
-        Verb::Print => print_on(alloc, src, decoded, command.paths[0].as_str(), command.limit, out),
+        Verb::Print => print_on(
+            alloc,
+            src,
+            decoded,
+            command.paths[0].as_str(),
+            command.limit,
+            out,
+        ),
     }
 }
 
