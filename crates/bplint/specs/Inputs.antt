@@ -15,7 +15,9 @@ IsWholeFault fault = (fault ≡ TooLong) ⊎ ((fault ≡ faults.Memory) ⊎ ((fa
 
 -- a fault of an input: it could not be opened, is a folder, or could not be read as a whole
 abbrev pub IsInputFault : InputFault → Type 0
-IsInputFault fault = elim fault [ Open _ ↦ Unit {0} | Folder ↦ Unit {0} | _ ↦ IsWholeFault fault ]
+IsInputFault (Open _) = Unit {0}
+IsInputFault Folder = Unit {0}
+IsInputFault fault = IsWholeFault fault
 
 -- the fault is a failed read
 abbrev pub IsReadFault : InputFault → Type 0

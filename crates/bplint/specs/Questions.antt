@@ -107,7 +107,7 @@ module _ (Says : Answer → Type 0) (Rawless : ℕ → Type 0) where
 
   -- exit status 0 is given only if the answer is yes, and 1 only if it is no
   abbrev pub StatusSays : ℕ → Type 0
-  StatusSays status = (status ≡ 0 → ∥ (bytes : List ℕ) × Says (gives All bytes) ∥₁) × (status ≡ 1 → ∥ SaysNo ∥₁)
+  StatusSays status = (status ≡ 0 → ∥ ((bytes : List ℕ) × Says (gives All bytes)) ∥₁) × (status ≡ 1 → ∥ SaysNo ∥₁)
 
 -- a run about f and cert ends as it may
 abbrev pub EndsAsked : Ask → Bool → List ℕ → List ℕ → Result Said RawFault → Type 0
@@ -121,6 +121,6 @@ StatusAsked ask hex f cert status = StatusSays (SaysAsked ask hex f cert) (IsRaw
 -- never 0 for one that breaks a rule
 pub record LintEnds (f : List ℕ) (status : ℕ) : Type 0 where
   pub yes : status ≡ 0 → ∥ IsSound f ∥₁
-  pub no : status ≡ 1 → ∥ (fault : RunFault) × LintSays f (refuses fault) ∥₁
+  pub no : status ≡ 1 → ∥ ((fault : RunFault) × LintSays f (refuses fault)) ∥₁
   pub sound : IsSound f → status ≡ 1 → ⊥
   pub broken : (fault : RunFault) → LintSays f (refuses fault) → status ≡ 0 → ⊥

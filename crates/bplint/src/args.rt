@@ -154,15 +154,24 @@ pub enum Ask<'a> {
     Textconv,
 }
 
-impl<'a> Run<'a> {
-    /// Gives the line these path texts, if it is one of `show` or `get`.
-    pub fn with_paths(self, paths: Vec<String>) -> Run<'a> {
-        let ask = match self.ask {
+impl<'a> Ask<'a> {
+    /// Gives the question these path texts, if it is that of `show` or `get`.
+    fn with_paths(self, paths: Vec<String>) -> Ask<'a> {
+        match self {
             Ask::Get { .. } => Ask::Get { paths },
             Ask::Show { style, .. } => Ask::Show { paths, style },
             ask => ask,
-        };
-        Run { ask, ..self }
+        }
+    }
+}
+
+impl<'a> Run<'a> {
+    /// Gives the line these path texts, if it is one of `show` or `get`.
+    pub fn with_paths(self, paths: Vec<String>) -> Run<'a> {
+        Run {
+            ask: self.ask.with_paths(paths),
+            ..self
+        }
     }
 
     /// Returns what begins the lines of the answer. Nothing may stand before bytes and before JSON; and `textconv` puts

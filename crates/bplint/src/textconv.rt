@@ -91,11 +91,12 @@ fn show_lines<S: Source + Drop, W: Write>(
     out: &mut W,
 ) -> (Result<Said, RunFault>, S) {
     let length = src.len();
-    match list(alloc, src, out) {
-        (Err(fault), src) if fault.status() == 1 => {
+    let (answer, src) = list(alloc, src, out);
+    match answer {
+        Err(fault) if fault.status() == 1 => {
             (send(dump(alloc, &fault, front, length), out), src)
         }
-        answered => answered,
+        answer => (answer, src),
     }
 }
 
@@ -111,15 +112,17 @@ fn list<S: Source + Drop, W: Write>(
         limit: u64::MAX,
         style: Style::Utf8,
     };
-    match list_all_on(alloc, src, &whole, out) {
-        (Err(RunFault::TooLong), src) => match list_on(alloc, src, "", Style::Utf8, out) {
-            (Ok(_), src) => (
-                send(format!(in alloc; "more than {LINES} lines\n"), out),
-                src,
-            ),
-            refused => refused,
-        },
-        answered => answered,
+    let (answer, src) = list_all_on(alloc, src, &whole, out);
+    let Err(RunFault::TooLong) = &answer else {
+        return (answer, src);
+    };
+    let (answer, src) = list_on(alloc, src, "", Style::Utf8, out);
+    match answer {
+        Ok(_) => (
+            send(format!(in alloc; "more than {LINES} lines\n"), out),
+            src,
+        ),
+        Err(fault) => (Err(fault), src),
     }
 }
 

@@ -2,7 +2,7 @@
 //! their options, and the calls that run them.
 
 ghost use Rattle.std.specs.Prelude.{◌≡◌, ℕ, List, [], None, IsTrue, if◌then◌else◌, ◌⊎◌, ◌-◌, ◌==◌, IfOk, IfErr, IsErr};
-ghost use Rattle.std.specs.Prelude.{Ok, length, slice_index, take};
+ghost use Rattle.std.specs.Prelude.{◌∷◌, Ok, length, map, slice_index, string_bytes, take};
 ghost use Rattle.bplint_engine.specs.Prelude.{OnlyReads, IsDecoded, PrintsOnePath, Leaves, read_failed, Says, SaysOver};
 ghost use Rattle.bplint_engine.specs.Prelude.{most, takes_cert, spelled};
 
@@ -84,15 +84,19 @@ fn run_certified<S: Source, W: Write>(
         Verb::Check => check_on(alloc, src, decoded, out),
         Verb::Get => get_on(alloc, src, decoded, &command.paths, out),
         Verb::Certify => certify_on(alloc, src, command.sorted, command.hex, out),
-        Verb::Print => print_on(
-            alloc,
-            src,
-            decoded,
-            command.paths[0].as_str(),
-            command.limit,
-            out,
-        ),
+        Verb::Print => {
+            let path = only_text(&command.paths);
+            print_on(alloc, src, decoded, path, command.limit, out)
+        }
     }
+}
+
+/// Returns the text of a list that has one.
+fn only_text(texts: &[String]) -> &str
+    requires { length texts.now ≡ 1 }
+    ensures { map (λ text. string_bytes text) texts.now ≡ result.now ∷ [] }
+{
+    texts[0].as_str()
 }
 
 /// Decodes a certificate, and runs a command over a source. Returns the source too.

@@ -1,4 +1,4 @@
-use Rattle.std.proofs.Common.{◌≡◌, Err, None, subst, sym}
+use Rattle.std.proofs.Common.{◌≡◌, Err, None, ap, subst, sym}
 use Rattle.std.specs.Prelude.{MatchResult}
 use Rattle.std.proofs.lemmas.Result.{err_from_is_err_and}
 use Rattle.bplist_cursor.specs.Leads.{LeadTo}
@@ -41,7 +41,8 @@ returns-in_err-missing_output-in-Missing-clause-exact g c = λ honest v holds.
 pub returns-in_ok-missing_output-in-Missing-clause-exact : goal.returns-in_ok-missing_output-in-Missing-clause-exact
 returns-in_ok-missing_output-in-Missing-clause-exact g c = λ honest v holds.
     let found = rw c.in-Missing.is at (c.in_ok-node.ensures.exact honest v holds) in
-    let says = missing_made (PathShowsRaw c.args.path.now v) _ _ _
-    (λ a h. subst (λ r. MatchResult r (λ x. NodeShowsRaw x a) (λ missing. a ≡ gives SomeMissing (found_line OldStyle (Err missing)))) (sym found) h)
-    c.missing_output.ensures.made c.missing_output.ensures.refused in
-    (rw c.in_ok-missing_output-in-Missing.was at says, kept_self _)
+    let line = c.in_ok-missing_output-in-Missing.field-0.bytes.items in (
+      subst (λ r. MatchResult r (λ x. NodeShowsRaw x (gives SomeMissing line)) (λ missing. gives SomeMissing line ≡ gives SomeMissing (found_line OldStyle (Err missing)))) (sym found)
+          (ap (gives SomeMissing) c.in_ok-missing_output-in-Missing.ensures.made.1),
+      kept_self _,
+    )
