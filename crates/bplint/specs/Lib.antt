@@ -1,2 +1,3 @@
 pub mod ExitStatuses
 pub mod Inputs
+pub mod Questions

@@ -1,9 +1,8 @@
 //! What a command line asks for.
 
-ghost use Rattle.bplint_engine.specs.Commands.{PrintsOnePath};
-
+use crate::labels::Labels;
 use crate::output::Replaces;
-use bplint_engine::{Command, Verb};
+use bplint_engine::Branch;
 use bplint_json::{Form, Listed};
 use bplint_lines::Style;
 use bplist_objects::Rule;
@@ -11,25 +10,12 @@ use bplist_objects::Rule;
 /// A command line without errors.
 #[derive(Drop)]
 pub enum Line<'a> {
-    /// `lint`, for one file or several.
+    /// `lint`, for one FILE or several.
     Lint(Lint<'a>),
-    /// A subcommand for one FILE.
+    /// Another subcommand for one FILE.
     Run(Run<'a>),
-    /// `textconv`, for one FILE.
-    Textconv(Textconv<'a>),
     /// `explain`, for this rule.
     Explain(Rule),
-}
-
-/// A command line of `textconv`.
-#[derive(Drop)]
-pub struct Textconv<'a> {
-    /// The FILE; `-` is standard input.
-    pub file: &'a str,
-    /// True if each line begins with the name of FILE.
-    pub named: bool,
-    /// True if there are lines below a fault.
-    pub explain: bool,
 }
 
 /// A command line of `lint`.
@@ -79,159 +65,136 @@ pub enum Printed {
     Json,
 }
 
-/// A command line that asks one thing about one FILE.
+/// What is asked about one FILE. `lint` makes one for each of its files.
 #[derive(Drop)]
 pub struct Run<'a> {
-    /// What to do.
-    pub request: Request<'a>,
-    /// What to read.
-    pub operands: Operands<'a>,
-    /// OUT, or `-` for standard output if the subcommand has no OUT.
+    /// The question.
+    pub ask: Ask<'a>,
+    /// The name of FILE; `-` is standard input.
+    pub file: &'a str,
+    /// The name of CERT, if the subcommand has one.
+    pub cert: Option<&'a str>,
+    /// The name of OUT; `-` is standard output.
     pub out: &'a str,
     /// Which files at OUT are replaced.
     pub replaces: Replaces,
-    /// True if each line begins with the name of FILE.
-    pub named: bool,
-    /// The file that lists the paths of `show` and `get`; `-` is standard input. Each line of the answer then begins
-    /// with its path.
+    /// True if FILE and CERT hold hexadecimal text, and OUT will.
+    pub hex: bool,
+    /// What begins each line: the name of FILE with a colon and a blank, or nothing.
+    pub prefix: String,
+    /// The file that lists the paths of `show` and `get`; `-` is standard input. Each line of the answer then begins with
+    /// its path.
     pub paths_from: Option<&'a str>,
     /// The largest number of bytes that `ls` writes.
     pub most: Option<u64>,
-}
-
-impl<'a> Run<'a> {
-    /// Gives the line these path texts, if it is one of `show` or `get`.
-    pub fn with_paths(self, paths: Vec<String>) -> Run<'a> {
-        let Request { task, explain } = self.request;
-        Run {
-            request: Request {
-                task: task.with_paths(paths),
-                explain,
-            },
-            ..self
-        }
-    }
-}
-
-/// The names of the inputs.
-#[derive(Drop)]
-pub struct Operands<'a> {
-    /// FILE; `-` is standard input.
-    pub file: &'a str,
-    /// CERT, if the subcommand has one.
-    pub cert: Option<&'a str>,
-    /// True if they hold hexadecimal text.
-    pub hex: bool,
-}
-
-/// What to do with a file, and what to say of a fault.
-#[derive(Drop)]
-pub struct Request<'a> {
-    /// What to do.
-    pub task: Task<'a>,
     /// True if there are lines below a fault.
     pub explain: bool,
 }
 
-/// What to do with a file.
+/// A question about one FILE, and about CERT if it has one.
 #[derive(Drop)]
-pub enum Task<'a> {
-    /// `lint`, `certify`, `check`, `get` or `print`.
-    Command(Job),
-    /// `show`, `ls` or `map`, which take no certificate.
-    Show(Shown<'a>),
-    /// `show --raw`, of the value under this path text.
-    Raw(&'a str),
-    /// `ls --json` or `ls --objects`.
-    Rows(Listed<'a>),
-}
-
-impl<'a> Task<'a> {
-    /// Returns true if the answer is bytes, or JSON lines: nothing may stand before its lines.
-    pub fn writes_bytes(&self) -> bool {
-        match self {
-            Task::Command(job) => match job.command.verb {
-                Verb::Certify => true,
-                _ => false,
-            },
-            Task::Show(_) => false,
-            Task::Raw(_) => true,
-            Task::Rows(listed) => match listed.form {
-                Form::Json => true,
-                Form::Columns(_) => false,
-            },
-        }
-    }
-
-    /// Gives the task these path texts, if it takes several.
-    fn with_paths(self, paths: Vec<String>) -> Task<'a> {
-        match self {
-            Task::Command(job) => Task::Command(job.with_paths(paths)),
-            Task::Show(Shown::Values { style, .. }) => Task::Show(Shown::Values { paths, style }),
-            task => task,
-        }
-    }
-}
-
-/// A command of the engine. `Print` has exactly one path.
-#[derive(Drop)]
-pub struct Job {
-    /// The command.
-    pub command: Command,
-    ghost one_path: { PrintsOnePath command },
-}
-
-impl Job {
-    /// Gives `get` these path texts. The other commands take one or none.
-    fn with_paths(self, paths: Vec<String>) -> Job {
-        match self.command.verb {
-            Verb::Get => Job {
-                command: Command {
-                    paths,
-                    ..self.command
-                },
-            },
-            _ => self,
-        }
-    }
-}
-
-/// What to show of a file.
-#[derive(Drop)]
-pub enum Shown<'a> {
-    /// The values under these path texts.
-    Values {
+pub enum Ask<'a> {
+    /// `lint`: whether the file is sound.
+    Lint,
+    /// `certify`: a certificate.
+    Certify {
+        /// True if it has key lists.
+        sorted: bool,
+    },
+    /// `check`: whether the certificate is valid.
+    Check,
+    /// `get`: the values under these path texts.
+    Get {
+        /// The path texts.
+        paths: Vec<String>,
+    },
+    /// `print`: the value under this path text, as old-style text.
+    Print {
+        /// The path text.
+        path: &'a str,
+        /// The largest text in bytes, not counting its line feed.
+        limit: u64,
+    },
+    /// `show`: the values under these path texts, without a certificate, as in all questions from here on.
+    Show {
         /// The path texts.
         paths: Vec<String>,
         /// How texts are written.
         style: Style,
     },
-    /// The value under this path text, as old-style text.
+    /// `show --text`: what `print` prints.
     Text {
         /// The path text.
         path: &'a str,
         /// The largest text in bytes, not counting its line feed.
         limit: u64,
     },
-    /// The members of the value under this path text.
-    Members {
+    /// `show --raw`: the bytes of the value under this path text.
+    Raw {
+        /// The path text.
+        path: &'a str,
+    },
+    /// `ls`: the members of the value under this path text.
+    List {
         /// The path text.
         path: &'a str,
         /// How texts and keys are written.
         style: Style,
     },
-    /// The value under this path text, and everything inside it.
-    Tree {
-        /// The path text.
-        path: &'a str,
-        /// The largest number of nodes of the value.
-        limit: u64,
-        /// How texts and keys are written.
-        style: Style,
-    },
-    /// The map of the file.
+    /// `ls --recursive`: the value, and everything inside it.
+    Tree(Branch<'a>),
+    /// `ls --json` or `ls --objects`.
+    Rows(Listed<'a>),
+    /// `map`: where the objects of the file are.
     Map {
         /// True if it has the shortest path to each object.
         paths: bool,
     },
+    /// `textconv`: the file as text, whatever it is.
+    Textconv,
+}
+
+impl<'a> Ask<'a> {
+    /// Gives the question these path texts, if it is that of `show` or `get`.
+    fn with_paths(self, paths: Vec<String>) -> Ask<'a> {
+        match self {
+            Ask::Get { .. } => Ask::Get { paths },
+            Ask::Show { style, .. } => Ask::Show { paths, style },
+            ask => ask,
+        }
+    }
+}
+
+impl<'a> Run<'a> {
+    /// Gives the line these path texts, if it is one of `show` or `get`.
+    pub fn with_paths(self, paths: Vec<String>) -> Run<'a> {
+        Run {
+            ask: self.ask.with_paths(paths),
+            ..self
+        }
+    }
+
+    /// Returns what begins the lines of the answer. Nothing may stand before bytes and before JSON; and `textconv` puts
+    /// the name before the lines that it makes, but not before those of a file that it copies.
+    pub fn labels(&self) -> Labels<'_> {
+        let prefix = self.prefix.as_str();
+        match &self.ask {
+            Ask::Certify { .. }
+            | Ask::Raw { .. }
+            | Ask::Rows(
+                Listed {
+                    form: Form::Json,
+                    ..
+                },
+            )
+            | Ask::Textconv => Labels {
+                prefix: "",
+                paths: &[],
+            },
+            Ask::Get { paths } | Ask::Show { paths, .. } if self.paths_from.is_some() => {
+                Labels { prefix, paths }
+            }
+            _ => Labels { prefix, paths: &[] },
+        }
+    }
 }

@@ -1,15 +1,11 @@
 //! Reads the command line with `clap`.
 
-ghost use Rattle.std.specs.Prelude.{◌≡◌, IfOk, length};
-ghost use Rattle.bplint_engine.specs.declared.run.Verb.TheVariants as verbs;
-
-use crate::args::{
-    Choice, Job, Line, Lint, Operands, Printed, Request, Run, Shown, Task, Textconv,
-};
+use crate::args::{Ask, Choice, Line, Lint, Printed, Run};
 use crate::output::Replaces;
+use crate::reasons::prefix_of;
 use crate::rule_words::{no_rule, rule_in};
 use crate::subcommands::bplint;
-use bplint_engine::{Command, Verb};
+use bplint_engine::Branch;
 use bplint_json::{Depth, Form, Listed};
 use bplint_lines::Style;
 use clap::error::ErrorKind;
@@ -58,17 +54,8 @@ fn line_of<'a>(
     let explain = explains(matches, on_terminal);
     match name {
         "lint" => Ok(Line::Lint(lint_of(alloc, matches, explain)?)),
-        "textconv" => Ok(Line::Textconv(textconv_of(matches, explain))),
         "explain" => explain_of(alloc, matches.get_strs("WORD").unwrap_or(&[])),
         _ => Ok(Line::Run(run_of(alloc, name, matches, explain)?)),
-    }
-}
-
-fn textconv_of<'a>(matches: &ArgMatches<'a>, explain: bool) -> Textconv<'a> {
-    Textconv {
-        file: matches.get_str("FILE").unwrap_or(""),
-        named: matches.get_flag("with-filename"),
-        explain,
     }
 }
 
@@ -133,27 +120,25 @@ fn explain_of<'a>(alloc: Global, words: &[&str]) -> Result<Line<'a>, Error> {
     }
 }
 
+/// Makes the line of a subcommand for one FILE.
 fn run_of<'a>(
     alloc: Global,
     name: &str,
     matches: &ArgMatches<'a>,
     explain: bool,
 ) -> Result<Run<'a>, Error> {
+    let file = matches.get_str("FILE").unwrap_or("");
     Ok(Run {
-        request: Request {
-            task: task_of(alloc, name, matches)?,
-            explain,
-        },
-        operands: Operands {
-            file: matches.get_str("FILE").unwrap_or(""),
-            cert: matches.get_str("CERT"),
-            hex: matches.get_flag("hex"),
-        },
+        ask: ask_of(alloc, name, matches)?,
+        file,
+        cert: matches.get_str("CERT"),
         out: matches.get_str("OUT").unwrap_or("-"),
         replaces: replaces_in(matches),
-        named: matches.get_flag("with-filename"),
+        hex: matches.get_flag("hex"),
+        prefix: prefix_of(alloc, file, matches.get_flag("with-filename"))?,
         paths_from: matches.get_str("paths-from"),
         most: matches.get_one::<u64>("BYTES"),
+        explain,
     })
 }
 
@@ -168,51 +153,73 @@ fn replaces_in(matches: &ArgMatches<'_>) -> Replaces {
     Replaces::Certificates
 }
 
-fn task_of<'a>(alloc: Global, name: &str, matches: &ArgMatches<'a>) -> Result<Task<'a>, Error> {
+/// Returns what a subcommand asks about FILE.
+fn ask_of<'a>(alloc: Global, name: &str, matches: &ArgMatches<'a>) -> Result<Ask<'a>, Error> {
     match name {
+        "certify" => Ok(Ask::Certify {
+            sorted: matches.get_flag("sorted"),
+        }),
+        "check" => Ok(Ask::Check),
+        "get" => Ok(Ask::Get {
+            paths: all_paths(alloc, texts_in(matches))?,
+        }),
+        "print" => Ok(Ask::Print {
+            path: path_in(matches),
+            limit: limit_in(matches),
+        }),
         "show" => show_of(alloc, matches),
-        "ls" if matches.get_flag("json") => Ok(Task::Rows(rows_in(matches, Form::Json))),
-        "ls" if matches.get_flag("objects") => {
-            let form = Form::Columns(style_in(matches));
-            Ok(Task::Rows(rows_in(matches, form)))
-        }
-        "ls" => Ok(Task::Show(listed_by(matches))),
-        "map" => Ok(Task::Show(Shown::Map {
+        "ls" => Ok(ls_of(matches)),
+        "map" => Ok(Ask::Map {
             paths: matches.get_flag("paths"),
-        })),
-        _ => Ok(Task::Command(job_of(alloc, verb_of(name), matches)?)),
+        }),
+        _ => Ok(Ask::Textconv),
     }
 }
 
-/// Returns what `show` asks for. With `--text` or `--raw` it takes at most one path.
-fn show_of<'a>(alloc: Global, matches: &ArgMatches<'a>) -> Result<Task<'a>, Error> {
+/// Returns what `show` asks for. With `--text` or `--raw` it takes at most one path; without them no path means the empty
+/// one, which is the whole value.
+fn show_of<'a>(alloc: Global, matches: &ArgMatches<'a>) -> Result<Ask<'a>, Error> {
     let (text, raw) = (matches.get_flag("text"), matches.get_flag("raw"));
-    if (text || raw) && matches.get_strs("PATH").unwrap_or(&[]).len() > 1 {
-        let message = "--text and --raw take one PATH";
-        return Err(refusal(alloc, ErrorKind::TooManyValues, message)?);
+    let (path, limit) = (path_in(matches), limit_in(matches));
+    match texts_in(matches) {
+        [_, _, ..] if text || raw => {
+            let message = "--text and --raw take one PATH";
+            Err(refusal(alloc, ErrorKind::TooManyValues, message)?)
+        }
+        _ if raw => Ok(Ask::Raw { path }),
+        _ if text => Ok(Ask::Text { path, limit }),
+        [] => Ok(Ask::Show {
+            paths: all_paths(alloc, &[""])?,
+            style: style_in(matches),
+        }),
+        texts => Ok(Ask::Show {
+            paths: all_paths(alloc, texts)?,
+            style: style_in(matches),
+        }),
     }
-    let path = path_in(matches);
-    if raw {
-        return Ok(Task::Raw(path));
-    }
-    if text {
-        let limit = limit_in(matches);
-        return Ok(Task::Show(Shown::Text { path, limit }));
-    }
-    Ok(Task::Show(Shown::Values {
-        paths: shown_paths(alloc, matches)?,
-        style: style_in(matches),
-    }))
 }
 
-/// Returns what `ls` lists.
-fn listed_by<'a>(matches: &ArgMatches<'a>) -> Shown<'a> {
-    let (path, style) = (path_in(matches), style_in(matches));
-    if matches.get_flag("recursive") {
-        let limit = limit_in(matches);
-        return Shown::Tree { path, limit, style };
+/// Returns what `ls` asks for.
+fn ls_of<'a>(matches: &ArgMatches<'a>) -> Ask<'a> {
+    let (path, limit, style) = (path_in(matches), limit_in(matches), style_in(matches));
+    let recursive = matches.get_flag("recursive");
+    let depth = if recursive {
+        Depth::All(limit)
+    } else {
+        Depth::Members
+    };
+    if matches.get_flag("json") {
+        let form = Form::Json;
+        return Ask::Rows(Listed { path, depth, form });
     }
-    Shown::Members { path, style }
+    if matches.get_flag("objects") {
+        let form = Form::Columns(style);
+        return Ask::Rows(Listed { path, depth, form });
+    }
+    if recursive {
+        return Ask::Tree(Branch { path, limit, style });
+    }
+    Ask::List { path, style }
 }
 
 /// Returns how texts are written.
@@ -223,71 +230,17 @@ fn style_in(matches: &ArgMatches<'_>) -> Style {
     Style::OldStyle
 }
 
-/// Returns what `ls --json` or `ls --objects` lists.
-fn rows_in<'a>(matches: &ArgMatches<'a>, form: Form) -> Listed<'a> {
-    let path = path_in(matches);
-    let depth = if matches.get_flag("recursive") {
-        Depth::All(limit_in(matches))
-    } else {
-        Depth::Members
-    };
-    Listed { path, depth, form }
-}
-
-/// Returns the path texts of `show`. Without one, this is the empty path, which is the whole value.
-fn shown_paths(alloc: Global, matches: &ArgMatches<'_>) -> Result<Vec<String>, AllocError> {
-    match matches.get_strs("PATH").unwrap_or(&[]) {
-        [] => one_path(alloc, ""),
-        texts => all_paths(alloc, texts),
-    }
-}
-
-/// Returns the verb of `certify`, `check`, `get` or `print`.
-fn verb_of(name: &str) -> Verb {
-    match name {
-        "certify" => Verb::Certify,
-        "check" => Verb::Check,
-        "get" => Verb::Get,
-        _ => Verb::Print,
-    }
-}
-
-fn job_of(alloc: Global, verb: Verb, matches: &ArgMatches<'_>) -> Result<Job, AllocError> {
-    Ok(Job {
-        command: Command {
-            verb,
-            paths: paths_of(alloc, verb, matches)?,
-            limit: limit_in(matches),
-            hex: matches.get_flag("hex"),
-            sorted: matches.get_flag("sorted"),
-        },
-    })
-}
-
-/// Returns the path texts of a verb: one for `Print`, all for `Get`, none for the others.
-fn paths_of(alloc: Global, verb: Verb, matches: &ArgMatches<'_>) -> Result<Vec<String>, AllocError>
-    ensures { IfOk result (λ paths. verb ≡ verbs.Print → length paths.items ≡ 1) }
-{
-    match verb {
-        Verb::Print => one_path(alloc, path_in(matches)),
-        Verb::Get => all_paths(alloc, matches.get_strs("PATH").unwrap_or(&[])),
-        Verb::Lint | Verb::Certify | Verb::Check => Ok(Vec::new(alloc)),
-    }
-}
-
-fn one_path(alloc: Global, text: &str) -> Result<Vec<String>, AllocError>
-    ensures { IfOk result (λ paths. length paths.items ≡ 1) }
-{
-    let path = String::from_str(alloc, text)?;
-    Ok(vec![in alloc; path]?)
-}
-
 fn all_paths(alloc: Global, texts: &[&str]) -> Result<Vec<String>, AllocError> {
     let mut paths = Vec::new(alloc);
     for text in texts {
         paths.push(String::from_str(alloc, text)?)?;
     }
     Ok(paths)
+}
+
+/// Returns the texts of all PATHs.
+fn texts_in<'m, 'a>(matches: &'m ArgMatches<'a>) -> &'m [&'a str] {
+    matches.get_strs("PATH").unwrap_or(&[])
 }
 
 /// Returns the first PATH, or the empty path for the whole value.

@@ -1,10 +1,12 @@
 //! How a run ends: the line of its fault on standard error, with what is below it, and the exit status.
 
-ghost use Rattle.std.specs.Prelude.{◌≡◌, ◌≤◌, Err, MatchResult, None, Ok};
+ghost use Rattle.std.specs.Prelude.{◌≡◌, ◌≤◌, Err, Ok};
 ghost use Rattle.bplint.specs.ExitStatuses.{EndsWith, IsPrintedWith, IsRefusedWith};
+ghost use Rattle.bplint.specs.Questions.{answer_of, answer_of_led};
 ghost use Rattle.clap.specs.Values.{kind_of};
 
 use crate::output::{OutFault, OutFile};
+use bplint_engine::Led;
 use bplint_lines::{RawFault, RunFault, Said};
 use clap::Error;
 use clap::error::ErrorKind;
@@ -28,9 +30,20 @@ pub struct Ending {
 impl Ending {
     /// The end of a run with this answer, with nothing below it.
     pub fn of(alloc: Global, answer: Result<Said, RunFault>) -> Ending
-        ensures { MatchResult answer (λ said. result.answer ≡ Ok said) (λ fault. result.answer ≡ Err (RawFault.Run fault)) }
+        ensures { result.answer ≡ answer_of answer }
     {
         Ending::over(answer.map_err(RawFault::Run), String::new(alloc))
+    }
+
+    /// The end of a run that writes nothing but values. The line of a path that leads nowhere goes to standard error.
+    pub fn of_led(alloc: Global, led: Result<Led, RawFault>) -> Ending
+        ensures { result.answer ≡ answer_of_led led }
+    {
+        match led {
+            Ok(Led::There) => Ending::over(Ok(Said::All), String::new(alloc)),
+            Ok(Led::Nowhere(line)) => Ending::over(Ok(Said::SomeMissing), text_of(alloc, line)),
+            Err(fault) => Ending::over(Err(fault), String::new(alloc)),
+        }
     }
 
     /// The end of a run with this fault, with nothing below it.
@@ -52,8 +65,16 @@ impl Ending {
     }
 }
 
-/// Prints the line of a fault after the prefix, with the lines below it. Returns the exit status. Prints everything
-/// with one write, so that the lines of parallel runs do not mix.
+/// Returns the text of these bytes, which are a line.
+fn text_of(alloc: Global, line: Vec<u8>) -> String {
+    match String::from_utf8(line) {
+        Ok(text) => text,
+        Err(_) => String::new(alloc),
+    }
+}
+
+/// Prints the line of a fault after the prefix, with the lines below it. Returns the exit status. Prints everything with
+/// one write, so that the lines of parallel runs do not mix.
 pub fn end<R: Eprint>(rt: &R, alloc: Global, prefix: &str, ending: Ending) -> u8
     ensures { EndsWith ending.answer result }
 {

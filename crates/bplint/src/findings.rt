@@ -4,20 +4,18 @@
 ghost use Rattle.std.specs.Prelude.{◌≡◌, ◌≤◌, ℕ, max};
 ghost use Rattle.bplint.specs.ExitStatuses.{EndsWith};
 
-use crate::args::{Job, Lint, Printed, Request, Task};
+use crate::args::{Ask, Lint, Printed, Run};
 use crate::ending::{Ending, end};
 use crate::folders::{shown_name, shown_octets};
-use crate::input::Inputs;
-use crate::labels::{Labelled, Labels};
-use crate::output::{NoOut, OutFile};
-use crate::reasons::{Names, completed, prefix_of};
-use crate::runs::{answer, finding_of};
+use crate::output::{NoOut, OutFile, Replaces};
+use crate::reasons::{completed, prefix_of};
+use crate::run::answer;
 use crate::tally::Tally;
 use crate::unread::Unread;
 use crate::words::name_behind;
-use bplint_engine::{Command, Verb};
-use bplint_json::Finding;
+use bplint_json::{Finding, find_in};
 use bplint_lines::RunFault;
+use bplist_octets::{SliceSource, Source};
 use std::alloc::{AllocError, Global};
 use std::fs::{File, Files};
 use std::io::Write;
@@ -28,7 +26,6 @@ pub struct Findings<'a, R> {
     rt: &'a R,
     alloc: Global,
     lint: &'a Lint<'a>,
-    request: Request<'a>,
     pub tally: Tally,
 }
 
@@ -41,39 +38,48 @@ impl<'a, R: Files<File = File> + Print + Eprint> Findings<'a, R> {
             rt,
             alloc,
             lint,
-            request: request_in(alloc, lint),
             tally: Tally::new(),
         }
     }
 
-    /// Lints an input, and says what it found.
-    pub fn add(&mut self, name: &str, inputs: Inputs) {
+    /// Lints a file, and says what it found.
+    pub fn add<S: Source + Drop>(&mut self, name: &str, file: S) {
         if self.prints_json() {
-            let finding = finding_of(self.alloc, inputs.file);
+            let mut file = file;
+            let finding = find_in(self.alloc, &mut file);
             return self.print_finding(name.as_bytes(), &finding);
         }
         let Ok(prefix) = self.prefix_of(name) else {
             return self.end_without_memory();
         };
+        let line = self.line_of(name, prefix);
         let mut out = OutFile::new(self.rt, "-");
+        let cert = SliceSource::new(&[]);
         let ending = match self.lint.printed {
-            Printed::Lines => {
-                let labels = Labels {
-                    prefix: &prefix,
-                    paths: &[],
-                };
-                let mut out = Labelled::new(self.alloc, &mut out, labels);
-                answer(self.alloc, &self.request, inputs, &mut out)
-            }
-            Printed::Faults | Printed::Names | Printed::Json => {
-                answer(self.alloc, &self.request, inputs, &mut NoOut)
-            }
+            Printed::Lines => answer(self.alloc, &line, file, cert, &mut out),
+            _ => answer(self.alloc, &line, file, cert, &mut NoOut),
         };
         if self.is_named_alone(&ending) {
             return self.print_name(name);
         }
-        let ending = completed(self.alloc, ending, &self.names_of(name), out.fault());
-        self.end(&prefix, ending);
+        let ending = completed(self.alloc, &line, ending, out.fault());
+        self.end(&line.prefix, ending);
+    }
+
+    /// Returns what is asked about a file with this name.
+    fn line_of<'n>(&self, name: &'n str, prefix: String) -> Run<'n> {
+        Run {
+            ask: Ask::Lint,
+            file: name,
+            cert: None,
+            out: "-",
+            replaces: Replaces::Certificates,
+            hex: self.lint.choice.hex,
+            prefix,
+            paths_from: None,
+            most: None,
+            explain: self.lint.explain,
+        }
     }
 
     /// Returns true if the name of a file is all that is said of how its run ended.
@@ -129,7 +135,8 @@ impl<'a, R: Files<File = File> + Print + Eprint> Findings<'a, R> {
             return self.tally.count(status);
         }
         let ending = Ending::with(self.alloc, RunFault::Write { sent: 0 });
-        let ending = completed(self.alloc, ending, &self.names_of("-"), out.fault());
+        let line = self.line_of("-", String::new(self.alloc));
+        let ending = completed(self.alloc, &line, ending, out.fault());
         self.end("", ending);
     }
 
@@ -139,13 +146,13 @@ impl<'a, R: Files<File = File> + Print + Eprint> Findings<'a, R> {
             return self.add_unnamed(&name);
         }
         if self.prints_json() {
-            let (name, finding) = (unread.name, unread.finding(self.rt, self.alloc));
+            let (name, finding) = (unread.name, unread.finding(self.alloc));
             return self.print_finding(name.as_bytes(), &finding);
         }
         let Ok(prefix) = self.prefix_of(unread.name) else {
             return self.end_without_memory();
         };
-        let ending = unread.ending(self.rt, self.alloc, self.lint.explain);
+        let ending = unread.ending(self.alloc, self.lint.explain);
         self.end(&prefix, ending);
     }
 
@@ -195,33 +202,6 @@ impl<'a, R: Files<File = File> + Print + Eprint> Findings<'a, R> {
     /// Returns what begins the lines of a file.
     fn prefix_of(&self, name: &str) -> Result<String, AllocError> {
         prefix_of(self.alloc, name, self.lint.named)
-    }
-
-    /// Returns the names that the lines below a fault of this file give.
-    fn names_of<'n>(&self, name: &'n str) -> Names<'n> {
-        Names {
-            file: name,
-            cert: "",
-            out: "-",
-            named: self.lint.named,
-            explain: self.lint.explain,
-        }
-    }
-}
-
-/// Returns the request that `lint` makes for each file.
-fn request_in<'a>(alloc: Global, lint: &Lint<'_>) -> Request<'a> {
-    Request {
-        task: Task::Command(Job {
-            command: Command {
-                verb: Verb::Lint,
-                paths: Vec::new(alloc),
-                limit: 0,
-                hex: lint.choice.hex,
-                sorted: false,
-            },
-        }),
-        explain: lint.explain,
     }
 }
 

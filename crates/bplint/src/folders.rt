@@ -44,13 +44,15 @@ impl Folders for HostRuntime {
             Ok(metadata) if metadata.is_dir() => Ok(Entry::Folder),
             Ok(metadata) if metadata.is_file() => Ok(Entry::File),
             Ok(_) => Ok(Entry::Other),
-            Err(_) => Err(InputFault::Open),
+            Err(error) => Err(InputFault::Open(error.kind())),
         }
     }
 
     fn paths_in(&self, alloc: Global, folder: &str) -> Result<Vec<Vec<u8>>, InputFault> {
         let front = with_slash(alloc, folder)?;
-        let mut dir = self.open_dir(&front).map_err(|_| InputFault::Open)?;
+        let mut dir = self
+            .open_dir(&front)
+            .map_err(|error| InputFault::Open(error.kind()))?;
         let names = read_whole(alloc, &mut dir)?;
         let mut paths = joined_all(alloc, &front, &names)?;
         paths.sort_unstable();

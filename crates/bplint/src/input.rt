@@ -1,22 +1,25 @@
-//! Opens the inputs FILE and CERT. Each is read by place, or as a whole.
+//! The inputs FILE and CERT. Each is opened once, and then read by place or as a whole.
 
-ghost use Rattle.std.specs.Prelude.{◌≡◌, ◌⊎◌, ◌≤◌, ◌<◌, [], IfErr, IfOk, IfSome, MatchOption, MatchResult, None, Ok};
+ghost use Rattle.std.specs.Prelude.{◌≡◌, ◌⊎◌, ◌≤◌, ◌<◌, [], IfErr, IfOk, IfSome, MatchResult, None, Ok};
 ghost use Rattle.std.specs.Prelude.{codes, length, true, vec_len};
+ghost use Rattle.std.specs.Result.{result_err};
 ghost use Rattle.std.specs.Str.{bytes_eq};
-ghost use Rattle.bplint.specs.Inputs.{IsInputFault, IsNothing, IsReadFault, HasLength, IsReadWhole, IsShort};
-ghost use Rattle.bplint.specs.Inputs.{IsWholeFault, KeepsWhole, OfWhole, starts_with_bplist};
+ghost use Rattle.bplist_octets.specs.Meaning.{Honestly, OnlyReads};
+ghost use Rattle.bplint.specs.Inputs.{IsInputFault, IsNothing, IsReadFault, IsReadWhole, IsShort};
+ghost use Rattle.bplint.specs.Inputs.{IsWholeFault, OfWhole, in_memory, starts_with_bplist};
+ghost use Rattle.bplint.specs.declared.input.Operand.TheVariants.{Disk, Memory};
 ghost use Rattle.bplint_engine.specs.Check.{IsDecoded};
 ghost use Rattle.bplint_engine.specs.Hexadecimal.{spelled};
 
-use crate::args::Operands;
-use crate::input_fault::{HexFault, InputFault};
+use crate::args::Run;
+use crate::input_fault::InputFault;
 use crate::unread::Unread;
 use bplint_engine::undo_hex;
 use bplint_lines::RunFault;
 use bplist_cert::{CertRefusal, Certificate, Refusal};
-use bplist_octets::{FileSource, ReadFault, Source};
+use bplist_octets::{FileSource, Pages, ReadFault, SeekSource, Source};
 use std::alloc::Global;
-use std::fs::{self, File, Files};
+use std::fs::{File, Files};
 use std::io::{ErrorKind, Read};
 
 /// How a binary property list of any version begins.
@@ -65,10 +68,10 @@ pub fn read_whole<R: Read>(alloc: Global, reader: &mut R) -> Result<Vec<u8>, Inp
 /// An input after it was opened.
 #[derive(Drop)]
 pub enum Operand {
-    /// It was read to its end.
-    Whole(Vec<u8>),
-    /// It is open, and is read by place.
-    File(FileSource),
+    /// All of its bytes.
+    Memory(Vec<u8>),
+    /// It is read by place.
+    Disk(Box<Pages<FileSource>>),
 }
 
 /// The inputs of a command.
@@ -80,79 +83,105 @@ pub struct Inputs {
     pub cert: Operand,
 }
 
-impl Operand {
-    /// Returns the length of the input in bytes.
-    fn len(&self) -> u64
-        ensures { HasLength result self.now }
-    {
+impl Source for Operand {
+    ghost means = { λ operand. elim operand [
+      | Memory bytes ↦ in_memory bytes.items
+      | Disk pages ↦ ⟦<Pages<FileSource> as Source>⟧.means pages.value
+    ] };
+
+    ghost asked = { λ operand. elim operand [
+      | Memory _ ↦ 0
+      | Disk pages ↦ ⟦<Pages<FileSource> as Source>⟧.asked pages.value
+    ] };
+
+    fn len(&self) -> u64 {
         match self {
-            Operand::Whole(text) => text.len() as u64,
-            Operand::File(file) => file.len(),
+            Operand::Memory(bytes) => bytes.len() as u64,
+            Operand::Disk(pages) => pages.len(),
         }
     }
 
-    /// Returns true if the input begins like a binary property list of any version.
-    pub fn is_bplist(&mut self) -> Result<bool, InputFault>
-        ensures whole { OfWhole (λ text. MatchResult result (λ yes. yes ≡ starts_with_bplist text) (λ _. ⊥)) self.old }
-        ensures kept { KeepsWhole self.old self.new }
-        ensures faults { IfErr result IsReadFault }
-    {
+    fn read_at(&mut self, at: u64, into: &mut [u8]) -> Result<(), ReadFault> {
         match self {
-            Operand::Whole(text) => Ok(text.starts_with(HEADER)),
-            Operand::File(file) => {
-                let mut front = [0; 6];
-                if file.len() < 6 {
-                    return Ok(false);
-                }
-                file.read_at(0, &mut front)?;
-                Ok(front == *HEADER)
+            Operand::Memory(bytes) => {
+                let start = at as usize;
+                into.copy_from_slice(&bytes[start..start + into.len()]);
+                Ok(())
             }
+            Operand::Disk(pages) => pages.read_at(at, into),
         }
     }
+}
 
-    /// Decodes the input as a certificate. The outer error is a failed read.
-    pub fn decode(&mut self, alloc: Global) -> Result<Result<Certificate, CertRefusal>, InputFault>
-        ensures whole { OfWhole (λ text. MatchResult result (IsDecoded text) (λ _. ⊥)) self.old }
-        ensures kept { KeepsWhole self.old self.new }
-        ensures faults { IfErr result IsReadFault }
-    {
-        match self {
-            Operand::Whole(text) => Ok(Certificate::from_octets(alloc, text)),
-            Operand::File(file) => match Certificate::from_source(alloc, file) {
-                Ok(certificate) => Ok(Ok(certificate)),
-                Err(Refusal::Fault(fault)) => Ok(Err(CertRefusal::Fault(fault))),
-                Err(Refusal::Memory) => Ok(Err(CertRefusal::Memory)),
-                Err(Refusal::Read(fault)) => Err(InputFault::Read(fault)),
-            },
-        }
-    }
-
+impl Operand {
     /// Decodes the input as hexadecimal text.
     fn undo_hex(self, alloc: Global) -> Result<Operand, InputFault>
         ensures { OfWhole (λ text. IfOk result (OfWhole (λ bytes. spelled text ≡ Ok bytes))) self }
     {
         let text = self.into_bytes(alloc)?;
         match undo_hex(alloc, &text) {
-            Ok(bytes) => Ok(Operand::Whole(bytes)),
-            Err(RunFault::Hex) => Err(InputFault::Hex(hex_fault(&text))),
+            Ok(bytes) => Ok(Operand::Memory(bytes)),
+            Err(RunFault::Hex) => Err(hex_fault(&text)),
             Err(_) => Err(InputFault::Memory),
         }
     }
 
-    /// Returns all bytes of the input. If it is read by place, this takes one read.
-    pub fn into_bytes(self, alloc: Global) -> Result<Vec<u8>, InputFault>
+    /// Returns all bytes of the input.
+    fn into_bytes(self, alloc: Global) -> Result<Vec<u8>, InputFault>
         ensures whole { OfWhole (λ text. MatchResult result (λ bytes. bytes.items ≡ text) (λ _. ⊥)) self }
         ensures faults { IfErr result (λ fault. (fault ≡ InputFault.Memory) ⊎ IsReadFault fault) }
     {
         match self {
-            Operand::Whole(text) => Ok(text),
-            Operand::File(file) => read_all(alloc, file),
+            Operand::Memory(bytes) => Ok(bytes),
+            Operand::Disk(pages) => {
+                let mut pages = pages;
+                bytes_in(alloc, &mut *pages)
+            }
         }
     }
 }
 
+/// Returns all bytes of a source, with one read.
+pub fn bytes_in<S: Source>(alloc: Global, src: &mut S) -> Result<Vec<u8>, InputFault>
+    ensures exact { Honestly (S.means src.old) (λ f. IfOk result (λ bytes. bytes.items ≡ f)) }
+    ensures faults { IfErr result (λ fault. (fault ≡ InputFault.Memory) ⊎ IsReadFault fault) }
+{
+    let mut bytes = vec![in alloc; 0u8; src.len() as usize]?;
+    src.read_at(0, &mut bytes)?;
+    Ok(bytes)
+}
+
+/// Returns true if a source begins like a binary property list of any version.
+pub fn is_bplist<S: Source>(src: &mut S) -> Result<bool, ReadFault>
+    ensures reads { OnlyReads (result_err result) (S.means src.old) (S.means src.new) }
+    ensures exact { Honestly (S.means src.old) (λ f. IfOk result (λ yes. yes ≡ starts_with_bplist f)) }
+{
+    let mut front = [0; 6];
+    if src.len() < 6 {
+        return Ok(false);
+    }
+    src.read_at(0, &mut front)?;
+    Ok(front == *HEADER)
+}
+
+/// Decodes a source as a certificate. The outer error is a failed read.
+pub fn decode<S: Source>(
+    alloc: Global,
+    src: &mut S,
+) -> Result<Result<Certificate, CertRefusal>, ReadFault>
+    ensures reads { OnlyReads (result_err result) (S.means src.old) (S.means src.new) }
+    ensures exact { Honestly (S.means src.old) (λ f. IfOk result (IsDecoded f)) }
+{
+    match Certificate::from_source(alloc, src) {
+        Ok(certificate) => Ok(Ok(certificate)),
+        Err(Refusal::Fault(fault)) => Ok(Err(CertRefusal::Fault(fault))),
+        Err(Refusal::Memory) => Ok(Err(CertRefusal::Memory)),
+        Err(Refusal::Read(fault)) => Err(fault),
+    }
+}
+
 /// Returns where a text is not hexadecimal.
-fn hex_fault(text: &[u8]) -> HexFault {
+fn hex_fault(text: &[u8]) -> InputFault {
     let digits = match text {
         [digits @ .., b'\n'] => digits,
         _ => text,
@@ -160,95 +189,89 @@ fn hex_fault(text: &[u8]) -> HexFault {
     for place in 0..digits.len() {
         let octet = digits[place];
         if !octet.is_ascii_hexdigit() {
-            return HexFault::NoDigit { place, octet };
+            return InputFault::NoDigit { place, octet };
         }
     }
-    HexFault::OddDigits(digits.len())
+    InputFault::OddDigits(digits.len())
 }
 
-/// Returns all bytes of a file, with one read.
-fn read_all(alloc: Global, file: FileSource) -> Result<Vec<u8>, InputFault>
-    ensures { IfErr result (λ fault. (fault ≡ InputFault.Memory) ⊎ IsReadFault fault) }
-{
-    let mut file = file;
-    let mut bytes = vec![in alloc; 0u8; file.len() as usize].map_err(|_| InputFault::Memory)?;
-    file.read_at(0, &mut bytes)?;
-    Ok(bytes)
+/// Opens FILE, and decodes hexadecimal text.
+pub fn open_input<R: Files<File = File> + Input>(
+    rt: &R,
+    alloc: Global,
+    name: &str,
+    hex: bool,
+) -> Result<Operand, InputFault> {
+    let file = open_operand(rt, alloc, name, hex)?;
+    if hex { file.undo_hex(alloc) } else { Ok(file) }
 }
 
-/// Opens the inputs that are named, and decodes hexadecimal text.
+/// Opens FILE and CERT, and decodes hexadecimal text.
 ///
 /// Opens FILE before CERT, and both before it decodes a text.
 pub fn open_inputs<'a, R: Files<File = File> + Input>(
     rt: &R,
     alloc: Global,
-    operands: &Operands<'a>,
+    line: &Run<'a>,
 ) -> Result<Inputs, Unread<'a>> {
-    let hex = operands.hex;
-    let (file_name, cert_name) = (operands.file, operands.cert.unwrap_or(""));
-    let file = open_operand(rt, alloc, file_name, hex).map_err(|fault| Unread::new(
-        file_name, fault,
-    ))?;
-    let cert = open_certificate(rt, alloc, operands.cert, hex).map_err(|fault| Unread::of_cert(
+    let (name, cert_name) = (line.file, line.cert.unwrap_or(""));
+    let file = open_operand(rt, alloc, name, line.hex).map_err(|fault| Unread::new(name, fault))?;
+    let cert = open_certificate(rt, alloc, line.cert, line.hex).map_err(|fault| Unread::of_cert(
         cert_name, fault,
     ))?;
-    if !hex {
+    if !line.hex {
         return Ok(Inputs { file, cert });
     }
     Ok(Inputs {
         file: file
             .undo_hex(alloc)
-            .map_err(|fault| Unread::new(file_name, fault))?,
+            .map_err(|fault| Unread::new(name, fault))?,
         cert: cert
             .undo_hex(alloc)
             .map_err(|fault| Unread::of_cert(cert_name, fault))?,
     })
 }
 
-/// Opens FILE. Standard input, hexadecimal text, and files without a reliable length are read as a whole.
+/// Opens an input, where `-` is standard input, which is read as a whole.
 fn open_operand<R: Files<File = File> + Input>(
     rt: &R,
     alloc: Global,
     name: &str,
-    hex: bool,
+    whole: bool,
 ) -> Result<Operand, InputFault>
-    ensures hex { hex ≡ true → IfOk result IsReadWhole }
+    ensures whole { whole ≡ true → IfOk result IsReadWhole }
     ensures input { bytes_eq name.now (codes "-") ≡ true → IfOk result IsReadWhole }
     ensures faults { IfErr result IsInputFault }
 {
     if name == "-" {
-        return Ok(Operand::Whole(read_input(rt, alloc, name)?));
+        return Ok(Operand::Memory(read_whole(alloc, &mut rt.reader())?));
     }
-    open_file(rt, alloc, name, hex)
+    open_file(rt, alloc, name, whole)
 }
 
-/// Opens a file. Hexadecimal text, and files without a reliable length, are read as a whole.
+/// Opens a file. It is read as a whole if that is wanted, or if it has no reliable length: pipes and devices have none,
+/// and files of /proc claim to be empty.
 fn open_file<R: Files<File = File>>(
     rt: &R,
     alloc: Global,
     name: &str,
-    hex: bool,
+    whole: bool,
 ) -> Result<Operand, InputFault>
-    ensures hex { hex ≡ true → IfOk result IsReadWhole }
+    ensures whole { whole ≡ true → IfOk result IsReadWhole }
     ensures faults { IfErr result IsInputFault }
 {
-    if hex || !has_length(rt, name) {
-        return Ok(Operand::Whole(read_file(rt, alloc, name)?));
+    let mut file = File::open(rt, name).map_err(|error| InputFault::Open(error.kind()))?;
+    let metadata = file
+        .metadata()
+        .map_err(|error| InputFault::Open(error.kind()))?;
+    if metadata.is_dir() {
+        return Err(InputFault::Folder);
     }
-    match FileSource::open(rt, name) {
-        Ok(file) => Ok(Operand::File(file)),
-        Err(_) => Err(InputFault::Open),
+    if whole || !metadata.is_file() || metadata.len() == 0 {
+        return Ok(Operand::Memory(read_whole(alloc, &mut file)?));
     }
-}
-
-/// Returns true if a file has a reliable length, so that it can be read by place. Pipes, devices and folders have none;
-/// empty files and those of /proc claim 0. It is false too if the system does not answer: to open the file then says
-/// why.
-pub fn has_length<R: Files>(rt: &R, name: &str) -> bool {
-    match fs::metadata(rt, name) {
-        Ok(metadata) => metadata.is_file() && metadata.len() > 0,
-        Err(_) => false,
-    }
+    let source = SeekSource::new(file).map_err(|error| InputFault::Open(error.kind()))?;
+    Ok(Operand::Disk(Box::new(alloc, Pages::new(alloc, source))?))
 }
 
 /// Reads an input as a whole. `-` is standard input.
@@ -257,25 +280,9 @@ pub fn read_input<R: Files<File = File> + Input>(
     alloc: Global,
     name: &str,
 ) -> Result<Vec<u8>, InputFault>
-    ensures bounded { IfOk result (λ v. vec_len v ≤ WHOLE_LIMIT) }
-    ensures faults { IfErr result IsInputFault }
+    ensures faults { IfErr result (λ fault. (fault ≡ InputFault.Memory) ⊎ IsInputFault fault) }
 {
-    if name == "-" {
-        return read_whole(alloc, &mut rt.reader());
-    }
-    read_file(rt, alloc, name)
-}
-
-fn read_file<R: Files<File = File>>(
-    rt: &R,
-    alloc: Global,
-    name: &str,
-) -> Result<Vec<u8>, InputFault>
-    ensures bounded { IfOk result (λ v. vec_len v ≤ WHOLE_LIMIT) }
-    ensures faults { IfErr result IsInputFault }
-{
-    let mut file = File::open(rt, name).map_err(|_| InputFault::Open)?;
-    read_whole(alloc, &mut file)
+    open_operand(rt, alloc, name, true)?.into_bytes(alloc)
 }
 
 /// Opens CERT, if there is one, as [`open_operand`] opens FILE, except that `-` is a file of that name. Its length is
@@ -292,7 +299,7 @@ fn open_certificate<R: Files<File = File>>(
     ensures faults { IfErr result IsInputFault }
 {
     let Some(name) = name else {
-        return Ok(Operand::Whole(Vec::new(alloc)));
+        return Ok(Operand::Memory(Vec::new(alloc)));
     };
     let cert = open_file(rt, alloc, name, hex)?;
     if cert.len() > WHOLE_LIMIT as u64 {

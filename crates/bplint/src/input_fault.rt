@@ -3,36 +3,33 @@
 ghost use Rattle.std.specs.Prelude.{◌≡◌};
 ghost use Rattle.bplint.specs.declared.input_fault.InputFault.TheVariants as fault;
 ghost use Rattle.bplint_lines.specs.declared.fault.RunFault.TheVariants as run;
+ghost use Rattle.bplist_octets.specs.declared.source.ReadFault.TheVariants.{Device};
 
 use bplint_lines::RunFault;
 use bplist_octets::ReadFault;
-use std::alloc::AllocError;
+use std::alloc::{AllocError, AllocFailed};
+use std::io::ErrorKind;
 
-/// Where a text is not hexadecimal.
+/// Why an input cannot be read.
 #[derive(Clone, Copy, Drop)]
-pub enum HexFault {
-    /// This byte, at this place, is no hexadecimal digit.
+pub enum InputFault {
+    /// It cannot be opened, as the system said for this reason.
+    Open(ErrorKind),
+    /// It is a folder.
+    Folder,
+    /// It must be read as a whole, and is longer than [`crate::input::WHOLE_LIMIT`].
+    TooLong,
+    /// A read failed.
+    Read(ReadFault),
+    /// A byte of its hexadecimal text is no hexadecimal digit.
     NoDigit {
         /// The place of the byte.
         place: usize,
         /// The byte.
         octet: u8,
     },
-    /// It has this number of digits, which is odd.
+    /// Its hexadecimal text has this number of digits, which is odd.
     OddDigits(usize),
-}
-
-/// Why an input cannot be read.
-#[derive(Clone, Copy, Drop)]
-pub enum InputFault {
-    /// It cannot be opened.
-    Open,
-    /// It must be read as a whole, and is longer than [`crate::input::WHOLE_LIMIT`].
-    TooLong,
-    /// A read failed.
-    Read(ReadFault),
-    /// Its hexadecimal text is wrong.
-    Hex(HexFault),
     /// Memory was refused.
     Memory,
 }
@@ -53,21 +50,33 @@ impl From<AllocError> for InputFault {
     }
 }
 
+impl<T: Drop> From<AllocFailed<T>> for InputFault {
+    ghost from_gives = { λ _ e. e ≡ fault.Memory };
+
+    fn from(_error: AllocFailed<T>) -> InputFault {
+        InputFault::Memory
+    }
+}
+
 impl From<InputFault> for RunFault {
     ghost from_gives = { λ cause e. e ≡ elim cause [
-      | fault.Open ↦ run.Open
+      | fault.Open _ ↦ run.Open
+      | fault.Folder ↦ run.Read Device
       | fault.TooLong ↦ run.InputTooLong
       | fault.Read error ↦ run.Read error
-      | fault.Hex _ ↦ run.Hex
+      | fault.NoDigit _ _ ↦ run.Hex
+      | fault.OddDigits _ ↦ run.Hex
       | fault.Memory ↦ run.Memory
     ] };
 
     fn from(cause: InputFault) -> RunFault {
         match cause {
-            InputFault::Open => RunFault::Open,
+            InputFault::Open(_) => RunFault::Open,
+            // A read of a folder fails.
+            InputFault::Folder => RunFault::Read(ReadFault::Device),
             InputFault::TooLong => RunFault::InputTooLong,
             InputFault::Read(error) => RunFault::Read(error),
-            InputFault::Hex(_) => RunFault::Hex,
+            InputFault::NoDigit { .. } | InputFault::OddDigits(_) => RunFault::Hex,
             InputFault::Memory => RunFault::Memory,
         }
     }

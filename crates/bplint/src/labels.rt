@@ -14,10 +14,10 @@ pub struct Labels<'a> {
 
 /// A writer that puts a label before each line.
 #[derive(Drop)]
-pub struct Labelled<'a, W> {
+pub struct Labelled<'a, 'l, W> {
     alloc: Global,
     out: &'a mut W,
-    labels: Labels<'a>,
+    labels: Labels<'l>,
     /// The number of lines that were begun.
     lines: usize,
     /// True if the next byte begins a line.
@@ -26,9 +26,9 @@ pub struct Labelled<'a, W> {
     refused: bool,
 }
 
-impl<'a, W> Labelled<'a, W> {
+impl<'a, 'l, W> Labelled<'a, 'l, W> {
     /// Makes a writer for lines with these labels.
-    pub fn new(alloc: Global, out: &'a mut W, labels: Labels<'a>) -> Labelled<'a, W> {
+    pub fn new(alloc: Global, out: &'a mut W, labels: Labels<'l>) -> Labelled<'a, 'l, W> {
         Labelled {
             alloc,
             out,
@@ -69,7 +69,7 @@ impl<'a, W> Labelled<'a, W> {
     }
 }
 
-impl<'a, W: Write> Write for Labelled<'a, W> {
+impl<'a, 'l, W: Write> Write for Labelled<'a, 'l, W> {
     /// Writes the lines at once, so that those of parallel runs do not mix.
     fn write(&mut self, buf: &[u8]) -> io::Result<usize> {
         if self.labels.prefix.is_empty() && self.labels.paths.is_empty() {

@@ -2,13 +2,14 @@
 
 ghost use Rattle.std.specs.Prelude.{◌≤◌};
 
-use crate::args::{Lint, Operands};
+use crate::args::Lint;
 use crate::findings::Findings;
 use crate::folders::{Entry, Folders};
-use crate::input::{Inputs, Operand, open_inputs, read_input};
+use crate::input::{open_input, read_input};
 use crate::input_fault::InputFault;
 use crate::looks::{Look, look_at, look_at_found};
 use crate::unread::Unread;
+use bplist_octets::{ReadFault, Source};
 use std::alloc::Global;
 use std::fs::{File, Files};
 
@@ -130,19 +131,19 @@ impl<'a, R: Files<File = File> + Folders + Input + Print + Eprint> Linter<'a, R>
 
     /// Lints a file, unless it has another form or is passed over. `found` says that it was found in a folder.
     fn lint_file(&self, findings: &mut Findings<'_, R>, name: &str, found: bool) {
-        let mut inputs = match self.open(name) {
-            Ok(inputs) => inputs,
-            Err(unread) => return findings.add_unread(unread),
+        let mut file = match open_input(self.rt, self.alloc, name, self.lint.choice.hex) {
+            Ok(file) => file,
+            Err(fault) => return findings.add_unread(Unread::new(name, fault)),
         };
-        match self.look(name, found, &mut inputs.file) {
-            Ok(Look::Lint) => findings.add(name, inputs),
+        match self.look(name, found, &mut file) {
+            Ok(Look::Lint) => findings.add(name, file),
             Ok(Look::OtherForm) => findings.tally.other_form(),
             Ok(Look::PassOver) => findings.tally.pass_over(),
-            Err(fault) => findings.add_unread(Unread::new(name, fault)),
+            Err(fault) => findings.add_unread(Unread::new(name, InputFault::Read(fault))),
         }
     }
 
-    fn look(&self, name: &str, found: bool, file: &mut Operand) -> Result<Look, InputFault> {
+    fn look<S: Source>(&self, name: &str, found: bool, file: &mut S) -> Result<Look, ReadFault> {
         let choice = self.lint.choice;
         if found {
             return look_at_found(file, name, choice.all);
@@ -151,15 +152,6 @@ impl<'a, R: Files<File = File> + Folders + Input + Print + Eprint> Linter<'a, R>
             return look_at(file, name);
         }
         Ok(Look::Lint)
-    }
-
-    fn open<'n>(&self, name: &'n str) -> Result<Inputs, Unread<'n>> {
-        let operands = Operands {
-            file: name,
-            cert: None,
-            hex: self.lint.choice.hex,
-        };
-        open_inputs(self.rt, self.alloc, &operands)
     }
 
     /// Prints the counts if they are asked for and somebody reads them.

@@ -1,5 +1,9 @@
 //! Reads path texts from a file, one a line.
 
+ghost use Rattle.std.specs.Prelude.{◌≤◌, IfErr};
+
+use crate::args::Run;
+use crate::ending::{end, refuse_line};
 use crate::folders::shown_name;
 use crate::input::read_input;
 use crate::input_fault::InputFault;
@@ -7,36 +11,42 @@ use crate::unread::Unread;
 use std::alloc::{AllocError, Global};
 use std::fs::{File, Files};
 
-/// Why a list cannot be taken.
-#[derive(Drop)]
-pub enum ListFault<'a> {
-    /// An input could not be read.
-    Unread(Unread<'a>),
-    /// A line of the list is not UTF-8, as this line says.
-    NotUtf8(String),
-}
-
-/// Reads path texts. Each line is one, the empty line too; after the last line feed there is none.
-pub fn read_paths<'a, R: Files<File = File> + Input>(
+/// Gives a line the path texts of its list, if it has one. If the list cannot be taken, says why, and returns the exit
+/// status.
+pub fn with_listed_paths<'a, R: Files<File = File> + Input + Eprint>(
     rt: &R,
     alloc: Global,
-    name: &'a str,
-) -> Result<Vec<String>, ListFault<'a>> {
-    let octets = match read_input(rt, alloc, name) {
-        Ok(octets) => octets,
-        Err(fault) => return Err(ListFault::Unread(Unread::new(name, fault))),
+    line: Run<'a>,
+) -> Result<Run<'a>, u8>
+    ensures { IfErr result (λ status. status ≤ 4) }
+{
+    let Some(list) = line.paths_from else {
+        return Ok(line);
     };
-    let read = match std::str::from_utf8(&octets) {
-        Ok(text) => lines_of(alloc, text).map_err(|_| InputFault::Memory),
-        Err(error) => {
-            let line = line_number(&octets, error.valid_up_to());
-            match not_utf8(alloc, name, line) {
-                Ok(line) => return Err(ListFault::NotUtf8(line)),
-                Err(_) => Err(InputFault::Memory),
-            }
-        }
+    let fault = match read_paths(rt, alloc, list) {
+        Ok(Ok(paths)) => return Ok(line.with_paths(paths)),
+        Ok(Err(number)) => match not_utf8(alloc, list, number) {
+            Ok(text) => return Err(refuse_line(rt, &text)),
+            Err(_) => InputFault::Memory,
+        },
+        Err(fault) => fault,
     };
-    read.map_err(|fault| ListFault::Unread(Unread::new(name, fault)))
+    let ending = Unread::new(list, fault).ending(alloc, line.explain);
+    Err(end(rt, alloc, &line.prefix, ending))
+}
+
+/// Reads path texts. Each line is one, the empty line too; after the last line feed there is none. The inner error is the
+/// number of a line that is not UTF-8.
+fn read_paths<R: Files<File = File> + Input>(
+    rt: &R,
+    alloc: Global,
+    name: &str,
+) -> Result<Result<Vec<String>, usize>, InputFault> {
+    let octets = read_input(rt, alloc, name)?;
+    match std::str::from_utf8(&octets) {
+        Ok(text) => Ok(Ok(lines_of(alloc, text)?)),
+        Err(error) => Ok(Err(line_number(&octets, error.valid_up_to()))),
+    }
 }
 
 /// Returns the lines of a text.

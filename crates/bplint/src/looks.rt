@@ -1,9 +1,8 @@
 //! Which files `lint` lints, and which it counts as other forms of a property list or passes over.
 
-use crate::input::Operand;
-use crate::input_fault::InputFault;
+use crate::input::is_bplist;
 use bplist_hints::hint_of;
-use bplist_octets::SliceSource;
+use bplist_octets::{ReadFault, Source};
 
 /// The ends of the names that property lists usually have.
 const ENDINGS: [&str; 7] = [
@@ -29,8 +28,8 @@ pub enum Look {
 }
 
 /// Returns what to do with a file that was found in a folder. `all` says that no file is passed over.
-pub fn look_at_found(file: &mut Operand, name: &str, all: bool) -> Result<Look, InputFault> {
-    if file.is_bplist()? {
+pub fn look_at_found<S: Source>(file: &mut S, name: &str, all: bool) -> Result<Look, ReadFault> {
+    if is_bplist(file)? {
         return Ok(Look::Lint);
     }
     if !all && !has_usual_ending(name) {
@@ -40,12 +39,8 @@ pub fn look_at_found(file: &mut Operand, name: &str, all: bool) -> Result<Look, 
 }
 
 /// Returns what to do with a file that is linted unless it has another form.
-pub fn look_at(file: &mut Operand, name: &str) -> Result<Look, InputFault> {
-    let hint = match file {
-        Operand::Whole(text) => hint_of(&mut SliceSource::new(text))?,
-        Operand::File(file) => hint_of(file)?,
-    };
-    Ok(match hint {
+pub fn look_at<S: Source>(file: &mut S, name: &str) -> Result<Look, ReadFault> {
+    Ok(match hint_of(file)? {
         Some(hint) if hint.is_other_form() => Look::OtherForm,
         Some(hint) if hint.is_blank() && name.ends_with(".strings") => Look::OtherForm,
         _ => Look::Lint,

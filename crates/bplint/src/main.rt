@@ -14,14 +14,14 @@
 //! | `subcommands` | the table of subcommands, and the `clap` command line that is made of it |
 //! | `arguments` | their arguments |
 //! | `words`, `args`, `command_line` | the words of a command line, what they ask for, and how they are read |
-//! | `input` | FILE and CERT: opened and read by place, or read as a whole |
+//! | `input` | FILE and CERT: opened once, and then read by place or as a whole |
 //! | `lists` | lists of paths |
 //! | `rule_words` | the words that `explain` takes for a rule |
 //! | `input_fault` | why an input cannot be read |
-//! | `runs` | one request about one FILE |
+//! | `run` | what is asked about one FILE: each engine call is here |
 //! | `textconv`, `first_lines` | any file as text, and no more of it than is wanted |
 //! | `output` | OUT, which is created when its first byte is written |
-//! | `labels`, `waiting` | lines after the name of their file or their path; bytes that wait for the end of a run |
+//! | `labels` | lines after the name of their file or their path |
 //! | `ending` | the line of a fault, and the exit status |
 //! | `reasons`, `unread` | the lines below a fault; inputs that could not be read |
 //! | `linting`, `looks` | `lint` over several FILEs and folders, and which of the files there it lints |
@@ -47,12 +47,11 @@ mod looks;
 mod output;
 mod reasons;
 mod rule_words;
-mod runs;
+mod run;
 mod subcommands;
 mod tally;
 mod textconv;
 mod unread;
-mod waiting;
 mod words;
 
 use args::Line;
@@ -62,13 +61,12 @@ use command_line::{read_line, tip_for};
 use ending::{Ending, end, print_text, refuse, refuse_line};
 use folders::{Folders, shown_name};
 use linting::lint_files;
-use runs::run;
+use run::run;
 use std::alloc::{AllocError, Global};
 use std::fs::{File, Files};
 use std::io::IsTerminal;
 use std::os::fd::{AsRawFd, IntoRawFd};
 use std::process::ExitCode;
-use textconv::show_any;
 use words::{WordFault, words_of};
 
 /// Opens standard input, output and error on /dev/null if they are closed. Otherwise OUT could become one of them, and
@@ -107,7 +105,6 @@ fn start<R: Files<File = File> + Folders + Input + Print + Eprint>(
     match read_line(alloc, words, on_terminal) {
         Ok(Line::Lint(lint)) => lint_files(rt, alloc, &lint, on_terminal),
         Ok(Line::Run(line)) => run(rt, alloc, line),
-        Ok(Line::Textconv(line)) => show_any(rt, alloc, &line),
         Ok(Line::Explain(rule)) => explain(rt, alloc, rule),
         Err(_) => refuse_words(rt, alloc, words, on_terminal),
     }

@@ -2,8 +2,7 @@
 
 ghost use Rattle.std.specs.Prelude.{◌≤◌, IfOk, length};
 
-use crate::input::has_length;
-use std::fs::{File, Files};
+use std::fs::{self, File, Files};
 use std::io::{self, ErrorKind, Read, Write};
 
 /// How a certificate of any version begins.
@@ -80,10 +79,18 @@ impl<'a, R: Files> OutFile<'a, R> {
 
     /// Creates or empties the file.
     fn create(&self) -> io::Result<R::File> {
-        if has_length(self.rt, self.path) && !self.may_replace() {
+        if self.has_content() && !self.may_replace() {
             return Err(io::Error::from(ErrorKind::AlreadyExists));
         }
         File::create(self.rt, self.path)
+    }
+
+    /// Returns true if a regular file is there that is not empty.
+    fn has_content(&self) -> bool {
+        match fs::metadata(self.rt, self.path) {
+            Ok(metadata) => metadata.is_file() && metadata.len() > 0,
+            Err(_) => false,
+        }
     }
 
     /// Returns true if the file that is there may be replaced. A file that cannot be read is kept.

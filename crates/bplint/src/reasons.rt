@@ -3,11 +3,11 @@
 
 ghost use Rattle.std.specs.Prelude.{◌≡◌};
 
-use crate::args::{Request, Shown, Task};
+use crate::args::{Ask, Run};
 use crate::ending::Ending;
-use crate::folders::{shown_name, shown_octets};
-use crate::input_fault::HexFault;
+use crate::folders::shown_name;
 use crate::output::OutFault;
+use bplint_engine::Branch;
 use bplint_json::{Depth, Listed};
 use bplint_lines::{RawFault, RunFault, describe, is_about_certificates};
 use bplist_cursor::Path;
@@ -23,21 +23,6 @@ const NO_ASCII_FORM: &str =
 const NO_RAW_FORM: &str =
     "  tip: only data, text, int, uid and booleans have raw bytes; use show without --raw\n";
 
-/// The names that the lines below a fault give.
-#[derive(Clone, Copy, Drop)]
-pub struct Names<'a> {
-    /// The name of FILE.
-    pub file: &'a str,
-    /// The name of CERT, or nothing.
-    pub cert: &'a str,
-    /// The name of OUT; `-` is standard output.
-    pub out: &'a str,
-    /// True if the line of a fault begins with the name of FILE.
-    pub named: bool,
-    /// True if there are lines below a fault.
-    pub explain: bool,
-}
-
 /// Returns what begins the lines of a file, which is nothing if they are not to name it.
 pub fn prefix_of(alloc: Global, name: &str, named: bool) -> Result<String, AllocError> {
     if !named {
@@ -49,12 +34,7 @@ pub fn prefix_of(alloc: Global, name: &str, named: bool) -> Result<String, Alloc
 
 /// Completes the end of a run whose answer went to OUT: a fault gets the name of its file, or why OUT could not be
 /// written. Nothing is said if nobody reads standard output any more.
-pub fn completed(
-    alloc: Global,
-    ending: Ending,
-    names: &Names<'_>,
-    out: Option<OutFault>,
-) -> Ending {
+pub fn completed(alloc: Global, line: &Run<'_>, ending: Ending, out: Option<OutFault>) -> Ending {
     let is_write = match &ending.answer {
         Ok(_) => return ending,
         Err(RawFault::Run(RunFault::Write { .. })) => true,
@@ -65,13 +45,13 @@ pub fn completed(
             silent: true,
             ..ending
         },
-        _ if !names.explain => ending,
+        _ if !line.explain => ending,
         Some(OutFault::Failed(kind)) if is_write => {
-            below(alloc, ending, out_line(alloc, names.out, kind))
+            below(alloc, ending, out_line(alloc, line.out, kind))
         }
-        _ if names.named => ending,
+        _ if !line.prefix.is_empty() => ending,
         _ => {
-            let name = name_line(alloc, faulty_name(names, &ending));
+            let name = name_line(alloc, faulty_name(line, &ending));
             below(alloc, ending, name)
         }
     }
@@ -93,11 +73,12 @@ fn joined(line: Result<String, AllocError>, under: &str) -> Result<String, Alloc
 }
 
 /// Returns the name of the input whose fault ends a run: CERT, if a rule about certificates is broken.
-fn faulty_name<'a>(names: &Names<'a>, ending: &Ending) -> &'a str {
+fn faulty_name<'a>(line: &Run<'a>, ending: &Ending) -> &'a str {
     match &ending.answer {
-        Err(RawFault::Run(RunFault::Fault(fault))) if is_about_certificates(fault.rule) =>
-            names.cert,
-        _ => names.file,
+        Err(RawFault::Run(RunFault::Fault(fault))) if is_about_certificates(fault.rule) => line
+            .cert
+            .unwrap_or(""),
+        _ => line.file,
     }
 }
 
@@ -146,25 +127,10 @@ pub fn out_line(alloc: Global, name: &str, kind: ErrorKind) -> Result<String, Al
     format!(in alloc; "  out: {shown}: {why}\n")
 }
 
-/// Returns where a text is not hexadecimal, in words.
-pub fn hex_words(alloc: Global, fault: HexFault) -> Result<String, AllocError> {
-    match fault {
-        HexFault::NoDigit { place, octet } => {
-            let shown = shown_octets(alloc, &[octet])?;
-            format!(in alloc; "byte {place} is no hexadecimal digit: '{shown}'")
-        }
-        HexFault::OddDigits(count) => format!(in alloc; "an odd number of digits: {count}"),
-    }
-}
-
-/// Returns the lines about the first path text of a request that is wrong: the text, and a mark below the byte at this
+/// Returns the lines about the first wrong path text of a question: the text, and a mark below the byte at this
 /// place, with what is wrong there.
-pub fn path_lines(
-    alloc: Global,
-    request: &Request<'_>,
-    place: usize,
-) -> Result<String, AllocError> {
-    let Some(text) = wrong_path(alloc, &request.task) else {
+pub fn path_lines(alloc: Global, ask: &Ask<'_>, place: usize) -> Result<String, AllocError> {
+    let Some(text) = wrong_path(alloc, ask) else {
         return Ok(String::new(alloc));
     };
     let shown = shown_name(alloc, text)?;
@@ -186,13 +152,13 @@ pub fn path_lines(
 pub fn form_lines<S: Source>(
     alloc: Global,
     src: &mut S,
-    task: &Task<'_>,
+    ask: &Ask<'_>,
     fault: &RawFault,
 ) -> Result<String, RunFault> {
     let (object, tip) = match fault {
         RawFault::Run(RunFault::NoAsciiForm(object)) => (object, NO_ASCII_FORM),
         RawFault::NoRawForm(object) => (object, NO_RAW_FORM),
-        RawFault::Run(RunFault::TooLong) => return Ok(limit_line(alloc, task)?),
+        RawFault::Run(RunFault::TooLong) => return Ok(limit_line(alloc, ask)?),
         RawFault::Run(_) => return Ok(String::new(alloc)),
     };
     let mut lines = describe(alloc, src, *object)?;
@@ -200,18 +166,17 @@ pub fn form_lines<S: Source>(
     Ok(lines)
 }
 
-/// Returns the line with the limit of a task, and how to have another.
-fn limit_line(alloc: Global, task: &Task<'_>) -> Result<String, AllocError> {
-    match task {
-        Task::Command(job) => {
-            let limit = job.command.limit;
+/// Returns the line with the limit of a question, and how to have another.
+fn limit_line(alloc: Global, ask: &Ask<'_>) -> Result<String, AllocError> {
+    match ask {
+        Ask::Print { limit, .. } => {
             format!(in alloc; "  tip: the text has more than {limit} bytes; give a greater LIMIT\n")
         }
-        Task::Show(Shown::Text { limit, .. }) => {
+        Ask::Text { limit, .. } => {
             format!(in alloc; "  tip: the text has more than {limit} bytes; use --limit N\n")
         }
-        Task::Show(Shown::Tree { limit, .. })
-        | Task::Rows(
+        Ask::Tree(Branch { limit, .. })
+        | Ask::Rows(
             Listed {
                 depth: Depth::All(limit),
                 ..
@@ -221,17 +186,17 @@ fn limit_line(alloc: Global, task: &Task<'_>) -> Result<String, AllocError> {
     }
 }
 
-/// Returns the first wrong path text of a task.
-fn wrong_path<'a>(alloc: Global, task: &'a Task<'a>) -> Option<&'a str> {
-    match task {
-        Task::Command(job) => first_wrong(alloc, &job.command.paths),
-        Task::Show(Shown::Values { paths, .. }) => first_wrong(alloc, paths),
-        Task::Show(
-            Shown::Text { path, .. } | Shown::Members { path, .. } | Shown::Tree { path, .. },
-        ) => Some(path),
-        Task::Show(Shown::Map { .. }) => None,
-        Task::Raw(path) => Some(path),
-        Task::Rows(listed) => Some(listed.path),
+/// Returns the first wrong path text of a question.
+fn wrong_path<'a>(alloc: Global, ask: &'a Ask<'a>) -> Option<&'a str> {
+    match ask {
+        Ask::Get { paths } | Ask::Show { paths, .. } => first_wrong(alloc, paths),
+        Ask::Print { path, .. }
+        | Ask::Text { path, .. }
+        | Ask::Raw { path }
+        | Ask::List { path, .. }
+        | Ask::Tree(Branch { path, .. })
+        | Ask::Rows(Listed { path, .. }) => Some(path),
+        Ask::Lint | Ask::Certify { .. } | Ask::Check | Ask::Map { .. } | Ask::Textconv => None,
     }
 }
 

@@ -1,20 +1,13 @@
-//! The command `textconv`: shows any file to a program that compares or prints files, as git does. It ends with status
-//! 0 once the file could be read.
+//! The command `textconv`: shows any file to a program that compares or prints files, as git does. It ends with status 0
+//! once the file could be read.
 
-ghost use Rattle.std.specs.Prelude.{◌≤◌};
-
-use crate::args::{Operands, Textconv};
-use crate::ending::{Ending, end};
 use crate::first_lines::{FirstLines, Full};
-use crate::input::{HEADER, Operand, open_inputs};
+use crate::input::HEADER;
 use crate::labels::{Labelled, Labels};
-use crate::output::OutFile;
-use crate::reasons::{Names, completed, prefix_of};
 use bplint_engine::{Branch, list_all_on, list_on};
 use bplint_lines::{RunFault, Said, Style};
-use bplist_octets::{Pages, Sink, SliceSource, Source};
+use bplist_octets::{Sink, Source};
 use std::alloc::{AllocError, Global};
-use std::fs::{File, Files};
 use std::io::Write;
 
 /// How many bytes of a file that is not sound are shown.
@@ -29,8 +22,8 @@ const BLOCK: usize = 4096;
 /// How many lines are shown of a sound file.
 const LINES: u64 = 1_000_000;
 
-/// How many bytes of lines are shown for each byte of a sound file. Each line has its path, so that their length may
-/// grow with the square of that of the file.
+/// How many bytes of lines are shown for each byte of a sound file. Each line has its path, so that their length may grow
+/// with the square of that of the file.
 const TIMES: u64 = 64;
 
 /// As many bytes of lines are shown whatever the length of the file is.
@@ -39,111 +32,55 @@ const LEAST: u64 = 1 << 20;
 /// The largest number of bytes of lines that are shown.
 const MOST: u64 = 1 << 26;
 
-/// Shows a file: the lines of `ls --recursive --utf8`; or, of a binary property list that is not sound, its fault and
-/// its first bytes; or the file itself, if it is no binary property list. Returns the exit status.
-pub fn show_any<R: Files<File = File> + Input + Print + Eprint>(
-    rt: &R,
-    alloc: Global,
-    line: &Textconv<'_>,
-) -> u8
-    ensures { result ≤ 4 }
-{
-    let operands = Operands {
-        file: line.file,
-        cert: None,
-        hex: false,
-    };
-    let Ok(prefix) = prefix_of(alloc, line.file, line.named) else {
-        return end(rt, alloc, "", Ending::with(alloc, RunFault::Memory));
-    };
-    let ending = match open_inputs(rt, alloc, &operands) {
-        Ok(inputs) => show_file(rt, alloc, line, inputs.file, &prefix),
-        Err(unread) => unread.ending(rt, alloc, line.explain),
-    };
-    end(rt, alloc, &prefix, ending)
-}
-
-/// Shows a file that is open. Returns how the run ends.
-fn show_file<R: Files<File = File> + Print>(
-    rt: &R,
-    alloc: Global,
-    line: &Textconv<'_>,
-    file: Operand,
-    prefix: &str,
-) -> Ending {
-    let mut out = OutFile::new(rt, "-");
-    let answer = match file {
-        Operand::Whole(file) => show_source(alloc, SliceSource::new(&file), prefix, &mut out),
-        Operand::File(file) => show_source(alloc, Pages::new(alloc, file), prefix, &mut out),
-    };
-    let names = Names {
-        file: line.file,
-        cert: "",
-        out: "-",
-        named: line.named,
-        explain: line.explain,
-    };
-    completed(alloc, Ending::of(alloc, answer), &names, out.fault())
-}
-
-/// Lists a binary property list. If there are too many lines to be counted, only the members of the top have lines, and
-/// a last line says so.
-fn list<S: Source + Drop, W: Write>(alloc: Global, src: S, out: &mut W) -> Result<Said, RunFault> {
-    let whole = Branch {
-        path: "",
-        limit: u64::MAX,
-        style: Style::Utf8,
-    };
-    match list_all_on(alloc, src, &whole, out) {
-        (Err(RunFault::TooLong), src) => {
-            list_on(alloc, src, "", Style::Utf8, out).0?;
-            send(
-                out,
-                format!(in alloc; "more than {LINES} lines\n")?.as_bytes(),
-            )
-        }
-        (answer, _) => answer,
-    }
-}
-
-/// Writes bytes.
-fn send<W: Write>(out: &mut W, bytes: &[u8]) -> Result<Said, RunFault> {
-    let mut sink = Sink::new();
-    sink.put(out, bytes)?;
-    sink.flush(out)?;
-    Ok(Said::All)
-}
-
-/// Shows a source. The prefix begins each line, but not those of a file that is written as it is. If there are more
-/// lines or bytes than are shown, a last line says so.
-fn show_source<S: Source + Drop, W: Write>(
+/// Shows a file: the lines of `ls --recursive --utf8`; or, of a binary property list that is not sound, its fault and its
+/// first bytes; or the file itself, if it is no binary property list. Returns the file too. The prefix begins each line, but
+/// not those of a file that is written as it is.
+pub fn show_any<S: Source + Drop, W: Write>(
     alloc: Global,
     src: S,
     prefix: &str,
     out: &mut W,
-) -> Result<Said, RunFault> {
+) -> (Result<Said, RunFault>, S) {
     let mut src = src;
-    let front = front_of(alloc, &mut src)?;
-    if !front.starts_with(HEADER) {
-        return copy_from(&mut src, out);
+    match front_of(alloc, &mut src) {
+        Ok(front) if front.starts_with(HEADER) => show_bplist(alloc, src, &front, prefix, out),
+        Ok(_) => (copy_from(&mut src, out), src),
+        Err(fault) => (Err(fault), src),
     }
+}
+
+/// Shows a source that begins as a binary property list does. If there are more lines or bytes than are shown, a last
+/// line says so.
+fn show_bplist<S: Source + Drop, W: Write>(
+    alloc: Global,
+    src: S,
+    front: &[u8],
+    prefix: &str,
+    out: &mut W,
+) -> (Result<Said, RunFault>, S) {
     let bytes = src.len().saturating_mul(TIMES).min(MOST).max(LEAST);
     let mut first = FirstLines::new(out, LINES, bytes);
     let labels = Labels { prefix, paths: &[] };
     let mut lines = Labelled::new(alloc, &mut first, labels);
-    let answer = show_lines(alloc, src, &front, &mut lines);
+    let (answer, src) = show_lines(alloc, src, front, &mut lines);
     if lines.is_refused() {
-        return Err(RunFault::Memory);
+        return (Err(RunFault::Memory), src);
     }
-    let end = match first.full() {
-        Some(Full::Lines) => format!(in alloc; "{prefix}more than {LINES} lines\n")?,
-        Some(Full::Bytes) => format!(in alloc; "{prefix}more than {bytes} bytes\n")?,
-        None => return answer,
+    let end = if first.is_inside_line() { "\n" } else { "" };
+    let more = match first.full() {
+        Some(Full::Lines) => format!(in alloc; "{end}{prefix}more than {LINES} lines\n"),
+        Some(Full::Bytes) => format!(in alloc; "{end}{prefix}more than {bytes} bytes\n"),
+        None => return (answer, src),
     };
-    if first.is_inside_line() {
-        send(out, b"\n")?;
-    }
-    send(out, end.as_bytes())
+    (send(more, out), src)
+}
+
+/// Writes a text, for which memory may have been refused.
+fn send<W: Write>(text: Result<String, AllocError>, out: &mut W) -> Result<Said, RunFault> {
+    let mut sink = Sink::new();
+    sink.put(out, text?.as_bytes())?;
+    sink.flush(out)?;
+    Ok(Said::All)
 }
 
 /// Shows a source that begins as a binary property list does: its lines, or its fault and its first bytes.
@@ -152,14 +89,40 @@ fn show_lines<S: Source + Drop, W: Write>(
     src: S,
     front: &[u8],
     out: &mut W,
-) -> Result<Said, RunFault> {
+) -> (Result<Said, RunFault>, S) {
     let length = src.len();
-    match list(alloc, src, out) {
+    let (answer, src) = list(alloc, src, out);
+    match answer {
         Err(fault) if fault.status() == 1 => {
-            let text = dump(alloc, &fault, front, length)?;
-            send(out, text.as_bytes())
+            (send(dump(alloc, &fault, front, length), out), src)
         }
-        answer => answer,
+        answer => (answer, src),
+    }
+}
+
+/// Lists a binary property list. If there are too many lines to be counted, only the members of the top have lines, and a
+/// last line says so.
+fn list<S: Source + Drop, W: Write>(
+    alloc: Global,
+    src: S,
+    out: &mut W,
+) -> (Result<Said, RunFault>, S) {
+    let whole = Branch {
+        path: "",
+        limit: u64::MAX,
+        style: Style::Utf8,
+    };
+    let (answer, src) = list_all_on(alloc, src, &whole, out);
+    let Err(RunFault::TooLong) = &answer else {
+        return (answer, src);
+    };
+    let (answer, src) = list_on(alloc, src, "", Style::Utf8, out);
+    match answer {
+        Ok(_) => (
+            send(format!(in alloc; "more than {LINES} lines\n"), out),
+            src,
+        ),
+        Err(fault) => (Err(fault), src),
     }
 }
 

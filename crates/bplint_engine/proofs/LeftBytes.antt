@@ -4,10 +4,13 @@ use Rattle.std.specs.Io.KnownBytes.{Appends, Keeps}
 use Rattle.bplist_octets.specs.Sending.{SendsSome}
 use Rattle.bplint_lines.specs.declared.fault.RunFault.{RunFault}
 use Rattle.bplint_lines.specs.declared.fault.RunFault.TheVariants as faults
+use Rattle.bplint_engine.specs.declared.output.Led.{Led}
+use Rattle.bplint_engine.specs.declared.output.Led.TheVariants.{There, Nowhere}
 use Rattle.bplint_engine.specs.declared.output.Output.{Output}
 use Rattle.bplint_lines.specs.declared.fault.Said.{Said}
+use Rattle.bplint_lines.specs.declared.fault.Said.TheVariants.{All, SomeMissing}
 use Rattle.bplint_lines.specs.Answers.{Answer, gives, refuses, BeginsAnswer, LeavesBy, LeavesWithin}
-use Rattle.bplint_engine.specs.Output.{Answers, IsRefusal, Sends}
+use Rattle.bplint_engine.specs.Output.{Answers, IsRefusal, LeavesLed, Sends}
 
 -- nothing was added
 nothing : (old new : Option (List ℕ)) → Keeps old new → Appends old new []
@@ -77,3 +80,9 @@ said_within P Q bound old new (Err faults.InputTooLong) to (h, kept) = (to (refu
 pub said_as : (P Q : Answer → Type 0) (most : ℕ) (old new : Option (List ℕ)) (result : Result Said RunFault) → ((a : Answer) → P a → Q a)
     → LeavesBy P most old new result → LeavesBy Q most old new result
 said_as P Q most old new result to left = said_within P Q (Some most) old new result to left
+
+pub led_as : (P Q : Answer → Type 0) (bound : Option ℕ) (old new : Option (List ℕ)) (result : Result Led RunFault) → ((a : Answer) → P a → Q a)
+    → LeavesLed P bound old new result → LeavesLed Q bound old new result
+led_as P Q bound old new (Ok There) to left = said_within P Q bound old new (Ok All) to left
+led_as P Q bound old new (Ok (Nowhere line)) to (says, kept) = (to (gives SomeMissing line.items) says, kept)
+led_as P Q bound old new (Err fault) to left = said_within P Q bound old new (Err fault) to left

@@ -25,16 +25,18 @@ use Rattle.bplist_ascii.specs.declared.printer.PrintFault.TheVariants as print_f
 use Rattle.bplist_octets.proofs.SinkSteps.{out_start, out_takes, out_end, out_part, part_of_more, takes_then_part}
 use Rattle.bplint_lines.specs.declared.fault.RunFault.{RunFault}
 use Rattle.bplint_lines.specs.declared.fault.RunFault.TheVariants as faults
+use Rattle.bplint_engine.specs.declared.output.Led.{Led}
+use Rattle.bplint_engine.specs.declared.output.Led.TheVariants.{There}
 use Rattle.bplint_engine.specs.declared.output.Output.{Output}
 use Rattle.bplint_lines.specs.declared.fault.Said.{Said}
 use Rattle.bplint_lines.specs.declared.fault.Said.TheVariants.{All, SomeMissing}
 use Rattle.bplint_lines.specs.Answers.{Answer, gives, BeginsAnswer, Leaves, LeavesBy}
-use Rattle.bplint_engine.specs.Output.{Answers, IsRefusal}
+use Rattle.bplint_engine.specs.Output.{Answers, IsRefusal, LeavesLed}
 use Rattle.bplint_engine.proofs.LowerFaults.{cursor_fault, print_fault}
 use Rattle.bplint_lines.specs.OutputLines.{missing_line}
 use Rattle.bplint_engine.specs.Print.{NodeSays, PathSays, PrintSays}
 use Rattle.bplint_engine.proofs.EqualAnswers.{same_gives}
-use Rattle.bplint_engine.proofs.LeftBytes.{begins_nothing, kept_self, said_as}
+use Rattle.bplint_engine.proofs.LeftBytes.{begins_nothing, kept_self, led_as, said_as}
 use Rattle.bplint_engine.proofs.PathAnswers.{IsThere, IsYes}
 
 -- the cursor met a failed read or refused memory
@@ -117,6 +119,15 @@ at_node checked v steps node limit old new result (leads, vouched, (w, is, holds
     said_as (NodeSays checked.source.octets checked.frame limit node.object.0 w) (PathSays checked.source.octets checked.frame limit steps v) limit old new result
     (node_to_path checked.source.octets checked.frame limit node.object.0 steps v w leads is) (left w (vouched, holds))
 
+-- the node's text was written
+pub text_written : (checked : CheckedFile) (v : Value) (steps : List (List ℕ)) (node : Node) (limit : ℕ) (old new : Option (List ℕ)) (said : Said)
+    → IsFound checked checked.frame.top.0 v steps (At node)
+    → ((w : Value) → IsHeld checked node.object.0 w → LeavesBy (NodeSays checked.source.octets checked.frame limit node.object.0 w) limit old new (Ok said))
+    → LeavesLed (PathSays checked.source.octets checked.frame limit steps v) (Some limit) old new (Ok There)
+text_written checked v steps node limit old new said (leads, vouched, (w, is, holds)) left =
+    let (bytes, (text, has, low, few, (_, all)), added) = left w (vouched, holds) in
+    (bytes, node_to_path checked.source.octets checked.frame limit node.object.0 steps v w leads is (gives All bytes) (text, has, low, few, (refl, all)), added)
+
 -- a path leads nowhere
 pub missing_says : (f : List ℕ) (F : Frame) (limit : ℕ) (steps : List (List ℕ)) (v : Value) (step : ℕ) (why : Why) (made : Result Output RunFault)
     → look 0 v steps ≡ Err (step, why)
@@ -134,6 +145,15 @@ pub print_leaves : (Says : Answer → Type 0) (f : List ℕ) (texts : List (List
 print_leaves Says f texts limit steps F old new result are (said, bytes, says) there left = ∥∥₁_map there (λ (v, frame, holds, held).
     said_as (PathSays f F limit steps v) (PrintSays limit Says f texts) limit old new result
     (λ a h. inr (steps ∷ [], gives said bytes, are, says, (v, holds, (steps, F, refl, frame, h)))) (left v held))
+
+-- the same if the line of a path that leads nowhere is handed out
+pub text_leaves : (Says : Answer → Type 0) (f : List ℕ) (texts : List (List ℕ)) (limit : ℕ) (steps : List (List ℕ)) (F : Frame) (old new : Option (List ℕ))
+    (result : Result Led RunFault) → AllZip IsPathOf texts (steps ∷ []) → IsYes Says → IsThere f F
+    → ((v : Value) → Holds f F F.top.0 v → LeavesLed (PathSays f F limit steps v) (Some limit) old new result)
+    → LeavesLed (PrintSays limit Says f texts) (Some limit) old new result
+text_leaves Says f texts limit steps F old new result are (said, bytes, says) (v, frame, holds, held) left =
+    led_as (PathSays f F limit steps v) (PrintSays limit Says f texts) (Some limit) old new result
+    (λ a h. inr (steps ∷ [], gives said bytes, are, says, (v, holds, (steps, F, refl, frame, h)))) (left v held)
 
 -- a line feed was put in, and the flush failed
 pub line_cut : (old mid new : Option (List ℕ)) (s t : Sending) (r : Result (Unit {0}) WriteFault) → Takes old mid s t (10 ∷ [])

@@ -20,6 +20,7 @@ use Rattle.bplint_lines.specs.Answers.{Answer, LeavesSomeBy, gives}
 use Rattle.bplint_lines.specs.Faults.{IsExcused}
 use Rattle.bplint_lines.specs.declared.texts.Style.{Style}
 use Rattle.bplint_lines.specs.OutputLines.{missing_line}
+use Rattle.bplint_engine.specs.declared.output.Led.{Led}
 use Rattle.bplint_engine.specs.declared.output.Output.{Output}
 use Rattle.bplint_engine.specs.Get.{LinesSay, said_of}
 use Rattle.bplint_engine.specs.Ls.{PathListed, listed}
@@ -29,7 +30,7 @@ use Rattle.bplint_engine.specs.Streams.{Fails, begun}
 use Rattle.bplint_engine.specs.Tree.{ListsAll, PathLists}
 use Rattle.bplint_engine.proofs.PathAnswers.{IsThere, IsYes}
 use Rattle.bplint_engine.proofs.EqualAnswers.{same_gives}
-use Rattle.bplint_engine.proofs.LeftBytes.{kept_self, said_within}
+use Rattle.bplint_engine.proofs.LeftBytes.{kept_self, led_as, said_within}
 use Rattle.bplint_engine.proofs.LowerFaults.{cursor_excused, cursor_fault}
 
 -- only a first part of an answer was written
@@ -54,10 +55,10 @@ pub some_as : (P Q : Answer → Type 0) (old new : Option (List ℕ)) (result : 
     → LeavesSomeBy P old new result → LeavesSomeBy Q old new result
 some_as P Q old new result to left = said_within P Q None old new result to left
 
-pub raw_as : (P Q : Answer → Type 0) (R T : ℕ → Type 0) (old new : Option (List ℕ)) (result : Result Said RawFault) → ((a : Answer) → P a → Q a)
+pub raw_as : (P Q : Answer → Type 0) (R T : ℕ → Type 0) (old new : Option (List ℕ)) (result : Result Led RawFault) → ((a : Answer) → P a → Q a)
     → ((n : ℕ) → R n → T n) → LeavesRawBy P R old new result → LeavesRawBy Q T old new result
-raw_as P Q R T old new (Ok said) to also left = some_as P Q old new (Ok said) to left
-raw_as P Q R T old new (Err (Run fault)) to also left = some_as P Q old new (Err fault) to left
+raw_as P Q R T old new (Ok led) to also left = led_as P Q None old new (Ok led) to left
+raw_as P Q R T old new (Err (Run fault)) to also left = led_as P Q None old new (Err fault) to left
 raw_as P Q R T old new (Err (NoRawForm n)) to also left = (also n.0 left.0, left.1)
 
 -- the line for a path that leads nowhere was made
@@ -69,7 +70,7 @@ missing_made P step why (Err fault) to _ memory = subst (IsRefusal P) (sym memor
 
 -- ---- whole files
 -- Says accepts the file, and what is under the path was shown raw
-pub raw_says : (Says : Answer → Type 0) (f text : List ℕ) (steps : List (List ℕ)) (F : Frame) (old new : Option (List ℕ)) (result : Result Said RawFault)
+pub raw_says : (Says : Answer → Type 0) (f text : List ℕ) (steps : List (List ℕ)) (F : Frame) (old new : Option (List ℕ)) (result : Result Led RawFault)
     → AllZip IsPathOf (text ∷ []) (steps ∷ []) → IsYes Says → IsThere f F
     → ((v : Value) → Holds f F F.top.0 v → LeavesRawBy (PathShowsRaw steps v) (LeadsToRawless f F steps v) old new result)
     → LeavesRawBy (ShowsRaw Says f text) (IsRawless Says f text) old new result

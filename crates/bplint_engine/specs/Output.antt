@@ -6,7 +6,10 @@ use Rattle.bplist_octets.specs.Sending.{SendsPart}
 use Rattle.bplint_lines.specs.declared.fault.RunFault.{RunFault}
 use Rattle.bplint_lines.specs.declared.fault.RunFault.TheVariants as faults
 use Rattle.bplint_lines.specs.declared.fault.Said.{Said}
-use Rattle.bplint_lines.specs.Answers.{Answer, gives, refuses, read_failed}
+use Rattle.bplint_lines.specs.declared.fault.Said.TheVariants.{All, SomeMissing}
+use Rattle.bplint_lines.specs.Answers.{Answer, gives, refuses, read_failed, LeavesWithin}
+use Rattle.bplint_engine.specs.declared.output.Led.{Led}
+use Rattle.bplint_engine.specs.declared.output.Led.TheVariants.{There, Nowhere}
 use Rattle.bplint_engine.specs.declared.output.Output.{Output}
 
 -- the fault of the failed read that the error is, if it is one
@@ -30,3 +33,9 @@ abbrev pub Sends : Option (List ℕ) → Option (List ℕ) → Result Output Run
 Sends old new (Ok output) (Ok said) = (said ≡ output.said) × Appends old new output.bytes.items
 Sends old new (Ok output) (Err fault) = (sent : ℕ) × (fault ≡ faults.Write sent) × SendsPart old new 0 output.bytes.items sent
 Sends old new (Err fault) result = (result ≡ Err fault) × Keeps old new
+
+-- what a run leaves with the writer that hands out the line of a path that leads nowhere, and then writes nothing
+abbrev pub LeavesLed : (Answer → Type 0) → Option ℕ → Option (List ℕ) → Option (List ℕ) → Result Led RunFault → Type 0
+LeavesLed Says bound old new (Ok There) = LeavesWithin Says bound old new (Ok All)
+LeavesLed Says bound old new (Ok (Nowhere line)) = Says (gives SomeMissing line.items) × Keeps old new
+LeavesLed Says bound old new (Err fault) = LeavesWithin Says bound old new (Err fault)

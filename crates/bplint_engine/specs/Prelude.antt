@@ -28,7 +28,7 @@ pub use Rattle.bplint_engine.specs.Hexadecimal.{spelled}
 pub use Rattle.bplint_engine.specs.Least.{IsLeastFor}
 pub use Rattle.bplint_engine.specs.Lint.{LintSays}
 pub use Rattle.bplint_engine.specs.Ls.{HasMembers, IsHeadFor, IsLeaf, first_lines, item_name, listed, member_line}
-pub use Rattle.bplint_engine.specs.Output.{Answers, IsRefusal, Sends, read_fault_of}
+pub use Rattle.bplint_engine.specs.Output.{Answers, IsRefusal, LeavesLed, Sends, read_fault_of}
 pub use Rattle.bplint_engine.specs.PathTexts.{IsWrongAmong, OnPath}
 pub use Rattle.bplint_engine.specs.Print.{NodeSays, PathSays, PrintSays}
 pub use Rattle.bplint_engine.specs.Said.{Says, SaysOver, most, takes_cert}

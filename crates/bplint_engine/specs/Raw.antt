@@ -23,11 +23,13 @@ use Rattle.bplint_lines.specs.declared.raw_fault.RawFault.{RawFault}
 use Rattle.bplint_lines.specs.declared.raw_fault.RawFault.TheVariants.{Run, NoRawForm}
 use Rattle.bplint_lines.specs.declared.fault.Said.{Said}
 use Rattle.bplint_lines.specs.declared.fault.Said.TheVariants.{All, SomeMissing}
-use Rattle.bplint_lines.specs.Answers.{Answer, gives, refuses, LeavesSomeBy}
+use Rattle.bplint_lines.specs.Answers.{Answer, gives, refuses}
 use Rattle.bplint_lines.specs.declared.texts.Style.TheVariants.{OldStyle}
 use Rattle.bplint_engine.specs.declared.raw_bytes.Raw.{Raw}
 use Rattle.bplint_engine.specs.declared.raw_bytes.Raw.TheVariants.{Data, Text, Word}
+use Rattle.bplint_engine.specs.declared.output.Led.{Led}
 use Rattle.bplint_engine.specs.Get.{found_line}
+use Rattle.bplint_engine.specs.Output.{LeavesLed}
 use Rattle.bplint_engine.specs.PathTexts.{ForPaths}
 
 -- the UTF-8 of a text with these units, or none if a surrogate has no partner
@@ -71,10 +73,10 @@ IsRawless Says f path n = (steps : List (List ℕ)) × (said : Said) × (octets 
 abbrev pub raw_read_failed : {X : Type 0} → Result X RawFault → Option ReadFault
 raw_read_failed answer = elim answer [ Err (Run (faults.Read fault)) ↦ Some fault | _ ↦ None ]
 
--- what a run leaves with the writer: what LeavesSomeBy allows, or nothing if the value has no raw bytes
-abbrev pub LeavesRawBy : (Answer → Type 0) → (ℕ → Type 0) → Option (List ℕ) → Option (List ℕ) → Result Said RawFault → Type 0
-LeavesRawBy Says Rawless old new (Ok said) = LeavesSomeBy Says old new (Ok said)
-LeavesRawBy Says Rawless old new (Err (Run fault)) = LeavesSomeBy Says old new (Err fault)
+-- what a run leaves with the writer: what LeavesLed allows, or nothing if the value has no raw bytes
+abbrev pub LeavesRawBy : (Answer → Type 0) → (ℕ → Type 0) → Option (List ℕ) → Option (List ℕ) → Result Led RawFault → Type 0
+LeavesRawBy Says Rawless old new (Ok led) = LeavesLed Says None old new (Ok led)
+LeavesRawBy Says Rawless old new (Err (Run fault)) = LeavesLed Says None old new (Err fault)
 LeavesRawBy Says Rawless old new (Err (NoRawForm n)) = Rawless n.0 × Keeps old new
 
 -- ---- how the bytes are sent

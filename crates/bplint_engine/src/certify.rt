@@ -13,7 +13,7 @@ use std::alloc::{AllocError, Global};
 use std::io::Write;
 
 /// Writes a certificate of the file: with `sorted` also its key lists, and with `hex` its hexadecimal text and a line
-/// feed. Returns the source too. Does what [`crate::run_certified`] does for `Certify`, with the same errors.
+/// feed. Returns the source too. Does what [`crate::run_on`] does for `Certify`, with the same errors.
 pub fn certify_on<S: Source, W: Write>(
     alloc: Global,
     src: S,

@@ -5,22 +5,40 @@ ghost use Rattle.std.specs.Prelude.{◌≡◌, ◌++◌, ℕ, List, Err, IfOk, O
 ghost use Rattle.std.specs.Prelude.{[]};
 ghost use Rattle.std.specs.List.{flat_map, list_any, AllZip};
 ghost use Rattle.bplint_engine.specs.Prelude.{OnlyReads, Holds, Value, OnlyReadsFile, reply, answer_read, answer_fault};
-ghost use Rattle.bplint_engine.specs.Prelude.{read_failed, Answers, GivesOrIsExcused, CheckSays, IsDecoded};
+ghost use Rattle.bplint_engine.specs.Prelude.{read_failed, Answers, GivesOrIsExcused, CheckSays, IsDecoded, Leaves};
 ghost use Rattle.bplint_engine.specs.Prelude.{IsRefusal, IsVouchedFor, LinesSay, Lists, found_line, read_fault_of};
 ghost use Rattle.bplint_engine.specs.Prelude.{reply_line, IsPathOf, IsWrongAmong, OnPath};
 ghost use Rattle.bplint_engine.specs.Get as spec;
 
 use crate::accepted::check_decoded;
-use crate::output::Output;
+use crate::output::{Output, send_made};
 use crate::sorting::{MANY, suited_to};
 use bplint_lines::{RunFault, Said, Style, add_face, add_missing};
 use bplist_cert::{CertRefusal, Certificate, Checked};
 use bplist_cursor::{AnswerFault, Path, Query, Reply, answer_all, answer_certified};
 use bplist_octets::Source;
 use std::alloc::{AllocError, Global};
+use std::io::Write;
+
+/// Writes the lines of `get`, one for each path text. Returns the source too. Does what [`crate::run_on`] does for `Get`
+/// with the certificate of these bytes, with the same errors.
+pub fn get_on<S: Source, W: Write>(
+    alloc: Global,
+    src: S,
+    decoded: Result<Certificate, CertRefusal>,
+    paths: &[String],
+    out: &mut W,
+) -> (Result<Said, RunFault>, S)
+    ensures source { OnlyReads (read_failed result.0) (S.means src) (S.means result.1) }
+    ensures exact { IsTrue (S.means src).honest → (cert : List ℕ) → IsDecoded cert decoded
+        → Leaves (LinesSay (found_line Style.OldStyle) (CheckSays (S.means src).octets cert) (S.means src).octets
+        (map (λ text. string_bytes text) paths.now)) 0 (W.contents out.old) (W.contents out.new) result.0 }
+{
+    send_made(get_output(alloc, src, decoded, paths), out)
+}
 
 /// Returns the lines of `get`, one for each path text, and the source.
-pub(crate) fn get_output<S: Source>(
+fn get_output<S: Source>(
     alloc: Global,
     src: S,
     decoded: Result<Certificate, CertRefusal>,

@@ -13,10 +13,10 @@
 //! | to do this | call |
 //! |---|---|
 //! | lint, check, get, certify or print over a source | [`run_on`], with a [`Command`] and its [`Verb`] |
-//! | the same with a certificate that is already decoded | [`run_certified`] |
+//! | check, get or print with a certificate that is already decoded | [`check_on`], [`get_on`], [`print_on`] |
 //! | any of the five over bytes or hexadecimal text | [`run_over`], [`undo_hex`] |
 //! | lint or certify, which take no certificate | [`lint_on`], [`certify_on`] |
-//! | show values of a file that has no certificate | [`show_on`], [`show_text_on`], [`show_raw_on`] |
+//! | show values of a file that has no certificate | [`show_on`]; [`show_text_on`] and [`show_raw_on`] with a [`Led`] |
 //! | list them | [`list_on`], [`list_all_on`] with a [`Branch`] |
 //!
 //! A call returns the `Said` or the `RunFault` of `bplint_lines`. The clause `exact` of each call says which bytes it
@@ -59,10 +59,14 @@ mod tree_walk;
 
 pub use accepted::checked_by_lint;
 pub use certify::certify_on;
+pub use check::check_on;
+pub use get::get_on;
 pub use laws::{listings_tell_values, tree_of_ls};
 pub use lint::lint_on;
 pub use ls::list_on;
+pub use output::Led;
+pub use print::print_on;
 pub use raw::show_raw_on;
-pub use run::{Command, Verb, run_certified, run_on, run_over, undo_hex};
+pub use run::{Command, Verb, run_on, run_over, undo_hex};
 pub use show::{show_on, show_text_on};
 pub use tree::{Branch, list_all_on};

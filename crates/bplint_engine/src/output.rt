@@ -18,6 +18,15 @@ pub(crate) struct Output {
     pub bytes: Vec<u8>,
 }
 
+/// Whether a path led to a value, in a call that writes nothing but values.
+#[derive(Drop)]
+pub enum Led {
+    /// It did, and the whole value was written.
+    There,
+    /// It led nowhere, and nothing was written. This is the line that says so, with its line feed.
+    Nowhere(Vec<u8>),
+}
+
 /// Writes the output if there is one, and passes the source on.
 pub(crate) fn send_made<S: Source, W: Write>(
     made: (Result<Output, RunFault>, S),

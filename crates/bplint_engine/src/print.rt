@@ -1,14 +1,13 @@
 //! The command `print`: writes one value as old-style text.
 
-ghost use Rattle.std.specs.Prelude.{◌≡◌, ◌∷◌, ◌++◌, ℕ, List, [], IfErr, IfOk, IsTrue, OnOk, codes, length, map};
-ghost use Rattle.std.specs.Prelude.{string_bytes};
+ghost use Rattle.std.specs.Prelude.{◌≡◌, ◌∷◌, ◌++◌, ℕ, List, [], IfErr, IfOk, IsTrue, OnOk, Some, codes};
 ghost use Rattle.bplint_engine.specs.Prelude.{OnlyReads, Holds, Value, IsVouchedBy, OnlyReadsFile, Takes, TakesPart};
-ghost use Rattle.bplint_engine.specs.Prelude.{Leaves, LeavesBy, read_failed, missing_line, CheckSays, IsDecoded};
+ghost use Rattle.bplint_engine.specs.Prelude.{Leaves, LeavesBy, LeavesLed, read_failed, missing_line, CheckSays, IsDecoded};
 ghost use Rattle.bplint_engine.specs.Prelude.{NodeSays, PathSays, PrintSays};
 
 use crate::accepted::check_decoded;
 use crate::get::path_in;
-use crate::output::{Output, send_output};
+use crate::output::{Led, Output, send_output};
 use bplint_lines::{RunFault, Said, add_missing};
 use bplist_ascii::print_into;
 use bplist_cert::{CertRefusal, Certificate, Checked};
@@ -18,22 +17,21 @@ use std::alloc::Global;
 use std::io::Write;
 
 /// Writes the text of the value under a path and a line feed, or the line for a path that leads nowhere. Returns the
-/// source too. It has six parameters because `print` needs all of them.
-pub(crate) fn print_answer<S: Source, W: Write>(
+/// source too. Does what [`crate::run_on`] does for `Print` with the certificate of these bytes, with the same errors.
+pub fn print_on<S: Source, W: Write>(
     alloc: Global,
     src: S,
     decoded: Result<Certificate, CertRefusal>,
-    texts: &[String],
+    path: &str,
     limit: u64,
     out: &mut W,
 ) -> (Result<Said, RunFault>, S)
-    requires { length texts.now ≡ 1 }
     ensures source { OnlyReads (read_failed result.0) (S.means src) (S.means result.1) }
     ensures exact { IsTrue (S.means src).honest → (cert : List ℕ) → IsDecoded cert decoded
-        → Leaves (PrintSays limit (CheckSays (S.means src).octets cert) (S.means src).octets
-        (map (λ text. string_bytes text) texts.now)) limit (W.contents out.old) (W.contents out.new) result.0 }
+        → Leaves (PrintSays limit (CheckSays (S.means src).octets cert) (S.means src).octets (path.now ∷ [])) limit
+        (W.contents out.old) (W.contents out.new) result.0 }
 {
-    let path = match path_in(alloc, texts[0].as_str()) {
+    let path = match path_in(alloc, path) {
         Ok(path) => path,
         Err(fault) => return (Err(fault), src),
     };
@@ -44,7 +42,7 @@ pub(crate) fn print_answer<S: Source, W: Write>(
 }
 
 /// Writes what a checked file has under a path. Returns the source too.
-pub(crate) fn print_checked<S: Source, W: Write>(
+fn print_checked<S: Source, W: Write>(
     alloc: Global,
     checked: Checked<S>,
     path: &Path,
@@ -79,6 +77,29 @@ fn print_path<S: Source, W: Write>(
     match locate(checked, path)? {
         Found::At(node) => print_node(alloc, checked, node, limit, out),
         Found::Missing { step, why } => send_output(missing_output(alloc, step, why), out),
+    }
+}
+
+/// Writes the text that a checked file has under a path, and a line feed. Of a path that leads nowhere it writes nothing.
+pub(crate) fn text_path<S: Source, W: Write>(
+    alloc: Global,
+    checked: &mut Checked<S>,
+    path: &Path,
+    limit: u64,
+    out: &mut W,
+) -> Result<Led, RunFault>
+    ensures reads { OnlyReadsFile (read_failed result) checked.old checked.new }
+    ensures exact { IsTrue checked.old.source.honest → (v : Value)
+        → Holds checked.old.source.octets checked.old.frame checked.old.frame.top.0 v
+        → LeavesLed (PathSays checked.old.source.octets checked.old.frame limit path.now v) (Some limit)
+        (W.contents out.old) (W.contents out.new) result }
+{
+    match locate(checked, path)? {
+        Found::At(node) => {
+            print_node(alloc, checked, node, limit, out)?;
+            Ok(Led::There)
+        }
+        Found::Missing { step, why } => Ok(Led::Nowhere(missing_output(alloc, step, why)?.bytes)),
     }
 }
 

@@ -8,10 +8,10 @@ ghost use Rattle.bplint_engine.specs.Raw.{raw_bytes, raw_read_failed};
 
 use crate::accepted::checked_by_lint;
 use crate::get::path_in;
-use crate::output::send_output;
+use crate::output::Led;
 use crate::print::missing_output;
 use crate::raw_bytes::{raw_of, send_raw};
-use bplint_lines::{RawFault, RunFault, Said};
+use bplint_lines::{RawFault, RunFault};
 use bplist_cert::Checked;
 use bplist_cursor::{Found, Node, Path, locate};
 use bplist_octets::Source;
@@ -27,8 +27,8 @@ use std::io::Write;
 /// | integer, UID | its digits |
 /// | truth value | `true` or `false` |
 ///
-/// Data and texts are written in parts, and never held in memory as a whole. A path that leads nowhere gets the same
-/// line as with `Get`.
+/// Data and texts are written in parts, and never held in memory as a whole. If the path leads nowhere, nothing is
+/// written, and `Nowhere` has the line of `Get`.
 ///
 /// These errors come before anything is written, in this order: `Path` for a wrong path text; `Fault` or `Circle` as
 /// `Lint` returns it; `NoRawForm` for a value of another kind, or for a text that has a surrogate without its other
@@ -39,7 +39,7 @@ pub fn show_raw_on<S: Source, W: Write>(
     src: S,
     path: &str,
     out: &mut W,
-) -> (Result<Said, RawFault>, S)
+) -> (Result<Led, RawFault>, S)
     ensures source { OnlyReads (raw_read_failed result.0) (S.means src) (S.means result.1) }
     ensures exact { IsTrue (S.means src).honest
         → ∥ LeavesRawBy (ShowsRaw (LintSays (S.means src).octets) (S.means src).octets path.now)
@@ -65,7 +65,7 @@ fn raw_path<S: Source, W: Write>(
     checked: &mut Checked<S>,
     path: &Path,
     out: &mut W,
-) -> Result<Said, RawFault>
+) -> Result<Led, RawFault>
     ensures reads { OnlyReadsFile (raw_read_failed result) checked.old checked.new }
     ensures exact { IsTrue checked.old.source.honest → (v : Value)
         → Holds checked.old.source.octets checked.old.frame checked.old.frame.top.0 v
@@ -74,7 +74,7 @@ fn raw_path<S: Source, W: Write>(
 {
     match locate(checked, path)? {
         Found::At(node) => raw_node(alloc, checked, node, out),
-        Found::Missing { step, why } => { Ok(send_output(missing_output(alloc, step, why), out)?) }
+        Found::Missing { step, why } => Ok(Led::Nowhere(missing_output(alloc, step, why)?.bytes)),
     }
 }
 
@@ -84,7 +84,7 @@ fn raw_node<S: Source, W: Write>(
     checked: &mut Checked<S>,
     node: Node,
     out: &mut W,
-) -> Result<Said, RawFault>
+) -> Result<Led, RawFault>
     ensures reads { OnlyReadsFile (raw_read_failed result) checked.old checked.new }
     ensures exact { IsTrue checked.old.source.honest → IsVouchedBy checked.old.certificate.heights node.object.0
         → (w : Value) → Holds checked.old.source.octets checked.old.frame node.object.0 w
@@ -94,7 +94,7 @@ fn raw_node<S: Source, W: Write>(
     match raw_of(alloc, checked, node)? {
         Some(raw) => {
             send_raw(alloc, checked, &raw, out)?;
-            Ok(Said::All)
+            Ok(Led::There)
         }
         None => Err(RawFault::NoRawForm(node.object)),
     }

@@ -2,16 +2,15 @@
 //! their options, and the calls that run them.
 
 ghost use Rattle.std.specs.Prelude.{◌≡◌, ℕ, List, [], None, IsTrue, if◌then◌else◌, ◌⊎◌, ◌-◌, ◌==◌, IfOk, IfErr, IsErr};
-ghost use Rattle.std.specs.Prelude.{Ok, length, slice_index, take};
+ghost use Rattle.std.specs.Prelude.{◌∷◌, Ok, length, map, slice_index, string_bytes, take};
 ghost use Rattle.bplint_engine.specs.Prelude.{OnlyReads, IsDecoded, PrintsOnePath, Leaves, read_failed, Says, SaysOver};
 ghost use Rattle.bplint_engine.specs.Prelude.{most, takes_cert, spelled};
 
 use crate::certify::certify_on;
-use crate::check::check_output;
-use crate::get::get_output;
+use crate::check::check_on;
+use crate::get::get_on;
 use crate::lint::lint_on;
-use crate::output::send_made;
-use crate::print::print_answer;
+use crate::print::print_on;
 use bplint_lines::{RunFault, Said};
 use bplist_cert::{CertRefusal, Certificate};
 use bplist_octets::{SliceSource, Source};
@@ -45,7 +44,7 @@ pub struct Command {
     /// The largest text that `Print` may write, in bytes, not counting the final line feed.
     pub limit: u64,
     /// If true, `Certify` writes hexadecimal text, and [`crate::run_over`] takes the file and the certificate as
-    /// hexadecimal text. [`crate::run_on`] and [`crate::run_certified`] take bytes all the same.
+    /// hexadecimal text. [`crate::run_on`] takes bytes all the same.
     pub hex: bool,
     /// If true, `Certify` also writes key lists.
     pub sorted: bool,
@@ -66,24 +65,8 @@ impl Model for Command {
     } };
 }
 
-/// Runs a command over a source and a decoded certificate. Returns the source too.
-///
-/// The answer goes to `out`: lines, each with a line feed, or the bytes of a certificate. `Lint` and `Certify` ignore
-/// `decoded`. `Print` requires exactly one path.
-///
-/// These errors come before anything is written, in this order:
-///
-/// - `Path` for the first wrong path text,
-/// - the error in `decoded`,
-/// - `Fault` or `Circle` for the file or its certificate,
-/// - with `Print`, `NoAsciiForm` and then `TooLong`.
-///
-/// `Write` means that a write failed: the first `sent` bytes of the answer were written, and some were not.
-///
-/// `Read` means that a read of the source failed, and `Memory` that memory was refused. Nothing was written then,
-/// except that `Print` may have written a first part of the answer. `Changed` means that the source now gives other
-/// bytes than before. An honest source never causes it.
-pub fn run_certified<S: Source, W: Write>(
+/// Runs a command over a source and a decoded certificate, which `Lint` and `Certify` ignore.
+fn run_certified<S: Source, W: Write>(
     alloc: Global,
     command: &Command,
     src: S,
@@ -98,15 +81,41 @@ pub fn run_certified<S: Source, W: Write>(
 {
     match command.verb {
         Verb::Lint => lint_on(alloc, src, out),
-        Verb::Check => send_made(check_output(alloc, src, decoded), out),
-        Verb::Get => send_made(get_output(alloc, src, decoded, &command.paths), out),
+        Verb::Check => check_on(alloc, src, decoded, out),
+        Verb::Get => get_on(alloc, src, decoded, &command.paths, out),
         Verb::Certify => certify_on(alloc, src, command.sorted, command.hex, out),
-        Verb::Print => print_answer(alloc, src, decoded, &command.paths, command.limit, out),
+        Verb::Print => {
+            let path = only_text(&command.paths);
+            print_on(alloc, src, decoded, path, command.limit, out)
+        }
     }
 }
 
-/// Decodes a certificate and runs a command, as [`run_certified`] does. If the bytes are no certificate, the error is
-/// `Fault` with rule 24 or 25. `Lint` and `Certify` ignore `cert`.
+/// Returns the text of a list that has one.
+fn only_text(texts: &[String]) -> &str
+    requires { length texts.now ≡ 1 }
+    ensures { map (λ text. string_bytes text) texts.now ≡ result.now ∷ [] }
+{
+    texts[0].as_str()
+}
+
+/// Decodes a certificate, and runs a command over a source. Returns the source too.
+///
+/// The answer goes to `out`: lines, each with a line feed, or the bytes of a certificate. `Lint` and `Certify` ignore
+/// `cert`. `Print` requires exactly one path.
+///
+/// These errors come before anything is written, in this order:
+///
+/// - `Path` for the first wrong path text,
+/// - `Fault` with rule 24 or 25 if `cert` is no certificate,
+/// - `Fault` or `Circle` for the file or its certificate,
+/// - with `Print`, `NoAsciiForm` and then `TooLong`.
+///
+/// `Write` means that a write failed: the first `sent` bytes of the answer were written, and some were not.
+///
+/// `Read` means that a read of the source failed, and `Memory` that memory was refused. Nothing was written then,
+/// except that `Print` may have written a first part of the answer. `Changed` means that the source now gives other
+/// bytes than before. An honest source never causes it.
 pub fn run_on<S: Source, W: Write>(
     alloc: Global,
     command: &Command,
@@ -126,7 +135,7 @@ pub fn run_on<S: Source, W: Write>(
 /// Runs a command over the bytes of a file and a certificate. With `hex` both are hexadecimal text; that of the
 /// certificate is only decoded if the verb uses the certificate.
 ///
-/// `Hex` comes before all errors of [`run_certified`]: the text of the file is wrong, or else that of the certificate.
+/// `Hex` comes before all errors of [`run_on`]: the text of the file is wrong, or else that of the certificate.
 /// Nothing was written then. `Read` and `Changed` do not occur.
 pub fn run_over<W: Write>(
     alloc: Global,

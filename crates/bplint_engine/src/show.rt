@@ -1,13 +1,13 @@
 //! The calls of `show`: values under paths of a file that has no certificate.
 
-ghost use Rattle.std.specs.Prelude.{◌∷◌, ◌≡◌, [], IsTrue, MatchResult, map, string_bytes};
-ghost use Rattle.bplint_engine.specs.Prelude.{OnlyReads, Leaves, read_failed, Answers, LinesSay, LintSays, PrintSays};
+ghost use Rattle.std.specs.Prelude.{◌∷◌, ◌≡◌, [], IsTrue, MatchResult, Some, map, string_bytes};
+ghost use Rattle.bplint_engine.specs.Prelude.{OnlyReads, Leaves, LeavesLed, read_failed, Answers, LinesSay, LintSays, PrintSays};
 ghost use Rattle.bplint_engine.specs.Prelude.{found_line, IsLeastFor, IsRefusal, Lists, read_fault_of};
 
 use crate::accepted::checked_by_lint;
 use crate::get::{lines_for, path_in, queries_of};
-use crate::output::{Output, send_made};
-use crate::print::print_checked;
+use crate::output::{Led, Output, send_made};
+use crate::print::text_path;
 use crate::sorting::suited_to;
 use bplint_lines::{RunFault, Said, Style};
 use bplist_cert::Checked;
@@ -81,7 +81,7 @@ fn checked_for<S: Source>(
 }
 
 /// Writes what `Print` writes for this path text and limit, with the certificate of the least heights. Returns the
-/// source too.
+/// source too. If the path leads nowhere, nothing is written, and `Nowhere` has the line of `Print`.
 ///
 /// These errors come before anything is written, in this order: `Path` for a wrong path text; `Fault` or `Circle` as
 /// `Lint` returns it; `NoAsciiForm`; `TooLong`. `Read`, `Memory`, `Write` and `Changed` mean the same as in
@@ -92,18 +92,21 @@ pub fn show_text_on<S: Source, W: Write>(
     path: &str,
     limit: u64,
     out: &mut W,
-) -> (Result<Said, RunFault>, S)
+) -> (Result<Led, RunFault>, S)
     ensures source { OnlyReads (read_failed result.0) (S.means src) (S.means result.1) }
     ensures exact { IsTrue (S.means src).honest
-        → Leaves (PrintSays limit (LintSays (S.means src).octets) (S.means src).octets (path.now ∷ [])) limit
-        (W.contents out.old) (W.contents out.new) result.0 }
+        → ∥ LeavesLed (PrintSays limit (LintSays (S.means src).octets) (S.means src).octets (path.now ∷ [])) (Some limit)
+        (W.contents out.old) (W.contents out.new) result.0 ∥₁ }
 {
     let path = match path_in(alloc, path) {
         Ok(path) => path,
         Err(fault) => return (Err(fault), src),
     };
     match checked_by_lint(alloc, src) {
-        Ok(checked) => print_checked(alloc, checked, &path, limit, out),
+        Ok(mut checked) => {
+            let led = text_path(alloc, &mut checked, &path, limit, out);
+            (led, checked.into_parts().0)
+        }
         Err((fault, src)) => (Err(fault), src),
     }
 }

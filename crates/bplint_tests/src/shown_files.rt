@@ -3,8 +3,8 @@
 
 use crate::failing_calls::MOST_READS;
 use crate::runs::{line_of_read, outcome};
-use bplint_engine::{Branch, list_all_on, list_on, show_on, show_raw_on, show_text_on};
-use bplint_lines::{RawFault, Style};
+use bplint_engine::{Branch, Led, list_all_on, list_on, show_on, show_raw_on, show_text_on};
+use bplint_lines::{RawFault, RunFault, Said, Style};
 use bplint_map::map_on;
 use bplist_lint::{Keys, lint_checked};
 use bplist_octets::{CountingSource, ReadFault, ShiftingSource, SliceSource, Source};
@@ -37,6 +37,18 @@ const CALLS: &[Show] = &[
     Show::Map,
 ];
 
+/// Returns the answer of a call that hands out the line of a path that leads nowhere, and adds that line to `out`.
+fn said(led: Result<Led, RunFault>, out: &mut Vec<u8>) -> Result<Result<Said, RunFault>, Fail> {
+    match led {
+        Ok(Led::There) => Ok(Ok(Said::All)),
+        Ok(Led::Nowhere(line)) => {
+            out.extend_from_slice(&line)?;
+            Ok(Ok(Said::SomeMissing))
+        }
+        Err(fault) => Ok(Err(fault)),
+    }
+}
+
 /// Returns what a call writes for the value under a path, or the status and the line of its fault.
 fn shown<S: Source + Drop>(
     alloc: Global,
@@ -51,11 +63,14 @@ fn shown<S: Source + Drop>(
             let paths = vec![in alloc; String::from_str(alloc, path)?]?;
             show_on(alloc, source, &paths, style, &mut out).0
         }
-        Show::Text => show_text_on(alloc, source, path, 100, &mut out).0,
+        Show::Text => {
+            let (answer, _source) = show_text_on(alloc, source, path, 100, &mut out);
+            said(answer, &mut out)?
+        }
         Show::Raw => {
             let (answer, _source) = show_raw_on(alloc, source, path, &mut out);
             match answer {
-                Ok(said) => Ok(said),
+                Ok(led) => said(Ok(led), &mut out)?,
                 Err(RawFault::Run(fault)) => Err(fault),
                 Err(fault) => return Ok(fault.line(alloc)?),
             }

@@ -1,18 +1,18 @@
-use Rattle.std.proofs.Common.{◌∷◌, []}
+use Rattle.std.proofs.Common.{Some, ◌∷◌, []}
 use Rattle.std.proofs.lemmas.Grind.{merely}
 use Rattle.bplint_engine.specs.Lint.{LintSays}
 use Rattle.bplint_engine.specs.Print.{PrintSays}
 use Rattle.bplint_engine.proofs.LeftBytes.{kept_self, refused}
 use Rattle.bplint_engine.proofs.PathAnswers.{IsText, file_refused, lint_there, lint_yes, path_refused}
-use Rattle.bplint_engine.proofs.PrintAnswers.{print_leaves}
+use Rattle.bplint_engine.proofs.PrintAnswers.{text_leaves}
 use Rattle.bplint_engine.proofs.show.show_text_on.Goals as goal
 
 pub returns-in-Ok-checked_by_lint-clause-exact : goal.returns-in-Ok-checked_by_lint-clause-exact
 returns-in-Ok-checked_by_lint-clause-exact g c =
     λ honest. let f = (g.S.Source.means c.args.src).octets in
-    let left = rw c.in-Ok-checked_by_lint.ensures.handed at c.print_checked.ensures.exact in
+    let left = rw c.in-Ok-checked_by_lint.ensures.handed at c.text_path-led.ensures.exact in
     let least = c.in-Ok-checked_by_lint.ensures.exact honest in
-    print_leaves (LintSays f) f (c.args.path.now ∷ []) c.args.limit _ _ _ _ _ c.in-Ok.ensures (lint_yes f _ _ least) (merely (lint_there f _ _ least)) (left honest)
+    merely (text_leaves (LintSays f) f (c.args.path.now ∷ []) c.args.limit _ _ _ _ _ c.in-Ok.ensures (lint_yes f _ _ least) (lint_there f _ _ least) (left honest))
 
 pub returns-in-Err-clause-exact : goal.returns-in-Err-clause-exact
 returns-in-Err-clause-exact g c =

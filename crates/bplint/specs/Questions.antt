@@ -1,0 +1,126 @@
+-- What FILE and CERT say about a question, and what a run leaves with the writer and ends with. Source: profile.
+use Rattle.std.specs.Prelude.{◌≡◌, ◌⊎◌, ℕ, List, [], ◌∷◌, Bool, map, string_bytes, ⊤, Option, None, Some, Result, Ok, Err}
+use Rattle.bplint.specs.declared.args.Ask.{Ask}
+use Rattle.bplint.specs.declared.args.Ask.TheVariants as asks
+use Rattle.bplint_lines.specs.declared.fault.RunFault.{RunFault}
+use Rattle.bplint_lines.specs.declared.fault.RunFault.TheVariants as faults
+use Rattle.bplint_lines.specs.declared.raw_fault.RawFault.{RawFault}
+use Rattle.bplint_lines.specs.declared.raw_fault.RawFault.TheVariants.{Run, NoRawForm}
+use Rattle.bplint_lines.specs.declared.fault.Said.{Said}
+use Rattle.bplint_lines.specs.declared.fault.Said.TheVariants.{All, SomeMissing}
+use Rattle.bplint_lines.specs.declared.texts.Style.TheVariants.{OldStyle}
+use Rattle.bplint_lines.specs.Answers.{Answer, gives, refuses, LeavesWithin}
+use Rattle.bplint_engine.specs.declared.output.Led.{Led}
+use Rattle.bplint_engine.specs.declared.output.Led.TheVariants.{There, Nowhere}
+use Rattle.bplist_cert.specs.Sound.{IsSound}
+use Rattle.bplint_engine.specs.Certify.{CertifySays}
+use Rattle.bplint_engine.specs.Check.{CheckSays}
+use Rattle.bplint_engine.specs.Get.{LinesSay, found_line}
+use Rattle.bplint_engine.specs.Lint.{LintSays}
+use Rattle.bplint_engine.specs.Ls.{listed}
+use Rattle.bplint_engine.specs.Output.{LeavesLed}
+use Rattle.bplint_engine.specs.Print.{PrintSays}
+use Rattle.bplint_engine.specs.Raw.{IsRawless, LeavesRawBy, ShowsRaw}
+use Rattle.bplint_engine.specs.Tree.{ListsAll}
+
+-- the answer of a run that has no fault of its own
+abbrev pub answer_of : Result Said RunFault → Result Said RawFault
+answer_of (Ok said) = Ok said
+answer_of (Err fault) = Err (Run fault)
+
+-- the same of a run that writes nothing but values
+abbrev pub answer_of_led : Result Led RawFault → Result Said RawFault
+answer_of_led (Ok There) = Ok All
+answer_of_led (Ok (Nowhere line)) = Ok SomeMissing
+answer_of_led (Err fault) = Err fault
+
+-- a fault that other commands have as well
+abbrev pub led_of : Result Led RunFault → Result Led RawFault
+led_of (Ok led) = Ok led
+led_of (Err fault) = Err (Run fault)
+
+-- the answer to a question about the file f and the certificate with these bytes; with `hex` certify writes hexadecimal text.
+-- What `ls --json`, `ls --objects`, `map` and `textconv` say is tested
+abbrev pub SaysAsked : Ask → Bool → List ℕ → List ℕ → Answer → Type 0
+SaysAsked asks.Lint hex f cert answer = LintSays f answer
+SaysAsked (asks.Certify sorted) hex f cert answer = CertifySays sorted hex f answer
+SaysAsked asks.Check hex f cert answer = CheckSays f cert answer
+SaysAsked (asks.Get paths) hex f cert answer =
+    LinesSay (found_line OldStyle) (CheckSays f cert) f (map (λ path. string_bytes path) paths.items) answer
+SaysAsked (asks.Print path limit) hex f cert answer = PrintSays limit (CheckSays f cert) f (path.now ∷ []) answer
+SaysAsked (asks.Show paths style) hex f cert answer =
+    LinesSay (found_line style) (LintSays f) f (map (λ path. string_bytes path) paths.items) answer
+SaysAsked (asks.Text path limit) hex f cert answer = PrintSays limit (LintSays f) f (path.now ∷ []) answer
+SaysAsked (asks.Raw path) hex f cert answer = ShowsRaw (LintSays f) f path.now answer
+SaysAsked (asks.List path style) hex f cert answer = LinesSay (listed style path.now) (LintSays f) f (path.now ∷ []) answer
+SaysAsked (asks.Tree branch) hex f cert answer = ListsAll branch.style branch.limit (LintSays f) f branch.path.now answer
+SaysAsked _ hex f cert answer = ⊤
+
+-- how many bytes may be written before a failed read or refused memory, if there is a bound
+abbrev pub most_asked : Ask → Option ℕ
+most_asked (asks.Print path limit) = Some limit
+most_asked (asks.Text path limit) = Some limit
+most_asked (asks.Raw path) = None
+most_asked (asks.List path style) = None
+most_asked (asks.Tree branch) = None
+most_asked _ = Some 0
+
+module _ (ask : Ask) (hex : Bool) (f cert : List ℕ) (old new : Option (List ℕ)) where
+  -- the writer has the answer, and the run ends with it
+  abbrev LeavesAnswer : Result Said RawFault → Type 0
+  LeavesAnswer result = (answer : Result Said RunFault) × LeavesWithin (SaysAsked ask hex f cert) (most_asked ask) old new answer
+      × (result ≡ answer_of answer)
+
+-- what a run leaves with the writer, and ends with
+abbrev pub LeavesAsked : Ask → Bool → List ℕ → List ℕ → Option (List ℕ) → Option (List ℕ) → Result Said RawFault → Type 0
+LeavesAsked (asks.Text path limit) hex f cert old new result = (led : Result Led RunFault)
+    × LeavesLed (PrintSays limit (LintSays f) f (path.now ∷ [])) (Some limit) old new led × (result ≡ answer_of_led (led_of led))
+LeavesAsked (asks.Raw path) hex f cert old new result = (led : Result Led RawFault)
+    × LeavesRawBy (ShowsRaw (LintSays f) f path.now) (IsRawless (LintSays f) f path.now) old new led × (result ≡ answer_of_led led)
+LeavesAsked (asks.Rows listed) hex f cert old new result = ⊤
+LeavesAsked (asks.Map paths) hex f cert old new result = ⊤
+LeavesAsked asks.Textconv hex f cert old new result = ⊤
+LeavesAsked ask hex f cert old new result = LeavesAnswer ask hex f cert old new result
+
+-- ---- how a run ends
+-- the path of `show --raw` leads to object n, whose value has no raw bytes
+abbrev pub IsRawlessAsked : Ask → List ℕ → ℕ → Type 0
+IsRawlessAsked (asks.Raw path) f n = IsRawless (LintSays f) f path.now n
+IsRawlessAsked (asks.Rows listed) f n = ⊤
+IsRawlessAsked (asks.Map paths) f n = ⊤
+IsRawlessAsked asks.Textconv f n = ⊤
+IsRawlessAsked _ f n = ⊥
+
+module _ (Says : Answer → Type 0) (Rawless : ℕ → Type 0) where
+  -- the run ends as Says allows, or because a read or a write failed or memory was refused
+  abbrev pub EndsBy : Result Said RawFault → Type 0
+  EndsBy (Ok said) = (bytes : List ℕ) × Says (gives said bytes)
+  EndsBy (Err (Run (faults.Write _))) = ⊤
+  EndsBy (Err (Run (faults.Read _))) = ⊤
+  EndsBy (Err (Run faults.Memory)) = ⊤
+  EndsBy (Err (Run fault)) = Says (refuses fault)
+  EndsBy (Err (NoRawForm n)) = Rawless n.0
+
+  -- the answer is no: a path leads nowhere, or the file is refused, or the value has not the form that was asked for
+  abbrev pub SaysNo : Type 0
+  SaysNo = ((bytes : List ℕ) × Says (gives SomeMissing bytes)) ⊎ (((fault : RunFault) × Says (refuses fault)) ⊎ ((n : ℕ) × Rawless n))
+
+  -- exit status 0 is given only if the answer is yes, and 1 only if it is no
+  abbrev pub StatusSays : ℕ → Type 0
+  StatusSays status = (status ≡ 0 → ∥ ((bytes : List ℕ) × Says (gives All bytes)) ∥₁) × (status ≡ 1 → ∥ SaysNo ∥₁)
+
+-- a run about f and cert ends as it may
+abbrev pub EndsAsked : Ask → Bool → List ℕ → List ℕ → Result Said RawFault → Type 0
+EndsAsked ask hex f cert result = ∥ EndsBy (SaysAsked ask hex f cert) (IsRawlessAsked ask f) result ∥₁
+
+-- what the exit status of a run about f and cert says
+abbrev pub StatusAsked : Ask → Bool → List ℕ → List ℕ → ℕ → Type 0
+StatusAsked ask hex f cert status = StatusSays (SaysAsked ask hex f cert) (IsRawlessAsked ask f) status
+
+-- the exit status of `lint`: 0 only if the file is sound, and 1 only if it breaks a rule; so never 1 for a sound file, and
+-- never 0 for one that breaks a rule
+pub record LintEnds (f : List ℕ) (status : ℕ) : Type 0 where
+  pub yes : status ≡ 0 → ∥ IsSound f ∥₁
+  pub no : status ≡ 1 → ∥ ((fault : RunFault) × LintSays f (refuses fault)) ∥₁
+  pub sound : IsSound f → status ≡ 1 → ⊥
+  pub broken : (fault : RunFault) → LintSays f (refuses fault) → status ≡ 0 → ⊥

@@ -1,0 +1,211 @@
+//! Answers what is asked about one FILE.
+
+ghost use Rattle.std.specs.Prelude.{◌≡◌, ◌≤◌, IsTrue};
+ghost use Rattle.bplint.specs.Questions.{LeavesAsked, answer_of};
+
+use crate::args::{Ask, Run};
+use crate::ending::{Ending, WRONG_LINE, end, refuse_line};
+use crate::first_lines::FirstLines;
+use crate::input::{Inputs, WHOLE_LIMIT, bytes_in, decode, open_inputs};
+use crate::labels::Labelled;
+use crate::lists::with_listed_paths;
+use crate::output::{OutFault, OutFile};
+use crate::reasons::{completed, form_lines, keeps_line, path_lines, too_long_line};
+use crate::textconv::show_any;
+use bplint_engine::{
+    certify_on, check_on, get_on, lint_on, list_all_on, list_on, print_on, show_on, show_raw_on,
+    show_text_on,
+};
+use bplint_json::list_rows_on;
+use bplint_lines::{RawFault, RunFault, Said, explain};
+use bplint_map::map_on;
+use bplist_octets::Source;
+use std::alloc::{AllocError, Global};
+use std::fs::{File, Files};
+use std::io::Write;
+
+/// Opens FILE and CERT, and answers what is asked. Returns the exit status.
+pub fn run<R: Files<File = File> + Input + Print + Eprint>(
+    rt: &R,
+    alloc: Global,
+    line: Run<'_>,
+) -> u8
+    ensures { result ≤ 4 }
+{
+    let inputs = match open_inputs(rt, alloc, &line) {
+        Ok(inputs) => inputs,
+        Err(unread) => {
+            return end(rt, alloc, &line.prefix, unread.ending(alloc, line.explain));
+        }
+    };
+    match with_listed_paths(rt, alloc, line) {
+        Ok(line) => run_opened(rt, alloc, &line, inputs),
+        Err(status) => status,
+    }
+}
+
+/// Answers what is asked about inputs that are open. Returns the exit status.
+fn run_opened<R: Files<File = File> + Print + Eprint>(
+    rt: &R,
+    alloc: Global,
+    line: &Run<'_>,
+    inputs: Inputs,
+) -> u8
+    ensures { result ≤ 4 }
+{
+    let Inputs { file, cert } = inputs;
+    let mut out = OutFile::new(rt, line.out).replacing(line.replaces);
+    let ending = match line.most {
+        None => answer(alloc, line, file, cert, &mut out),
+        Some(most) => {
+            let mut first = FirstLines::new(&mut out, u64::MAX, most);
+            let ending = answer(alloc, line, file, cert, &mut first);
+            match first.full() {
+                None => ending,
+                Some(_) => Ending::with(alloc, RunFault::TooLong),
+            }
+        }
+    };
+    if let Some(OutFault::Kept) = out.fault() {
+        return keep_out(rt, alloc, line);
+    }
+    let ending = completed(alloc, line, ending, out.fault());
+    end(
+        rt,
+        alloc,
+        &line.prefix,
+        warned(alloc, line, ending, out.written()),
+    )
+}
+
+/// Says that OUT stays as it is, because it is no certificate. Returns the exit status.
+fn keep_out<R: Eprint>(rt: &R, alloc: Global, line: &Run<'_>) -> u8
+    ensures { result ≤ 4 }
+{
+    match keeps_line(alloc, line.out, line.hex) {
+        Ok(line) => refuse_line(rt, &line),
+        Err(_) => end(rt, alloc, "", Ending::with(alloc, RunFault::Memory)),
+    }
+}
+
+/// Adds a warning to the end of a run if `certify` wrote more bytes than any other command reads.
+fn warned(alloc: Global, line: &Run<'_>, ending: Ending, written: u64) -> Ending {
+    match &line.ask {
+        Ask::Certify { .. } if ending.answer.is_ok() && written > WHOLE_LIMIT as u64 => {
+            match too_long_line(alloc, line.out) {
+                Ok(warning) => Ending::over(ending.answer, warning),
+                Err(_) => Ending::with(alloc, RunFault::Memory),
+            }
+        }
+        _ => ending,
+    }
+}
+
+/// Answers what is asked about a FILE and a CERT.
+pub fn answer<S: Source + Drop, C: Source + Drop, W: Write>(
+    alloc: Global,
+    line: &Run<'_>,
+    file: S,
+    cert: C,
+    out: &mut W,
+) -> Ending {
+    let mut cert = cert;
+    let mut out = Labelled::new(alloc, out, line.labels());
+    let (ending, mut file) = answer_on(alloc, line, file, &mut cert, &mut out);
+    if out.is_refused() {
+        return Ending::with(alloc, RunFault::Memory);
+    }
+    match ending.answer {
+        Err(fault) if line.explain => {
+            let under = under_fault(alloc, line, &mut file, &mut cert, &fault);
+            Ending::over(Err(fault), under)
+        }
+        answer => Ending { answer, ..ending },
+    }
+}
+
+/// Writes the answer to what is asked. Returns how the run ends, and FILE. CERT is empty if there is none.
+fn answer_on<S: Source + Drop, C: Source, W: Write>(
+    alloc: Global,
+    line: &Run<'_>,
+    file: S,
+    cert: &mut C,
+    out: &mut W,
+) -> (Ending, S)
+    ensures exact { IsTrue (S.means file).honest → IsTrue (C.means cert.old).honest
+        → ∥ LeavesAsked line.now.ask line.now.hex (S.means file).octets (C.means cert.old).octets
+        (W.contents out.old) (W.contents out.new) result.0.answer ∥₁ }
+{
+    let decoded = match decode(alloc, cert) {
+        Ok(decoded) => decoded,
+        Err(fault) => return (Ending::with(alloc, RunFault::Read(fault)), file),
+    };
+    match &line.ask {
+        Ask::Lint => of(alloc, lint_on(alloc, file, out)),
+        Ask::Certify { sorted } => of(alloc, certify_on(alloc, file, *sorted, line.hex, out)),
+        Ask::Check => of(alloc, check_on(alloc, file, decoded, out)),
+        Ask::Get { paths } => of(alloc, get_on(alloc, file, decoded, paths, out)),
+        Ask::Print { path, limit } => {
+            of(alloc, print_on(alloc, file, decoded, path, *limit, out))
+        }
+        Ask::Show { paths, style } => of(alloc, show_on(alloc, file, paths, *style, out)),
+        Ask::Text { path, limit } => {
+            let (led, file) = show_text_on(alloc, file, path, *limit, out);
+            (Ending::of_led(alloc, led.map_err(RawFault::Run)), file)
+        }
+        Ask::Raw { path } => {
+            let (led, file) = show_raw_on(alloc, file, path, out);
+            (Ending::of_led(alloc, led), file)
+        }
+        Ask::List { path, style } => of(alloc, list_on(alloc, file, path, *style, out)),
+        Ask::Tree(branch) => of(alloc, list_all_on(alloc, file, branch, out)),
+        Ask::Rows(listed) => of(alloc, list_rows_on(alloc, file, listed, out)),
+        Ask::Map { paths } => {
+            let mut file = file;
+            let answer = map_on(alloc, &mut file, *paths, out);
+            of(alloc, (answer, file))
+        }
+        Ask::Textconv => of(alloc, show_any(alloc, file, &line.prefix, out)),
+    }
+}
+
+/// Returns how a run ends with an answer, and FILE.
+fn of<S: Source>(alloc: Global, answered: (Result<Said, RunFault>, S)) -> (Ending, S)
+    ensures { result.0.answer ≡ answer_of answered.0 }
+{
+    let (answer, file) = answered;
+    (Ending::of(alloc, answer), file)
+}
+
+/// Returns the lines below a fault. If a read fails or memory is refused, there are none.
+fn under_fault<S: Source, C: Source>(
+    alloc: Global,
+    line: &Run<'_>,
+    file: &mut S,
+    cert: &mut C,
+    fault: &RawFault,
+) -> String {
+    match try_under(alloc, line, file, cert, fault) {
+        Ok(text) => text,
+        Err(_) => String::new(alloc),
+    }
+}
+
+/// CERT is read as a whole here.
+fn try_under<S: Source, C: Source>(
+    alloc: Global,
+    line: &Run<'_>,
+    file: &mut S,
+    cert: &mut C,
+    fault: &RawFault,
+) -> Result<String, RunFault> {
+    let mut text = form_lines(alloc, file, &line.ask, fault)?;
+    if let RawFault::Run(fault) = fault {
+        let cert = bytes_in(alloc, cert)?;
+        text.push_str(&explain(alloc, file, &cert, fault)?)?;
+        if let RunFault::Path { place } = fault {
+            text.push_str(&path_lines(alloc, &line.ask, *place)?)?;
+        }
+    }
+    Ok(text)
+}
