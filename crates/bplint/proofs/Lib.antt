@@ -1,1 +1,1 @@
-pub mod Endings
+mod UnreadCertificates

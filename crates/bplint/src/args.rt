@@ -82,8 +82,8 @@ pub struct Run<'a> {
     pub hex: bool,
     /// What begins each line: the name of FILE with a colon and a blank, or nothing.
     pub prefix: String,
-    /// The file that lists the paths of `show` and `get`; `-` is standard input. Each line of the answer then begins with
-    /// its path.
+    /// The file that lists the paths of `show` and `get`; `-` is standard input. Each line of the answer then begins
+    /// with its path.
     pub paths_from: Option<&'a str>,
     /// The largest number of bytes that `ls` writes.
     pub most: Option<u64>,

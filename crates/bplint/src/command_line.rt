@@ -176,8 +176,8 @@ fn ask_of<'a>(alloc: Global, name: &str, matches: &ArgMatches<'a>) -> Result<Ask
     }
 }
 
-/// Returns what `show` asks for. With `--text` or `--raw` it takes at most one path; without them no path means the empty
-/// one, which is the whole value.
+/// Returns what `show` asks for. With `--text` or `--raw` it takes at most one path; without them no path means the
+/// empty one, which is the whole value.
 fn show_of<'a>(alloc: Global, matches: &ArgMatches<'a>) -> Result<Ask<'a>, Error> {
     let (text, raw) = (matches.get_flag("text"), matches.get_flag("raw"));
     let (path, limit) = (path_in(matches), limit_in(matches));

@@ -15,7 +15,7 @@ use std::fs::{File, Files};
 use std::io::Write;
 
 /// The exit status of a wrong command line.
-pub const WRONG_LINE: u8 = 2;
+const WRONG_LINE: u8 = 2;
 
 /// How a run ended.
 #[derive(Drop)]
@@ -73,8 +73,8 @@ fn text_of(alloc: Global, line: Vec<u8>) -> String {
     }
 }
 
-/// Prints the line of a fault after the prefix, with the lines below it. Returns the exit status. Prints everything with
-/// one write, so that the lines of parallel runs do not mix.
+/// Prints the line of a fault after the prefix, with the lines below it. Returns the exit status. Prints everything
+/// with one write, so that the lines of parallel runs do not mix.
 pub fn end<R: Eprint>(rt: &R, alloc: Global, prefix: &str, ending: Ending) -> u8
     ensures { EndsWith ending.answer result }
 {

@@ -35,8 +35,8 @@ pub fn with_listed_paths<'a, R: Files<File = File> + Input + Eprint>(
     Err(end(rt, alloc, &line.prefix, ending))
 }
 
-/// Reads path texts. Each line is one, the empty line too; after the last line feed there is none. The inner error is the
-/// number of a line that is not UTF-8.
+/// Reads path texts. Each line is one, the empty line too; after the last line feed there is none. The inner error is
+/// the number of a line that is not UTF-8.
 fn read_paths<R: Files<File = File> + Input>(
     rt: &R,
     alloc: Global,

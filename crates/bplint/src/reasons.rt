@@ -186,6 +186,11 @@ fn limit_line(alloc: Global, ask: &Ask<'_>) -> Result<String, AllocError> {
     }
 }
 
+/// Returns the line with the largest number of bytes that `ls` writes, and how to have another.
+pub fn most_line(alloc: Global, most: u64) -> Result<String, AllocError> {
+    format!(in alloc; "  tip: there are more than {most} bytes; use --limit-bytes N\n")
+}
+
 /// Returns the first wrong path text of a question.
 fn wrong_path<'a>(alloc: Global, ask: &'a Ask<'a>) -> Option<&'a str> {
     match ask {

@@ -4,13 +4,13 @@ ghost use Rattle.std.specs.Prelude.{◌≡◌, ◌≤◌, IsTrue};
 ghost use Rattle.bplint.specs.Questions.{LeavesAsked, answer_of};
 
 use crate::args::{Ask, Run};
-use crate::ending::{Ending, WRONG_LINE, end, refuse_line};
+use crate::ending::{Ending, end, refuse_line};
 use crate::first_lines::FirstLines;
 use crate::input::{Inputs, WHOLE_LIMIT, bytes_in, decode, open_inputs};
 use crate::labels::Labelled;
 use crate::lists::with_listed_paths;
 use crate::output::{OutFault, OutFile};
-use crate::reasons::{completed, form_lines, keeps_line, path_lines, too_long_line};
+use crate::reasons::{completed, form_lines, keeps_line, most_line, path_lines, too_long_line};
 use crate::textconv::show_any;
 use bplint_engine::{
     certify_on, check_on, get_on, lint_on, list_all_on, list_on, print_on, show_on, show_raw_on,
@@ -62,7 +62,7 @@ fn run_opened<R: Files<File = File> + Print + Eprint>(
             let ending = answer(alloc, line, file, cert, &mut first);
             match first.full() {
                 None => ending,
-                Some(_) => Ending::with(alloc, RunFault::TooLong),
+                Some(_) => cut_off(alloc, line, most),
             }
         }
     };
@@ -76,6 +76,17 @@ fn run_opened<R: Files<File = File> + Print + Eprint>(
         &line.prefix,
         warned(alloc, line, ending, out.written()),
     )
+}
+
+/// Returns how a run ends whose answer has more bytes than it may write. If memory for the tip is refused, it is left
+/// out.
+fn cut_off(alloc: Global, line: &Run<'_>, most: u64) -> Ending {
+    if line.explain {
+        if let Ok(tip) = most_line(alloc, most) {
+            return Ending::over(Err(RawFault::Run(RunFault::TooLong)), tip);
+        }
+    }
+    Ending::with(alloc, RunFault::TooLong)
 }
 
 /// Says that OUT stays as it is, because it is no certificate. Returns the exit status.

@@ -1,5 +1,5 @@
-//! The command `textconv`: shows any file to a program that compares or prints files, as git does. It ends with status 0
-//! once the file could be read.
+//! The command `textconv`: shows any file to a program that compares or prints files, as git does. It ends with status
+//! 0 once the file could be read.
 
 use crate::first_lines::{FirstLines, Full};
 use crate::input::HEADER;
@@ -22,8 +22,8 @@ const BLOCK: usize = 4096;
 /// How many lines are shown of a sound file.
 const LINES: u64 = 1_000_000;
 
-/// How many bytes of lines are shown for each byte of a sound file. Each line has its path, so that their length may grow
-/// with the square of that of the file.
+/// How many bytes of lines are shown for each byte of a sound file. Each line has its path, so that their length may
+/// grow with the square of that of the file.
 const TIMES: u64 = 64;
 
 /// As many bytes of lines are shown whatever the length of the file is.
@@ -32,9 +32,9 @@ const LEAST: u64 = 1 << 20;
 /// The largest number of bytes of lines that are shown.
 const MOST: u64 = 1 << 26;
 
-/// Shows a file: the lines of `ls --recursive --utf8`; or, of a binary property list that is not sound, its fault and its
-/// first bytes; or the file itself, if it is no binary property list. Returns the file too. The prefix begins each line, but
-/// not those of a file that is written as it is.
+/// Shows a file: the lines of `ls --recursive --utf8`; or, of a binary property list that is not sound, its fault and
+/// its first bytes; or the file itself, if it is no binary property list. Returns the file too. The prefix begins each
+/// line, but not those of a file that is written as it is.
 pub fn show_any<S: Source + Drop, W: Write>(
     alloc: Global,
     src: S,
@@ -100,8 +100,8 @@ fn show_lines<S: Source + Drop, W: Write>(
     }
 }
 
-/// Lists a binary property list. If there are too many lines to be counted, only the members of the top have lines, and a
-/// last line says so.
+/// Lists a binary property list. If there are too many lines to be counted, only the members of the top have lines, and
+/// a last line says so.
 fn list<S: Source + Drop, W: Write>(
     alloc: Global,
     src: S,

@@ -4,7 +4,7 @@ mod EqualAnswers
 mod LowerFaults
 mod GetAnswers
 mod HexAnswers
-mod LeftBytes
+pub mod LeftBytes
 mod LintAnswers
 mod MemberLines
 mod PathAnswers

@@ -11,8 +11,8 @@ use bplist_octets::Source;
 use std::alloc::Global;
 use std::io::Write;
 
-/// Writes the line of `check`. Returns the source too. Does what [`crate::run_on`] does for `Check` with the certificate
-/// of these bytes, with the same errors.
+/// Writes the line of `check`. Returns the source too. Does what [`crate::run_on`] does for `Check` with the
+/// certificate of these bytes, with the same errors.
 pub fn check_on<S: Source, W: Write>(
     alloc: Global,
     src: S,

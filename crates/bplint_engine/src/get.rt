@@ -20,8 +20,8 @@ use bplist_octets::Source;
 use std::alloc::{AllocError, Global};
 use std::io::Write;
 
-/// Writes the lines of `get`, one for each path text. Returns the source too. Does what [`crate::run_on`] does for `Get`
-/// with the certificate of these bytes, with the same errors.
+/// Writes the lines of `get`, one for each path text. Returns the source too. Does what [`crate::run_on`] does for
+/// `Get` with the certificate of these bytes, with the same errors.
 pub fn get_on<S: Source, W: Write>(
     alloc: Global,
     src: S,

@@ -16,7 +16,8 @@ use bplist_octets::Source;
 use std::alloc::{AllocError, Global};
 use std::io::Write;
 
-/// Writes the line of `lint`. Returns the source too. Does what [`crate::run_on`] does for `Lint`, with the same errors.
+/// Writes the line of `lint`. Returns the source too. Does what [`crate::run_on`] does for `Lint`, with the same
+/// errors.
 pub fn lint_on<S: Source, W: Write>(
     alloc: Global,
     src: S,

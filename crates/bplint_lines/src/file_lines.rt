@@ -31,7 +31,8 @@ fn hint_line(alloc: Global, hint: Hint) -> Result<String, AllocError> {
     format!(in alloc; "  looks like: {words}\n")
 }
 
-/// The last bytes of a file that was cut are no trailer: they give a table or objects for which the file has no room.
+/// The last bytes of a file that was cut are no trailer: they give a table, objects or a top for which the file has no
+/// room.
 fn file_line<S: Source>(alloc: Global, src: &mut S) -> Result<String, Failure>
     ensures reads { OnlyReads (failed_to_read result) (S.means src.old) (S.means src.new) }
 {
@@ -46,7 +47,8 @@ fn file_line<S: Source>(alloc: Global, src: &mut S) -> Result<String, Failure>
     }
     let mut trailer = [0u8; 32];
     src.read_at(length - TRAILER, &mut trailer)?;
-    if sized(&trailer[8..16]) > length || sized(&trailer[24..32]) > length {
+    let (objects, top, table) = (&trailer[8..16], &trailer[16..24], &trailer[24..32]);
+    if sized(objects) > length || sized(top) > length || sized(table) > length {
         return Ok(length_line(alloc, length)?);
     }
     Ok(numbers_line(alloc, length, &trailer)?)
