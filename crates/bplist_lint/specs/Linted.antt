@@ -60,3 +60,7 @@ pub record KeepsRules (f : List ℕ) (F : Frame) (reached : Reached) : Type 0 wh
 -- how many objects the trailer says that the file has, but no more than it has bytes
 abbrev pub objects_said : List ℕ → ℕ
 objects_said f = min (length f) (trailer f).objects
+
+-- the most bytes that the linter asks for
+abbrev pub lint_bytes : List ℕ → ℕ
+lint_bytes f = 40 + 36 * length f + 2212 * objects_said f

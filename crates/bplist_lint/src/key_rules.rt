@@ -61,6 +61,7 @@ impl KeySorting {
         requires dict { head.now.kind ≡ Dict }
         requires few { head.now.count < 2 ^ 32 }
         ensures reads { OnlyReads (refused_read result) (P.means src.old) (P.means src.new) }
+        ensures asks { P.asked src.new ≤ P.asked src.old + head.now.count * (frame_in (P.means src.old)).ref_size }
         ensures same { self.new.ranks.table.items ≡ self.old.ranks.table.items }
         ensures more { OnOk result (length self.new.positions.items ≡ length self.old.positions.items + head.now.count) }
         ensures exact { HonestlyIn (P.means src.old) (λ f F. HaveRanks f F head.now self.old.ranks.table.items
@@ -101,6 +102,7 @@ fn rank_keys<P: Framed>(
     requires dict { head.now.kind ≡ Dict }
     requires few { head.now.count < 2 ^ 32 }
     ensures reads { OnlyReads (failed_to_read result) (P.means src.old) (P.means src.new) }
+    ensures asks { P.asked src.new ≤ P.asked src.old + head.now.count * (frame_in (P.means src.old)).ref_size }
     ensures all { OnOk result (length keys.new.items ≡ head.now.count) }
     ensures ranked { HonestlyIn (P.means src.old) (λ f F.
         OnOk result (AreRanked (λ k. slice_index ranks.now (ref f F head.now k)) keys.new.items)) }

@@ -9,7 +9,7 @@ ghost use Rattle.bplist_lint.specs.Prelude.{KeepReached, key_rules, HasRoomFor, 
 ghost use Rattle.bplist_lint.specs.Prelude.{IsFileCircle, Lints, lint_failed, no_circle, KeepsRules, IsLintedBy};
 ghost use Rattle.bplist_lint.specs.Prelude.{IsLinted, IsLintedWith, HasNoHeights, reach_rules, IsSound, lint_of};
 ghost use Rattle.bplist_lint.specs.Prelude.{AreFound, IsNumbered, NamesMarked, keys_for};
-ghost use Rattle.bplist_lint.specs.Prelude.{extents_below, is_marked, objects_said};
+ghost use Rattle.bplist_lint.specs.Prelude.{extents_below, is_marked, lint_bytes};
 ghost use Rattle.bplist_lint.specs.declared.linter.Keys.TheVariants.{Classes, Ranks};
 
 use crate::answer::{Lint, LintRefusal, ObjectNos};
@@ -213,7 +213,7 @@ fn certify_by_classes<P: Offsets>(
     requires walked { HonestlyIn (P.means src.old) (λ f F. IsWalked f F reached × AreNamed f F named.marks.items) }
     ensures reads { OnlyReads (lint_failed result) (P.means src.old) (P.means src.new) }
     ensures asks { HonestlyIn (P.means src.old) (λ f F. NamesMarked reached.marks.items named.marks.items
-        → P.asked src.new ≤ P.asked src.old + (2 * length f + 14 * F.table + 1596 * F.objects + 292)) }
+        → P.asked src.new ≤ P.asked src.old + (2 * length f + 15 * F.table + 1596 * F.objects + 292)) }
     ensures count { IfOk result (λ made. length made.heights ≡ (frame_in (P.means src.old)).objects) }
     ensures exact { HonestlyIn (P.means src.old) (λ f F.
         Lints (λ made. IsLintedWith Classes f F made reached.tally) (IsFileFault f) (IsFileCircle f) result) }
@@ -244,6 +244,8 @@ fn certify_by_ranks<P: Offsets>(
     requires all_named { length named.marks.items ≡ (frame_in (P.means src.old)).objects }
     requires walked { HonestlyIn (P.means src.old) (λ f F. IsWalked f F reached × AreNamed f F named.marks.items) }
     ensures reads { OnlyReads (lint_failed result) (P.means src.old) (P.means src.new) }
+    ensures asks { HonestlyIn (P.means src.old) (λ f F. NamesMarked reached.marks.items named.marks.items
+        → P.asked src.new ≤ P.asked src.old + (2 * length f + 15 * F.table + 1596 * F.objects + 292)) }
     ensures count { IfOk result (λ made. length made.heights ≡ (frame_in (P.means src.old)).objects) }
     ensures exact { HonestlyIn (P.means src.old) (λ f F.
         Lints (λ made. IsLintedWith Ranks f F made reached.tally) (IsFileFault f) (IsFileCircle f) result) }
@@ -263,8 +265,8 @@ fn lint_opened<P: Offsets>(
     keys: Keys,
 ) -> Result<(Certificate, Tally), LintRefusal>
     ensures reads { OnlyReads (lint_failed result) (P.means src.old) (P.means src.new) }
-    ensures asks { keys ≡ Classes → HonestlyIn (P.means src.old) (λ f F. P.asked src.new
-        ≤ P.asked src.old + (2 * length f + 33 * F.table + 1756 * F.objects + 456)) }
+    ensures asks { HonestlyIn (P.means src.old) (λ f F. P.asked src.new
+        ≤ P.asked src.old + (2 * length f + 34 * F.table + 1756 * F.objects + 456)) }
     ensures count { IfOk result (λ known. length known.0.heights ≡ (frame_in (P.means src.old)).objects) }
     ensures exact { HonestlyIn (P.means src.old) (λ f F.
         Lints (λ known. IsLintedWith keys f F known.0 known.1) (IsFileFault f) (IsFileCircle f) result) }
@@ -303,8 +305,7 @@ pub fn lint_file<S: Source>(
     keys: Keys,
 ) -> Result<(Certificate, Tally, Frame), LintRefusal>
     ensures reads { OnlyReads (lint_failed result) (S.means src.old) (S.means src.new) }
-    ensures asks { keys ≡ Classes → Honestly (S.means src.old) (λ f. S.asked src.new
-        ≤ S.asked src.old + (40 + 35 * length f + 2212 * objects_said f)) }
+    ensures asks { Honestly (S.means src.old) (λ f. S.asked src.new ≤ S.asked src.old + lint_bytes f) }
     ensures safe { IfOk result (λ known. IsSafeFrame (length (S.means src.old).octets) known.2) }
     ensures count { IfOk result (λ known. length known.0.heights ≡ known.2.objects) }
     ensures exact { Honestly (S.means src.old) (λ f.
@@ -342,8 +343,7 @@ fn yes(frame: &Frame, tally: &Tally, certificate: Certificate) -> Lint
 /// The reads alternate between a few places. To read a file, put `Pages` around it.
 pub fn lint<S: Source>(alloc: Global, src: &mut S) -> Result<Lint, LintRefusal>
     ensures reads { OnlyReads (lint_failed result) (S.means src.old) (S.means src.new) }
-    ensures asks { Honestly (S.means src.old) (λ f. S.asked src.new
-        ≤ S.asked src.old + (40 + 35 * length f + 2212 * objects_said f)) }
+    ensures asks { Honestly (S.means src.old) (λ f. S.asked src.new ≤ S.asked src.old + lint_bytes f) }
     ensures exact { IsTrue (S.means src.old).honest
         → Lints (IsLinted (S.means src.old).octets) (IsFileFault (S.means src.old).octets)
         (IsFileCircle (S.means src.old).octets) result }
