@@ -1,5 +1,5 @@
 -- What the linter says about a file that holds a value. Source: profile.
-use Rattle.std.specs.Prelude.{◌≡◌, ℕ, ◌+◌, ◌≤◌, min, nat_lt, List, [], ◌∷◌, length, slice_index, count_by, filter, None}
+use Rattle.std.specs.Prelude.{◌*◌, ◌≡◌, ℕ, ◌+◌, ◌≤◌, min, nat_lt, List, [], ◌∷◌, length, slice_index, count_by, filter, None}
 use Rattle.std.specs.List.{range_with_len}
 use Rattle.bplist_objects.specs.declared.frame.Frame.{Frame}
 use Rattle.bplist_objects.specs.Frame.{IsFrame, trailer}
