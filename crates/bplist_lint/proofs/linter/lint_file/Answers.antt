@@ -1,4 +1,4 @@
-use Rattle.std.proofs.Common.{◌≡◌, ◌∙◌}
+use Rattle.std.proofs.Common.{◌≡◌, ◌∙◌, arith, rules}
 use Rattle.std.proofs.lemmas.Result.{err_from_is_err_and}
 use Rattle.bplist_lint.specs.FileFault.{IsFileCircle}
 use Rattle.bplist_lint.proofs.Passes.{check_means, fault_passed, file_asked, lint_asked}
@@ -23,7 +23,7 @@ returns-in_err-certificate-clause-asks g c = λ honest.
     let fr = c.in_ok-frame.ensures in
     let made = c.new-file.ensures in
     let told = lint_asked _ _ (made.means ∙ fr.reads) _ _ made.frame _ _ c.lint_opened.ensures.asks honest in
-    let after : g.S.Source.asked c.src-1.given.0 ≡ g.S.Source.asked c.lint_opened.new.src.source.now = cc in
+    let after : g.S.Source.asked c.src-1.given.0 ≡ g.S.Source.asked c.lint_opened.new.src.source.now = search rules in
     rw after (file_asked _ c.in_ok-frame.frame (fr.exact honest).0.spelled fr.safe _ _ _ _ _ fr.asks_table made.asked told)
 
 pub returns-clause-asks : goal.returns-clause-asks
@@ -31,5 +31,5 @@ returns-clause-asks g c = λ honest.
     let fr = c.in_ok-frame.ensures in
     let made = c.new-file.ensures in
     let told = lint_asked _ _ (made.means ∙ fr.reads) _ _ made.frame _ _ c.lint_opened.ensures.asks honest in
-    let after : g.S.Source.asked c.src-1.given.0 ≡ g.S.Source.asked c.lint_opened.new.src.source.now = cc in
+    let after : g.S.Source.asked c.src-1.given.0 ≡ g.S.Source.asked c.lint_opened.new.src.source.now = search rules in
     rw after (file_asked _ c.in_ok-frame.frame (fr.exact honest).0.spelled fr.safe _ _ _ _ _ fr.asks_table made.asked told)
