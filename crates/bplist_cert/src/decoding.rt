@@ -85,7 +85,7 @@ impl Certificate {
     }
 }
 
-/// Reads the header and checks rules 24 and 25.
+/// Checks rules 24 and 25.
 fn header_of<S: Source>(src: &mut S) -> Result<Header, ObjectFault>
     ensures reads { OnlyReads (read_failed result) (S.means src.old) (S.means src.new) }
     ensures fits { IfOk result (λ header. Fits (is_keyed header.version) header.count (length (S.means src.old).octets)) }
@@ -138,7 +138,6 @@ fn version_of(octets: &[u8]) -> Option<Version>
     None
 }
 
-/// Returns whether a certificate of this version with `count` heights can take `len` bytes.
 fn fits(version: Version, count: u64, len: u64) -> bool
     ensures { IsTrue result ↔ Fits (is_keyed version) count len }
 {
@@ -148,7 +147,6 @@ fn fits(version: Version, count: u64, len: u64) -> bool
     }
 }
 
-/// Reads the key lists of a certificate with `count` heights: as many starts, then positions up to its last byte.
 fn read_key_lists<S: Source>(alloc: Global, src: &mut S, count: usize) -> Result<KeyLists, Failure>
     requires { Fits true count (length (S.means src.old).octets) }
     ensures reads { OnlyReads (failed_to_read result) (S.means src.old) (S.means src.new) }
@@ -166,7 +164,6 @@ fn read_key_lists<S: Source>(alloc: Global, src: &mut S, count: usize) -> Result
     Ok(KeyLists { starts, positions })
 }
 
-/// Reads `count` numbers of 4 bytes each, from `place` on.
 fn read_words<S: Source>(
     alloc: Global,
     src: &mut S,
@@ -185,7 +182,6 @@ fn read_words<S: Source>(
     Ok(numbers)
 }
 
-/// Appends `count` numbers of 4 bytes each, from `place` on, to an empty vector.
 fn fill_words<S: Source>(
     src: &mut S,
     place: u64,
@@ -213,7 +209,7 @@ fn fill_words<S: Source>(
     Ok(())
 }
 
-/// Decodes numbers of 4 bytes each into `into`. The loop does nothing else, so that the compiler can vectorize it.
+/// The loop does nothing else than decode, so that the compiler can vectorize it.
 fn spell_words(octets: &[u8], into: &mut [u32])
     requires { length octets.now ≡ 4 * length into.old }
     ensures { octets.now ≡ words into.new }

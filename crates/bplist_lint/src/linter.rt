@@ -47,9 +47,7 @@ impl Keys {
     }
 }
 
-/// Returns the least height of each object that is reached and founded, and 0 for every other object. The reached
-/// objects must keep rules 14 to 22, `marks` must mark exactly them, and `childless` only objects without references.
-/// Their keys are texts then, so the walk needs to follow the values only.
+/// The reached objects keep rules 14 to 22. Their keys are texts then, so the walk needs to follow the values only.
 fn find_heights<P: Offsets>(
     alloc: Global,
     src: &mut P,
@@ -74,8 +72,7 @@ fn find_heights<P: Offsets>(
     Ok(least_heights(alloc, &mut objects, marks, childless)?)
 }
 
-/// Returns what is known about the reached objects, which all keep rules 14 to 20 and 31, and what they name as keys;
-/// or else the first fault by these rules.
+/// Checks rules 14 to 20 and 31.
 ///
 /// If the quick walk meets a fault, slower passes in the order of the objects' numbers find which fault is the first.
 /// Over an honest source they always find one. If they do not, all reached objects count as named.
@@ -109,7 +106,7 @@ fn find_reached<P: Offsets>(alloc: Global, src: &mut P) -> Result<(Reached, Name
     ))
 }
 
-/// Returns the least heights of a file whose reached objects keep rules 14 to 22 and 31, or a circle.
+/// The reached objects keep rules 14 to 22 and 31.
 fn heights_or_circle<P: Offsets>(
     alloc: Global,
     src: &mut P,
@@ -140,8 +137,8 @@ fn heights_or_circle<P: Offsets>(
     Ok(heights)
 }
 
-/// Checks the keys of the reached objects, which keep rules 14 to 20 and 31, by rules 21 and 22. The numbers of the
-/// keys are classes or ranks. Returns the numbers, and the heights too if the quick pass finds them.
+/// Checks rules 21 and 22. The reached objects keep rules 14 to 20 and 31. The numbers of the keys are classes or
+/// ranks. Returns the numbers, and the heights too if the quick pass finds them.
 fn check_keys<P: Offsets>(
     alloc: Global,
     src: &mut P,
@@ -173,8 +170,7 @@ fn check_keys<P: Offsets>(
     Ok((None, numbers))
 }
 
-/// Returns the least heights of a file whose reached objects keep rules 14 to 22 and 31, or a circle. `heights` are the
-/// least heights, if the quick pass found them.
+/// The reached objects keep rules 14 to 22 and 31. `heights` are the least heights, if the quick pass found them.
 fn finish<P: Offsets>(
     alloc: Global,
     src: &mut P,
@@ -198,7 +194,7 @@ fn finish<P: Offsets>(
     }
 }
 
-/// Returns the certificate of a file whose reached objects keep rules 14 to 20 and 31, or its first fault or circle.
+/// The reached objects keep rules 14 to 20 and 31.
 ///
 /// If more than half of the objects are keys, frees the places before it numbers the keys: otherwise memory passes 16
 /// bytes an object.
@@ -257,8 +253,7 @@ fn certify_by_ranks<P: Offsets>(
     Ok(list_by_ranks(alloc, src, heights, ranks)?)
 }
 
-/// Returns the certificate of a file that was opened, and the tally of its reached objects, or its first fault or
-/// circle. First checks each reached object by itself, then the keys and heights.
+/// First checks each reached object by itself, then the keys and heights.
 fn lint_opened<P: Offsets>(
     alloc: Global,
     src: &mut P,
@@ -281,7 +276,6 @@ fn lint_opened<P: Offsets>(
     Ok((certificate, tally))
 }
 
-/// Returns the frame of a file and the places of its objects, or the first broken rule of 1 to 13.
 fn read_places<S: Source>(alloc: Global, src: &mut S) -> Result<(Frame, Vec<u32>), Refusal>
     ensures reads { OnlyReads (refused_read result) (S.means src.old) (S.means src.new) }
     ensures asks { S.asked src.new ≤ S.asked src.old + (40 + length (S.means src.old).octets) }
@@ -317,7 +311,6 @@ pub fn lint_file<S: Source>(
     Ok((certificate, tally, frame))
 }
 
-/// Returns the linter's yes with this certificate, for reached objects of which this is the tally.
 fn yes(frame: &Frame, tally: &Tally, certificate: Certificate) -> Lint
     requires { frame.now.top.0 < length certificate.heights }
     ensures { result ≡ lint_of frame.now certificate tally.now }

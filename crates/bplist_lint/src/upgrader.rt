@@ -13,8 +13,7 @@ use bplist_objects::{Framed, Kind, Objects, Offsets, object_kind, object_shape, 
 use bplist_octets::Source;
 use std::alloc::Global;
 
-/// Appends the key list of vouched object `n`, if it is a dictionary. Returns the start of the list, or 0 for any other
-/// object.
+/// Returns the start of the list, or 0 if the object is not a dictionary.
 fn list_object<P: Offsets>(src: &mut P, n: u32, lists: &mut KeySorting) -> Result<u32, Refusal>
     requires within { n < (frame_in (P.means src.old)).objects }
     requires few { vec_len lists.old.positions ≤ 4294967295 }
@@ -83,7 +82,6 @@ pub fn list_by_ranks<P: Offsets>(
     })
 }
 
-/// Returns the certificate that `upgrade` makes, with these heights.
 fn list_vouched<P: Offsets>(
     alloc: Global,
     src: &mut P,
