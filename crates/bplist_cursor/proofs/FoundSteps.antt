@@ -43,10 +43,11 @@ split_at units (x ∷ xs) (suc k) d l = split_at units xs k d (omega arith)
 -- one more step, over any source
 pub step_asked : (steps : List (List ℕ)) (k : ℕ) (s : List ℕ) (positions start now after : ℕ) → drop k steps ≡ s ∷ drop (suc k) steps
     → now + sum_by (step_bytes positions) (drop k steps) ≤ start + sum_by (step_bytes positions) steps → after ≤ now + step_bytes positions s
-    → after + sum_by (step_bytes positions) (drop (suc k) steps) ≤ start + sum_by (step_bytes positions) steps
+    → after + sum_by (step_bytes positions) (drop (k + 1) steps) ≤ start + sum_by (step_bytes positions) steps
 step_asked steps k s positions start now after split before one =
     let sum = ap (sum_by (step_bytes positions)) split ∙ sum_by-cons (step_bytes positions) s (drop (suc k) steps) in
-    omega (arith, before, one, sum)
+    let next : suc k ≡ k + 1 = omega arith in
+    subst (λ m. after + sum_by (step_bytes positions) (drop m steps) ≤ start + sum_by (step_bytes positions) steps) next (omega (arith, before, one, sum))
 
 pub drop_all : {X : Type 0} (units : X → List ℕ) (xs : List X) → drop (length xs) (map units xs) ≡ []
 drop_all units [] = refl
