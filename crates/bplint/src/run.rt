@@ -124,12 +124,13 @@ pub fn answer<S: Source + Drop, C: Source + Drop, W: Write>(
     if out.is_refused() {
         return Ending::with(alloc, RunFault::Memory);
     }
-    match ending.answer {
+    let Ending { answer, under, .. } = ending;
+    match answer {
         Err(fault) if line.explain => {
             let under = under_fault(alloc, line, &mut file, &mut cert, &fault);
             Ending::over(Err(fault), under)
         }
-        answer => Ending { answer, ..ending },
+        answer => Ending::over(answer, under),
     }
 }
 
@@ -141,7 +142,7 @@ fn answer_on<S: Source + Drop, C: Source, W: Write>(
     cert: &mut C,
     out: &mut W,
 ) -> (Ending, S)
-    ensures exact { IsTrue (S.means file).honest → IsTrue (C.means cert.old).honest
+    ensures { IsTrue (S.means file).honest → IsTrue (C.means cert.old).honest
         → ∥ LeavesAsked line.now.ask line.now.hex (S.means file).octets (C.means cert.old).octets
         (W.contents out.old) (W.contents out.new) result.0.answer ∥₁ }
 {
@@ -160,7 +161,7 @@ fn answer_on<S: Source + Drop, C: Source, W: Write>(
         Ask::Show { paths, style } => of(alloc, show_on(alloc, file, paths, *style, out)),
         Ask::Text { path, limit } => {
             let (led, file) = show_text_on(alloc, file, path, *limit, out);
-            (Ending::of_led(alloc, led.map_err(RawFault::Run)), file)
+            (Ending::of_text(alloc, led), file)
         }
         Ask::Raw { path } => {
             let (led, file) = show_raw_on(alloc, file, path, out);
