@@ -40,7 +40,7 @@ enum {
     DATE_ARGUMENTS,
     /* The number of what `bind` sets, and of the module's own types. */
     BOUND,
-    /* The class of UIDs, and the name of their only attribute, or None if they have others. NULL before the first UID. */
+    /* The class of UIDs, and the name of their only attribute, or None if they have others. NULL before the first. */
     UID = BOUND,
     UID_DATA,
     HELD
@@ -265,8 +265,8 @@ PyObject *date_of(State *state, double seconds);
 
 /* leaf.c */
 
-/* Decodes ASCII. Raises the exception for a changed file if it is none. To make that exception may start the collector, and
-   so run any code; `owner`, or NULL, is what keeps the bytes meanwhile. */
+/* Decodes ASCII. Raises the exception for a changed file if it is none. To make that exception may start the
+   collector, and so run any code; `owner`, or NULL, is what keeps the bytes meanwhile. */
 PyObject *ascii_of(PyObject *owner, const char *bytes, size_t length);
 /* Returns the value of a leaf of this file. */
 PyObject *leaf_of(State *state, const Source *source, const bplist_body *body);

@@ -37,8 +37,8 @@ typedef struct Filling {
     uint64_t nodes;
 } Filling;
 
-/* What is kept of each object while a tree is built. The tree of the top is built in new memory. All trees of containers
-   use the same, so that one of them costs no more than it has objects. */
+/* What is kept of each object while a tree is built. The tree of the top is built in new memory. All trees of
+   containers use the same, so that one of them costs no more than it has objects. */
 typedef struct Room {
     /* By object number, and 0 for what was not made yet. */
     Made *made;

@@ -1,5 +1,5 @@
-/* FILE [PATH..]: prints the values at the paths of a binary property list, as the library reads them that this is compiled with,
-   and then the seconds that opening and reading took, and the peak of this process's memory in KiB. */
+/* FILE [PATH..]: prints the values at the paths of a binary property list, as the library reads them that this is
+   compiled with, and then the seconds that opening and reading took, and the peak of this process's memory in KiB. */
 #include "bench_reading.h"
 
 #include <stdio.h>

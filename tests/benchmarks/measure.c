@@ -1,5 +1,6 @@
-/* measure SECONDS COMMAND [WORD..]: runs the command, with its output to /dev/null, at most so many seconds of processor time,
-   and at most 4 GiB of memory. Prints the seconds by the clock, the seconds of processor time, the peak of memory in KiB and the exit status.
+/* measure SECONDS COMMAND [WORD..]: runs the command, with its output to /dev/null, for at most SECONDS of processor
+   time and with at most 4 GiB of memory. Prints the seconds by the clock, those of processor time, the peak of memory
+   in KiB and the exit status.
    A child's ru_maxrss counts the memory of the process that started it, and this one is small. */
 #include <fcntl.h>
 #include <stdio.h>

@@ -1,5 +1,5 @@
-/* read_libplist FILE [parse]: reads FILE with libplist and prints its value as plist_value.py spells it, or nothing if the
-   word `parse` is given.
+/* read_libplist FILE [parse]: reads FILE with libplist and prints its value as plist_value.py spells it, or nothing if
+   the word `parse` is given.
    The exit status is 1 if the library refuses the file. */
 #include <inttypes.h>
 #include <plist/plist.h>

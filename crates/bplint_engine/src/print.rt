@@ -78,7 +78,7 @@ fn print_path<S: Source, W: Write>(
     }
 }
 
-/// Writes the text that a checked file has under a path, and a line feed. Of a path that leads nowhere it writes nothing.
+/// Writes the text that a checked file has under a path, and a line feed. If the path leads nowhere, writes nothing.
 pub(crate) fn text_path<S: Source, W: Write>(
     alloc: Global,
     checked: &mut Checked<S>,

@@ -2,7 +2,7 @@
 //! themselves, and the linter whose verdict the map shows (crate `bplist_lint`).
 //!
 //! ```
-//! map_on(alloc, &mut source, false, &mut out)?;     // a line each for header, objects, gaps, overlaps, table and trailer
+//! map_on(alloc, &mut source, false, &mut out)?; // a line each for header, objects, gaps, overlaps, table and trailer
 //! ```
 //!
 //! That the source is only read is proved. The lines are tested: tests/gate/map.py computes each byte of them anew.

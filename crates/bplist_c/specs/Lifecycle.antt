@@ -21,8 +21,8 @@ use Rattle.bplist_c.specs.Statuses.{status_number}
 use Rattle.bplist_c.specs.Verdicts.{ShowsLint, refused_told}
 use Rattle.bplist_c.specs.declared.verdict.TheConstants.{NO_VERDICT}
 
--- the checked file consists of these bytes and of a certificate with these heights, which is this one if it has key lists
--- already or they are not asked for
+-- the checked file consists of these bytes and of a certificate with these heights, which is this one if it has key
+-- lists already or they are not asked for
 abbrev pub IsCheckedFor : Bor (List ℕ) → Lists → Bool → CheckedFile → Type 0
 IsCheckedFor file certificate sorted checked = (checked.source ≡ source_over file) × (checked.certificate.heights ≡ certificate.heights)
     × (IsSome certificate.keys → checked.certificate ≡ certificate) × (sorted ≡ false → checked.certificate ≡ certificate)

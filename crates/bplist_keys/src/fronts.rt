@@ -88,7 +88,7 @@ impl Fronts {
         narrow: false,
     };
 
-    /// Returns what the fronts are made of if there is one more text. `first` begins with the text that was there first.
+    /// Returns what the fronts are made of if there is one more text. `first` begins with the text that came first.
     pub fn with(self, first: &[u16], text: &[u16]) -> Fronts
         ensures shared { result.shared ≤ self.shared }
         ensures narrow { IsTrue result.narrow → IsTrue self.narrow }

@@ -263,8 +263,8 @@ impl HeightWalk {
         while let Some(m) = self.stack.pop() {
             match self.look_on(graph, m)? {
                 ScanResult::New(i, next) => {
-                    // While an object waits for a child, its height slot holds the index at which its scan resumes, plus
-                    // 1: this one or a lower one.
+                    // While an object waits for a child, its height slot holds 1 more than the index at which its
+                    // scan resumes: this one or a lower one.
                     self.heights[m as usize] = i.min(u32::MAX as u64 - 1) as u32 + 1;
                     self.stack.push(m)?;
                     self.open(next)?;
