@@ -25,3 +25,8 @@ joined_reads old mid xs ys at n j m k same is first second total honest =
     ∙ ap (λ l. part old.octets at n ++ l) (behind ∙ ap (λ i. part old.octets (at + i) m) is)
     ∙ part_joined old.octets at n m
     ∙ ap (part old.octets at) (sym total)
+
+-- the same, if the first read begins with what `start` means
+pub joined_reads_from : (start old mid : Meaning) (xs ys : List ℕ) (at n j m k : ℕ) → old ≡ start → mid ≡ old → j ≡ n → (IsTrue old.honest → xs ≡ part old.octets at n) → (IsTrue mid.honest → ys ≡ part mid.octets (at + j) m) → k ≡ n + m → IsTrue start.honest → xs ++ ys ≡ part start.octets at k
+joined_reads_from start old mid xs ys at n j m k begins same is first second total =
+    subst (λ s. IsTrue s.honest → xs ++ ys ≡ part s.octets at k) begins (joined_reads old mid xs ys at n j m k same is first second total)

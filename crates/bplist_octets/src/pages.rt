@@ -286,6 +286,24 @@ impl<S: Source> Pages<S> {
         Ok(())
     }
 
+    /// Turns to the page that has all of the `count` bytes from place `at` on, if one has: it is now the one used last.
+    /// Returns whether one has.
+    fn turn_to(&mut self, at: u64, count: usize) -> bool
+        ensures same { self.new.window ≡ self.old.window }
+    {
+        let Some(k) = self.index_of(at / PAGE as u64) else {
+            return false;
+        };
+        let page = &self.pages[k];
+        if index_in(page.start, page.octets.len(), at, count).is_none() {
+            return false;
+        }
+        self.turn = self.turn.wrapping_add(1);
+        self.pages[k].taken = self.turn;
+        self.last = k;
+        true
+    }
+
     /// Reads bytes that the page used last lacks. They are in one page or in two.
     fn read_pages(&mut self, at: u64, into: &mut [u8]) -> Result<(), ReadFault>
         requires inside { at + length into.old ≤ length (S.means self.old.window.source).octets }
@@ -297,6 +315,10 @@ impl<S: Source> Pages<S> {
     {
         if into.len() > LONGEST {
             return self.window.read_at(at, into);
+        }
+        // A reader of a file in no order mostly finds another page that is kept, for which nothing is chosen or read.
+        if self.turn_to(at, into.len()) && self.copy_from_last(at, into) {
+            return Ok(());
         }
         let room = PAGE - (at % PAGE as u64) as usize;
         let count = room.min(into.len());
