@@ -12,8 +12,6 @@ use std::simd::prelude::*;
 const GROUP: usize = 64;
 
 /// Returns the unsigned big-endian number of one to eight bytes.
-// Inlined, because most callers know the width, and then little is left of it.
-#[inline(always)]
 pub fn sized(l: &[u8]) -> u64
     requires low { 1 ≤ length l.now }
     requires high { length l.now ≤ 8 }
