@@ -65,7 +65,7 @@ impl Ending {
     }
 }
 
-/// Returns the text of these bytes, which are a line.
+/// A line is always UTF-8.
 fn text_of(alloc: Global, line: Vec<u8>) -> String {
     match String::from_utf8(line) {
         Ok(text) => text,
@@ -102,7 +102,7 @@ pub fn end<R: Eprint>(rt: &R, alloc: Global, prefix: &str, ending: Ending) -> u8
     }
 }
 
-/// Prints lines that stand below no fault.
+/// The lines stand below no fault.
 fn print_alone<R: Eprint>(rt: &R, prefix: &str, lines: &str) {
     if !lines.is_empty() {
         let _ = rt.eprint(prefix);
@@ -110,7 +110,6 @@ fn print_alone<R: Eprint>(rt: &R, prefix: &str, lines: &str) {
     }
 }
 
-/// Returns the exit status of an answer.
 fn status_of(said: Said) -> u8
     ensures { EndsWith (Ok said) result }
 {
@@ -120,7 +119,6 @@ fn status_of(said: Said) -> u8
     }
 }
 
-/// Returns the line of a fault after the prefix, and the lines below it.
 fn lines_of(
     alloc: Global,
     prefix: &str,

@@ -44,7 +44,6 @@ pub fn run<R: Files<File = File> + Input + Print + Eprint>(
     }
 }
 
-/// Answers what is asked about inputs that are open. Returns the exit status.
 fn run_opened<R: Files<File = File> + Print + Eprint>(
     rt: &R,
     alloc: Global,
@@ -78,8 +77,7 @@ fn run_opened<R: Files<File = File> + Print + Eprint>(
     )
 }
 
-/// Returns how a run ends whose answer has more bytes than it may write. If memory for the tip is refused, it is left
-/// out.
+/// The answer has more bytes than may be written. If memory for the tip is refused, it is left out.
 fn cut_off(alloc: Global, line: &Run<'_>, most: u64) -> Ending {
     if line.explain {
         if let Ok(tip) = most_line(alloc, most) {
@@ -89,7 +87,7 @@ fn cut_off(alloc: Global, line: &Run<'_>, most: u64) -> Ending {
     Ending::with(alloc, RunFault::TooLong)
 }
 
-/// Says that OUT stays as it is, because it is no certificate. Returns the exit status.
+/// OUT is no certificate.
 fn keep_out<R: Eprint>(rt: &R, alloc: Global, line: &Run<'_>) -> u8
     ensures { result ≤ 4 }
 {
@@ -99,7 +97,7 @@ fn keep_out<R: Eprint>(rt: &R, alloc: Global, line: &Run<'_>) -> u8
     }
 }
 
-/// Adds a warning to the end of a run if `certify` wrote more bytes than any other command reads.
+/// Adds a warning if `certify` wrote more bytes than any other command reads.
 fn warned(alloc: Global, line: &Run<'_>, ending: Ending, written: u64) -> Ending {
     match &line.ask {
         Ask::Certify { .. } if ending.answer.is_ok() && written > WHOLE_LIMIT as u64 => {
@@ -135,7 +133,7 @@ pub fn answer<S: Source + Drop, C: Source + Drop, W: Write>(
     }
 }
 
-/// Writes the answer to what is asked. Returns how the run ends, and FILE. CERT is empty if there is none.
+/// Returns FILE too. CERT is empty if there is none.
 fn answer_on<S: Source + Drop, C: Source, W: Write>(
     alloc: Global,
     line: &Run<'_>,
@@ -173,14 +171,12 @@ fn answer_on<S: Source + Drop, C: Source, W: Write>(
         Ask::Rows(listed) => of(alloc, list_rows_on(alloc, file, listed, out)),
         Ask::Map { paths } => {
             let mut file = file;
-            let answer = map_on(alloc, &mut file, *paths, out);
-            of(alloc, (answer, file))
+            (Ending::of(alloc, map_on(alloc, &mut file, *paths, out)), file)
         }
         Ask::Textconv => of(alloc, show_any(alloc, file, &line.prefix, out)),
     }
 }
 
-/// Returns how a run ends with an answer, and FILE.
 fn of<S: Source>(alloc: Global, answered: (Result<Said, RunFault>, S)) -> (Ending, S)
     ensures { result.0.answer ≡ answer_of answered.0 }
 {
@@ -188,7 +184,7 @@ fn of<S: Source>(alloc: Global, answered: (Result<Said, RunFault>, S)) -> (Endin
     (Ending::of(alloc, answer), file)
 }
 
-/// Returns the lines below a fault. If a read fails or memory is refused, there are none.
+/// If a read fails or memory is refused, there are no lines.
 fn under_fault<S: Source, C: Source>(
     alloc: Global,
     line: &Run<'_>,

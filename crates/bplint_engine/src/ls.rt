@@ -74,7 +74,6 @@ struct Title<'a> {
     style: Style,
 }
 
-/// Lists what a checked file has under a path.
 fn list_path<S: Source, W: Write>(
     alloc: Global,
     checked: &mut Checked<S>,
@@ -96,7 +95,6 @@ fn list_path<S: Source, W: Write>(
     }
 }
 
-/// Writes the lines for the value of a node.
 fn list_node<S: Source, W: Write>(
     alloc: Global,
     checked: &mut Checked<S>,

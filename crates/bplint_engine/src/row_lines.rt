@@ -27,7 +27,6 @@ pub(crate) struct RowLines {
 }
 
 impl RowLines {
-    /// No lines yet.
     pub(crate) fn new(alloc: Global, style: Style) -> RowLines
         ensures { (result.style ≡ style) × (result.sink ≡ begun) }
     {
@@ -100,7 +99,6 @@ fn put_rows<S: Source, W: Write>(
     Ok(())
 }
 
-/// Adds a tab, the line of `get` for this face, and a line feed.
 fn add_value(
     alloc: Global,
     style: Style,

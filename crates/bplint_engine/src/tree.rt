@@ -72,7 +72,6 @@ pub fn list_all_on<S: Source, W: Write>(
     }
 }
 
-/// Lists what a checked file has under a path.
 fn tree_path<S: Source, W: Write>(
     alloc: Global,
     checked: &mut Checked<S>,
@@ -92,7 +91,6 @@ fn tree_path<S: Source, W: Write>(
     }
 }
 
-/// Lists a node's value.
 fn tree_node<S: Source, W: Write>(
     alloc: Global,
     checked: &mut Checked<S>,
