@@ -19,4 +19,5 @@ mod ToldTexts
 mod ToldTrees
 mod ToldValues
 mod TreeLines
+mod RowSteps
 mod WalkSteps

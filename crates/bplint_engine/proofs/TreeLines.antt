@@ -14,7 +14,7 @@ use Rattle.bplint_lines.specs.MemberNames.{bracketed, index_name, key_name}
 use Rattle.bplint_lines.specs.declared.texts.Style.{Style}
 use Rattle.bplint_engine.specs.declared.members.Members.{Members}
 use Rattle.bplint_engine.specs.declared.members.Members.TheVariants.{Array, Set, Dict}
-use Rattle.bplint_engine.specs.Ls.{HasMembers, IsLeaf, listed, named_line}
+use Rattle.bplint_engine.specs.Ls.{HasCount, HasMembers, IsLeaf, listed, named_line}
 use Rattle.bplint_engine.specs.Tree.{array_lines, dict_lines, joined_lines, named_members, set_lines, tree_lines}
 use Rattle.bplint_engine.proofs.Members.{item_there, key_there, value_there}
 
@@ -95,6 +95,12 @@ module _ (style : Style) where
   length-named Dict n name (dict ps) is =
       length-map (enumerate_from 0 (entries ps)) (λ e. (key_name style name e.0 e.1.0, e.1.1)) ∙ length-enumerate_from 0 (entries ps) ∙ length-entries ps ∙ is
   length-named _ n name _ is = absurd is
+
+  pub length-counted : (n : ℕ) (name : List ℕ) (w : Value) → HasCount n w → length (named_members style name w) ≡ n
+  length-counted n name (leaf l) has = absurd has
+  length-counted n name (array vs) has = length-named Array n name (array vs) has
+  length-counted n name (set vs) has = length-named Set n name (set vs) has
+  length-counted n name (dict ps) has = length-named Dict n name (dict ps) has
 
   -- ---- one member
   enumerated : {X : Type 0} (k : ℕ) (xs : List X) (i : ℕ) (x : X) → slice_get xs i ≡ Some x → slice_get (enumerate_from k xs) i ≡ Some (k + i, x)

@@ -30,6 +30,13 @@ HasMembers Set n (set vs) = length (members vs) ≡ n
 HasMembers Dict n (dict ps) = length (keys ps) ≡ n
 HasMembers _ n w = ⊥
 
+-- the value is a container with n members, or n pairs
+abbrev pub HasCount : ℕ → Value → Type 0
+HasCount n (leaf l) = ⊥
+HasCount n (array vs) = length (members vs) ≡ n
+HasCount n (set vs) = length (members vs) ≡ n
+HasCount n (dict ps) = length (keys ps) ≡ n
+
 -- some object vouched for by these heights holds the value and has this head
 abbrev pub IsHeadIn : List ℕ → Frame → List ℕ → Head → Value → Type 0
 IsHeadIn f F heights head w = (n : ℕ) × IsVouchedBy heights n × Holds f F n w × ((c : Content) → Spells f F n c → c ≡ content_at f F head)

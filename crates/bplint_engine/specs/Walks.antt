@@ -1,5 +1,5 @@
 -- The state of a walk: a stack of containers, and the lines of the rows that it still has to give. Source: profile.
-use Rattle.std.specs.Prelude.{◌≡◌, ◌∷◌, ◌++◌, ℕ, ◌+◌, ◌*◌, ◌^◌, ◌<◌, ◌==◌, Bool, true, false, if◌then◌else◌, List, [], Option, None, Some, codes, drop, nat_lt, slice_get, take, ⊤}
+use Rattle.std.specs.Prelude.{◌≡◌, ◌⊎◌, ◌∷◌, ◌++◌, ℕ, ◌+◌, ◌*◌, ◌^◌, ◌<◌, Bool, false, if◌then◌else◌, List, [], Option, None, Some, codes, drop, slice_get, take, ⊤}
 use Rattle.std.specs.List.{flat_map}
 use Rattle.bplist_objects.specs.declared.frame.Frame.{Frame}
 use Rattle.bplist_objects.specs.Safe.{IsSafeHead}
@@ -41,9 +41,13 @@ pub record IsKept (old new : Walk) : Type 0 where
 abbrev pub IsInOrder : Style → Manner → Type 0
 IsInOrder style manner = (manner.keys ≡ Shown style) × (manner.sorted ≡ false)
 
--- the container behind its next member, or nothing if that was the last one
-abbrev pub still_open : Opened → List Opened
-still_open o = if o.next + 1 == o.count then [] else record o { next = o.next + 1 } ∷ []
+-- the container behind its next member
+abbrev pub behind_next : Opened → Opened
+behind_next o = record { head = o.head; members = o.members; count = o.count; next = o.next + 1; at = o.at }
+
+-- the container is on the stack again, unless that was its last member
+abbrev pub IsPutBack : Opened → List Opened → List Opened → Type 0
+IsPutBack o old new = ((o.next + 1 ≡ o.count) × (new ≡ old)) ⊎ ((o.next + 1 < o.count) × (new ≡ old ++ behind_next o ∷ []))
 
 module _ (style : Style) where
   -- the line of a row whose name is in these bytes

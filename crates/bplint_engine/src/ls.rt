@@ -112,6 +112,6 @@ fn list_node<S: Source, W: Write>(
         deep: false,
         sorted: false,
     };
-    let walk = Walk::new(alloc, title.path, manner, u64::MAX)?;
+    let walk = Walk::new(alloc, title.path, manner, 0)?;
     write_rows(checked, node, walk, RowLines::new(alloc, title.style), out)
 }

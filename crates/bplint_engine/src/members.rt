@@ -1,9 +1,9 @@
 //! The members of a container: how many there are and of what kind, and one of them as a node or a key.
 
-ghost use Rattle.std.specs.Prelude.{◌≡◌, ◌*◌, ◌^◌, ◌<◌, IfSome, IsTrue, List, MatchOption, Some, false, ℕ};
+ghost use Rattle.std.specs.Prelude.{◌≡◌, ◌*◌, ◌^◌, ◌<◌, IfSome, IsTrue, List, MatchOption, Some, ℕ};
 ghost use Rattle.bplist_cursor.specs.Causes.{GivesCursor, cursor_read};
 ghost use Rattle.bplist_cursor.specs.Found.{IsHeld};
-ghost use Rattle.bplint_engine.specs.Prelude.{HasRoom, HasMembers, IsHeadFor, IsLeaf, IsSafeHead, OnlyReadsFile, Value};
+ghost use Rattle.bplint_engine.specs.Prelude.{HasCount, HasRoom, HasMembers, IsHeadFor, IsLeaf, IsSafeHead, OnlyReadsFile, Value};
 ghost use Rattle.bplint_engine.specs.Prelude.{face as face_of, leaf, member_of, text};
 
 use bplist_cert::Checked;
@@ -38,12 +38,14 @@ pub(crate) fn members_of(shown: &Face, length: u64) -> Option<(Members, u64)>
     }
 }
 
-/// Returns true if a face shows a leaf.
-pub(crate) fn is_leaf(shown: &Face) -> bool
-    ensures leaf { IsTrue result → (w : Value) → shown.now ≡ face_of w → IsLeaf w }
-    ensures container { result ≡ false → (w : Value) → shown.now ≡ face_of w → IsLeaf w → ⊥ }
+/// Returns the number of members, or of pairs, that a face shows, or `None` for a leaf.
+pub(crate) fn count_of(shown: &Face) -> Option<u64>
+    ensures { (w : Value) → shown.now ≡ face_of w → MatchOption result (IsLeaf w) (λ count. HasCount count w) }
 {
-    !matches!(shown, Face::Array(_) | Face::Set(_) | Face::Dict(_))
+    match shown {
+        Face::Array(count) | Face::Set(count) | Face::Dict(count) => Some(*count),
+        _ => None,
+    }
 }
 
 /// Returns the node of member `i` of the object with this head.

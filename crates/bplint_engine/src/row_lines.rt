@@ -1,6 +1,6 @@
 //! The lines of a walk, on their way to a writer.
 
-ghost use Rattle.std.specs.Prelude.{◌≡◌, ◌++◌, ◌≤◌, [], IsTrue, None, OnOk, codes, length};
+ghost use Rattle.std.specs.Prelude.{◌≡◌, ◌++◌, ◌≤◌, [], IsTrue, None, OnOk, codes, length, true};
 ghost use Rattle.bplist_cursor.specs.Found.{IsHeld};
 ghost use Rattle.bplint_engine.specs.Names.{IsNameIn};
 ghost use Rattle.bplint_engine.specs.Prelude.{OnlyReadsFile, Value, face_line, read_failed};
@@ -65,7 +65,8 @@ pub(crate) fn write_rows<S: Source, W: Write>(
     requires { (walk.stack.items ≡ []) × (lines.sink ≡ begun) }
     ensures reads { OnlyReadsFile (read_failed result) checked.old checked.new }
     ensures exact { IsTrue checked.old.source.honest → IsInOrder lines.style walk.manner → (w : Value)
-        → IsHeld checked.old top.object.0 w → length (walked_lines lines.style walk.manner.deep walk.names w) ≤ walk.room
+        → IsHeld checked.old top.object.0 w
+        → (walk.manner.deep ≡ true → length (walked_lines lines.style true walk.names w) ≤ walk.room)
         → SendsAll (W.contents out.old) (W.contents out.new) (joined_lines (walked_lines lines.style walk.manner.deep walk.names w)) result }
 {
     let (mut walk, mut lines) = (walk, lines);
@@ -86,7 +87,7 @@ fn put_rows<S: Source, W: Write>(
     ensures reads { OnlyReadsFile (read_failed result) checked.old checked.new }
     ensures exact { IsTrue checked.old.source.honest → IsInOrder lines.old.style walk.old.manner → (w : Value)
         → IsHeld checked.old top.object.0 w
-        → length (walked_lines lines.old.style walk.old.manner.deep walk.old.names w) ≤ walk.old.room
+        → (walk.old.manner.deep ≡ true → length (walked_lines lines.old.style true walk.old.names w) ≤ walk.old.room)
         → Puts (W.contents out.old) (W.contents out.new) lines.old.sink lines.new.sink
         (joined_lines (walked_lines lines.old.style walk.old.manner.deep walk.old.names w)) result }
 {

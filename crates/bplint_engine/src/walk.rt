@@ -2,17 +2,17 @@
 //! members. A stack holds the containers that have more members.
 
 ghost use Rattle.std.specs.Prelude.{◌≡◌, ◌∷◌, ◌++◌, ◌+◌, ◌*◌, ◌^◌, ◌<◌, ◌≤◌, [], IfOk, IfSome, IsTrue, List, MatchOption};
-ghost use Rattle.std.specs.Prelude.{Bool, Ok, OnOk, false, length, reverse, ℕ};
+ghost use Rattle.std.specs.Prelude.{Bool, Ok, OnOk, false, length, reverse, true, ℕ};
 ghost use Rattle.bplist_cursor.specs.Causes.{GivesCursor, cursor_read};
 ghost use Rattle.bplist_cursor.specs.Found.{IsHeld};
 ghost use Rattle.bplint_lines.specs.MemberNames.{bracketed, key_name};
 ghost use Rattle.bplint_engine.specs.Names.{Extends, IsNameIn, name_in};
 ghost use Rattle.bplint_engine.specs.Prelude.{HasMembers, HasRoom, IsHeadFor, OnlyReadsFile, Value, face as face_of, leaf, text};
-ghost use Rattle.bplint_engine.specs.Walks.{AreOpen, IsInOrder, IsKept, IsMemberAt, IsOpen, LinesLeftIn, lines_inside};
-ghost use Rattle.bplint_engine.specs.Walks.{row_line, row_lines, still_open, walked_lines};
+ghost use Rattle.bplint_engine.specs.Walks.{AreOpen, IsInOrder, IsKept, IsMemberAt, IsOpen, IsPutBack, LinesLeftIn, lines_inside};
+ghost use Rattle.bplint_engine.specs.Walks.{row_line, row_lines, walked_lines};
 ghost use Rattle.bplint_engine.specs.declared.walk.Keys.TheVariants.{Shown};
 
-use crate::members::{Members, is_leaf, key_text, listed_pair, member_node, members_of};
+use crate::members::{Members, count_of, key_text, listed_pair, member_node, members_of};
 use crate::names::{Name, Names};
 use bplint_lines::{Pair, Style};
 use bplist_cert::Checked;
@@ -90,7 +90,8 @@ pub struct Walk {
 }
 
 impl Walk {
-    /// A walk that has not begun, over a value with this path text. After the first row it gives at most `room` rows.
+    /// A walk that has not begun, over a value with this path text. A deep walk gives at most `room` rows after the
+    /// first; otherwise the number of members bounds that of rows.
     pub fn new(alloc: Global, path: &str, manner: Manner, room: u64) -> Result<Walk, AllocError>
         ensures { IfOk result (λ walk. (walk.stack.items ≡ []) × (walk.names ≡ path.now) × (walk.manner ≡ manner)
             × (walk.room ≡ room)) }
@@ -126,12 +127,15 @@ impl Walk {
         requires { self.old.stack.items ≡ [] }
         ensures reads { OnlyReadsFile (cursor_read result) checked.old checked.new }
         ensures open { OnOk result (AreOpen checked.old.frame self.new.names (reverse self.new.stack.items)) }
-        ensures kept { (self.new.manner ≡ self.old.manner) × (self.new.room ≡ self.old.room) }
+        ensures kept { self.new.manner ≡ self.old.manner }
         ensures name { IfOk result (λ found. IfSome found (λ row. IsNameIn self.new.names row.name)) }
         ensures exact { IsTrue checked.old.source.honest → (style : Style) → IsInOrder style self.old.manner
-            → (w : Value) → IsHeld checked.old top.object.0 w → GivesCursor (λ found. (rest : List (List ℕ))
+            → (w : Value) → IsHeld checked.old top.object.0 w
+            → (self.old.manner.deep ≡ true → length (walked_lines style true self.old.names w) ≤ self.old.room)
+            → GivesCursor (λ found. (rest : List (List ℕ))
             × LinesLeftIn style self.old.manner.deep checked.old self.new.names (reverse self.new.stack.items) rest
-            × (walked_lines style self.old.manner.deep self.old.names w ≡ row_lines style self.new.names found ++ rest)) result }
+            × (walked_lines style self.old.manner.deep self.old.names w ≡ row_lines style self.new.names found ++ rest)
+            × (length rest ≤ self.new.room)) result }
     {
         let at = Named {
             node: top,
@@ -139,9 +143,13 @@ impl Walk {
             depth: 0,
         };
         let row = self.enter(checked, at)?;
-        if self.manner.deep || is_leaf(&row.shown) {
+        if self.manner.deep {
             return Ok(Some(row));
         }
+        let Some(count) = count_of(&row.shown) else {
+            return Ok(Some(row));
+        };
+        self.room = count;
         Ok(None)
     }
 
@@ -180,7 +188,7 @@ impl Walk {
     /// Puts a container back on the stack, unless the last of its members had its row.
     fn put_back(&mut self, opened: &Opened) -> Result<(), AllocError>
         requires { opened.now.next < opened.now.count }
-        ensures items { OnOk result (self.new.stack.items ≡ self.old.stack.items ++ still_open opened.now) }
+        ensures stack { OnOk result (IsPutBack opened.now self.old.stack.items self.new.stack.items) }
         ensures kept { (self.new.names ≡ self.old.names) × (self.new.manner ≡ self.old.manner)
             × (self.new.room ≡ self.old.room) }
     {
@@ -234,20 +242,21 @@ impl Walk {
     {
         let length = checked.len();
         let row = self.row_at(checked, at)?;
-        match members_of(&row.shown, length) {
-            Some((members, count)) if count > 0 => {
-                let head = node_head(checked, at.node)?;
-                self.stack.push(Opened {
-                    head,
-                    members,
-                    count,
-                    next: 0,
-                    at,
-                })?;
-                Ok(row)
-            }
-            _ => Ok(row),
+        let Some((members, count)) = members_of(&row.shown, length) else {
+            return Ok(row);
+        };
+        if count == 0 {
+            return Ok(row);
         }
+        let head = node_head(checked, at.node)?;
+        self.stack.push(Opened {
+            head,
+            members,
+            count,
+            next: 0,
+            at,
+        })?;
+        Ok(row)
     }
 
     /// Returns the next member of a container, with its name.

@@ -110,7 +110,7 @@ fn walk_from<S: Source>(
         Form::Columns(style) => Keys::Shown(style),
     };
     let (deep, room) = match listed.depth {
-        Depth::Members => (false, u64::MAX),
+        Depth::Members => (false, 0),
         Depth::All(limit) => (true, count_within(alloc, checked, node, limit)?),
     };
     let manner = Manner {
