@@ -6,7 +6,7 @@ mod GetAnswers
 mod HexAnswers
 pub mod LeftBytes
 mod LintAnswers
-mod Members
+mod HeldMembers
 mod PathAnswers
 mod PathQueries
 mod PrintAnswers

@@ -16,7 +16,7 @@ use Rattle.bplint_engine.specs.declared.members.Members.{Members}
 use Rattle.bplint_engine.specs.declared.members.Members.TheVariants.{Array, Set, Dict}
 use Rattle.bplint_engine.specs.Ls.{HasCount, HasMembers, IsLeaf, listed, named_line}
 use Rattle.bplint_engine.specs.Tree.{array_lines, dict_lines, joined_lines, named_members, set_lines, tree_lines}
-use Rattle.bplint_engine.proofs.Members.{item_there, key_there, value_there}
+use Rattle.bplint_engine.proofs.HeldMembers.{item_there, key_there, value_there}
 
 module _ (style : Style) where
   -- the lines of members with their names, and of everything inside them
