@@ -1,17 +1,20 @@
 -- What a walk still has to give, step by step.
-use Rattle.std.proofs.Common.{◌≡◌, ◌≤◌, ◌<◌, ◌+◌, ◌++◌, ◌∷◌, [], ◌∙◌, ℕ, List, drop, length, take, Some, Bool, true, false, inl, inr, ap, append_assoc, append-nil, arith, refl, subst, sym}
-use Rattle.std.specs.Prelude.{reverse, slice_get}
+use Rattle.std.proofs.Common.{◌≡◌, ◌≤◌, ◌<◌, ◌+◌, ◌++◌, ◌∷◌, [], ◌∙◌, ℕ, List, drop, length, take, Some, Bool, true, false, inl, inr, ap, append_assoc, append-nil, arith, codes, None, refl, subst, sym}
+use Rattle.std.specs.Prelude.{Option, reverse, slice_get}
 use Rattle.std.proofs.lemmas.List.{drop_all, length-append, length-take, reverse-append, take_all, take-take}
 use Rattle.bplist_objects.specs.declared.frame.Frame.{Frame}
 use Rattle.bplist_objects.specs.Value.{Value, leaf, array, set, dict}
 use Rattle.bplist_cert.specs.CheckedFile.{CheckedFile}
+use Rattle.bplist_cursor.specs.Replies.{face}
 use Rattle.bplint_lines.specs.declared.texts.Style.{Style}
+use Rattle.bplint_lines.specs.OutputLines.{face_line}
 use Rattle.bplint_engine.specs.declared.members.Members.{Members}
 use Rattle.bplint_engine.specs.declared.walk.Opened.{Opened}
+use Rattle.bplint_engine.specs.declared.walk.Row.{Row}
 use Rattle.bplint_engine.specs.Ls.{HasCount, HasMembers, IsHeadFor, IsLeaf, named_line}
 use Rattle.bplint_engine.specs.Names.{name_in}
 use Rattle.bplint_engine.specs.Tree.{named_members, tree_lines}
-use Rattle.bplint_engine.specs.Walks.{AreOpen, IsOpen, IsPutBack, LinesLeftIn, OwnLinesLeftIn, behind_next, lines_inside, lines_of, lines_of_all, walked_lines}
+use Rattle.bplint_engine.specs.Walks.{AreOpen, IsOpen, IsPutBack, LinesLeftIn, OwnLinesLeftIn, behind_next, lines_inside, lines_of, lines_of_all, row_line, row_lines, walked_lines}
 use Rattle.bplint_engine.proofs.TreeLines.{drop_at, length-counted, length-named, tree_by_members}
 
 -- a first part of a first part
@@ -78,6 +81,12 @@ module _ (style : Style) where
 
   pub walked_few : (n : ℕ) (name : List ℕ) (w : Value) → HasCount n w → length (lines_inside style false name w) ≡ n
   walked_few n name w has = each_one (named_members style name w) ∙ length-counted style n name w has
+
+  -- the line of a row is that of the value that it shows
+  pub row_named : (names name : List ℕ) (row : Row) (w : Value) → name_in names row.name ≡ name → row.shown ≡ face w
+      → row_line style names row ≡ named_line style name w
+  row_named names name row w same shown = ap (λ n. n ++ codes "\t" ++ face_line style row.shown ++ codes "\n") same
+      ∙ ap (λ f. name ++ codes "\t" ++ face_line style f ++ codes "\n") shown ∙ simp append_assoc
 
   module _ (deep : Bool) where
     -- the next member's lines, and those of the members after it
@@ -153,4 +162,46 @@ module _ (style : Style) where
             subst (λ os. LinesLeftIn style deep checked names' os (behind ++ outer)) (sym (ap reverse is ∙ reverse-append old (behind_next o ∷ [])))
             (left_same names names' (behind_next o) (reverse old) (behind ++ outer) same (behind, outer, (w, head, has, refl), stack, refl)),
             all ∙ ap (λ l. l ++ outer) (own_is ∙ lines_next ms o.next name m there) ∙ append_assoc (lines_of style deep name m) behind outer,
+          )
+
+      -- ---- the beginning of a walk
+      -- what a walk that began with this row, or with none, still has to give
+      abbrev pub Begins : List ℕ → List Opened → ℕ → List ℕ → Value → Option Row → Type 0
+      Begins names' os room names w found = (rest : List (List ℕ)) × LinesLeftIn style deep checked names' os rest
+          × (walked_lines style deep names w ≡ row_lines style names' found ++ rest) × (length rest ≤ room)
+
+      pub begins_deep : (names names' : List ℕ) (os : List Opened) (room : ℕ) (w : Value) (row : Row) → deep ≡ true
+          → (deep ≡ true → length (walked_lines style true names w) ≤ room) → row_line style names' row ≡ named_line style names w
+          → LinesLeftIn style deep checked names' os (lines_inside style deep names w ++ []) → Begins names' os room names w (Some row)
+      begins_deep names names' os room w row is few line stands =
+          let all = ap (λ d. walked_lines style d names w) is ∙ walked_deep names w ∙ ap (λ d. named_line style names w ∷ lines_inside style d names w) (sym is) in
+          let long = ap length all in
+          let same = ap (λ d. length (walked_lines style d names w)) is in
+          let small = few is in (
+            lines_inside style deep names w ++ [],
+            stands,
+            all ∙ ap (λ l. l ∷ lines_inside style deep names w) (sym line) ∙ ap (λ ls. row_line style names' row ∷ ls) (sym (append-nil (lines_inside style deep names w))),
+            omega (arith, long, same, small, length-append (lines_inside style deep names w) []),
+          )
+
+      pub begins_leaf : (names names' : List ℕ) (os : List Opened) (room : ℕ) (w : Value) (row : Row) → IsLeaf w → row_line style names' row ≡ named_line style names w
+          → LinesLeftIn style deep checked names' os (lines_inside style deep names w ++ []) → Begins names' os room names w (Some row)
+      begins_leaf names names' os room w row is line stands =
+          let none = none_in_leaf names w is in
+          let rest = ap (λ l. l ++ []) none in (
+            [],
+            subst (LinesLeftIn style deep checked names' os) rest stands,
+            walked_leaf deep names w is ∙ ap (λ ls. named_line style names w ∷ ls) none ∙ ap (λ l. l ∷ []) (sym line),
+            omega arith,
+          )
+
+      pub begins_members : (names names' : List ℕ) (os : List Opened) (n : ℕ) (w : Value) → deep ≡ false → HasCount n w
+          → LinesLeftIn style deep checked names' os (lines_inside style deep names w ++ []) → Begins names' os n names w None
+      begins_members names names' os n w is has stands =
+          let all = ap (λ d. walked_lines style d names w) is ∙ walked_members n names w has ∙ ap (λ d. lines_inside style d names w) (sym is) in
+          let count = ap (λ d. length (lines_inside style d names w)) is ∙ walked_few n names w has in (
+            lines_inside style deep names w ++ [],
+            stands,
+            all ∙ sym (append-nil (lines_inside style deep names w)),
+            omega (arith, count, length-append (lines_inside style deep names w) []),
           )
