@@ -6,7 +6,7 @@ mod GetAnswers
 mod HexAnswers
 pub mod LeftBytes
 mod LintAnswers
-mod MemberLines
+mod HeldMembers
 mod PathAnswers
 mod PathQueries
 mod PrintAnswers
@@ -15,9 +15,9 @@ mod RawForms
 mod RefusedCertificates
 mod SentAnswers
 mod SentTexts
-mod SinkLines
 mod ToldTexts
 mod ToldTrees
 mod ToldValues
 mod TreeLines
-mod TreeSteps
+mod RowSteps
+mod WalkSteps

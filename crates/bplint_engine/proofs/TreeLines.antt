@@ -14,12 +14,12 @@ use Rattle.bplint_lines.specs.MemberNames.{bracketed, index_name, key_name}
 use Rattle.bplint_lines.specs.declared.texts.Style.{Style}
 use Rattle.bplint_engine.specs.declared.members.Members.{Members}
 use Rattle.bplint_engine.specs.declared.members.Members.TheVariants.{Array, Set, Dict}
-use Rattle.bplint_engine.specs.Ls.{HasMembers, IsLeaf, listed, named_line}
+use Rattle.bplint_engine.specs.Ls.{HasCount, HasMembers, IsLeaf, listed, named_line}
 use Rattle.bplint_engine.specs.Tree.{array_lines, dict_lines, joined_lines, named_members, set_lines, tree_lines}
-use Rattle.bplint_engine.proofs.MemberLines.{array_member, dict_member, set_member}
+use Rattle.bplint_engine.proofs.HeldMembers.{item_there, key_there, value_there}
 
 module _ (style : Style) where
-  -- the lines of members with their names
+  -- the lines of members with their names, and of everything inside them
   abbrev pub lines_of_all : List (List ℕ × Value) → List (List ℕ)
   lines_of_all ms = flat_map (λ m. tree_lines style m.0 m.1) ms
 
@@ -96,6 +96,12 @@ module _ (style : Style) where
       length-map (enumerate_from 0 (entries ps)) (λ e. (key_name style name e.0 e.1.0, e.1.1)) ∙ length-enumerate_from 0 (entries ps) ∙ length-entries ps ∙ is
   length-named _ n name _ is = absurd is
 
+  pub length-counted : (n : ℕ) (name : List ℕ) (w : Value) → HasCount n w → length (named_members style name w) ≡ n
+  length-counted n name (leaf l) has = absurd has
+  length-counted n name (array vs) has = length-named Array n name (array vs) has
+  length-counted n name (set vs) has = length-named Set n name (set vs) has
+  length-counted n name (dict ps) has = length-named Dict n name (dict ps) has
+
   -- ---- one member
   enumerated : {X : Type 0} (k : ℕ) (xs : List X) (i : ℕ) (x : X) → slice_get xs i ≡ Some x → slice_get (enumerate_from k xs) i ≡ Some (k + i, x)
   enumerated k [] i x e = cc e
@@ -115,7 +121,7 @@ module _ (style : Style) where
   pub array_named : (n i : ℕ) (w : Value) → HasMembers Array n w → i < n
       → (m : Value) × (member_of w i ≡ Some m) × ((name : List ℕ) → slice_get (named_members style name w) i ≡ Some (index_name name i, m))
   array_named n i (array vs) is within =
-      let there = array_member style n i (array vs) is within in (
+      let there = item_there vs n i is within in (
         there.0,
         there.1,
         λ name. slice_get-map (λ e. (index_name name e.0, e.1)) (enumerate_from 0 (members vs)) i
@@ -128,7 +134,7 @@ module _ (style : Style) where
   pub set_named : (n i : ℕ) (w : Value) → HasMembers Set n w → i < n
       → (m : Value) × (member_of w i ≡ Some m) × ((name : List ℕ) → slice_get (named_members style name w) i ≡ Some (bracketed i, m))
   set_named n i (set vs) is within =
-      let there = set_member style n i (set vs) is within in (
+      let there = item_there vs n i is within in (
         there.0,
         there.1,
         λ name. slice_get-map (λ e. (bracketed e.0, e.1)) (enumerate_from 0 (members vs)) i
@@ -142,30 +148,22 @@ module _ (style : Style) where
       → (u : List ℕ) × (m : Value) × (member_of w (2 * i) ≡ Some (leaf (text u))) × (member_of w (2 * i + 1) ≡ Some m)
       × ((name : List ℕ) → slice_get (named_members style name w) i ≡ Some (key_name style name i u, m))
   dict_named n i (dict ps) is within =
-      let there = dict_member style n i (dict ps) is within in
+      let key = key_there ps n i (2 * i) is within refl in
+      let there = value_there ps n i (2 * i + 1) is within refl in
       let step : 2 * i + 1 ≡ suc (2 * i) = omega arith in
-      let entry = entry_there ps i (2 * i) there.0 there.1 refl there.2 (ap (slice_get (in_turn ps)) (sym step) ∙ there.3) in (
+      let entry = entry_there ps i (2 * i) key.0 there.0 refl key.1 (ap (slice_get (in_turn ps)) (sym step) ∙ there.1) in (
+        key.0,
         there.0,
+        key.1,
         there.1,
-        there.2,
-        there.3,
         λ name. slice_get-map (λ e. (key_name style name e.0 e.1.0, e.1.1)) (enumerate_from 0 (entries ps)) i
-            ∙ ap (option_map (λ e. (key_name style name e.0 e.1.0, e.1.1))) (enumerated 0 (entries ps) i (there.0, there.1) entry)
-            ∙ (let same : 0 + i ≡ i = omega arith in ap (λ j. Some (key_name style name j there.0, there.1)) same),
+            ∙ ap (option_map (λ e. (key_name style name e.0 e.1.0, e.1.1))) (enumerated 0 (entries ps) i (key.0, there.0) entry)
+            ∙ (let same : 0 + i ≡ i = omega arith in ap (λ j. Some (key_name style name j key.0, there.0)) same),
       )
   dict_named n i _ is within = absurd is
 
   -- ---- the members from one on
-  drop_at : {X : Type 0} (xs : List X) (i : ℕ) (x : X) → slice_get xs i ≡ Some x → drop i xs ≡ x ∷ drop (i + 1) xs
+  pub drop_at : {X : Type 0} (xs : List X) (i : ℕ) (x : X) → slice_get xs i ≡ Some x → drop i xs ≡ x ∷ drop (i + 1) xs
   drop_at [] i x e = cc e
   drop_at (y ∷ ys) zero x e = let same : y ≡ x = cc e in ap (λ z. z ∷ ys) same
   drop_at (y ∷ ys) (suc i) x e = drop_at ys i x e ∙ (let step : suc (i + 1) ≡ suc i + 1 = omega arith in ap (λ j. x ∷ drop j (y ∷ ys)) step)
-
-  -- the next member's lines, and those of the members after it
-  pub lines_next : (ms : List (List ℕ × Value)) (i : ℕ) (name : List ℕ) (m : Value) → slice_get ms i ≡ Some (name, m)
-      → lines_of_all (drop i ms) ≡ tree_lines style name m ++ lines_of_all (drop (i + 1) ms)
-  lines_next ms i name m e = ap lines_of_all (drop_at ms i (name, m) e)
-
-  -- there are no lines after the last member
-  pub lines_end : (ms : List (List ℕ × Value)) (i : ℕ) → length ms ≤ i → lines_of_all (drop i ms) ≡ []
-  lines_end ms i past = ap lines_of_all (drop_all i ms past)

@@ -16,4 +16,4 @@ pub mod Streams
 pub mod Prelude
 pub mod Tree
 pub mod Told
-pub mod TreeWalks
+pub mod Walks

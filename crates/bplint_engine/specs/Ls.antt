@@ -1,16 +1,16 @@
 -- What `ls` says: the members of a value, one line each. Source: the path texts RFC 6901; the lines profile.
-use Rattle.std.specs.Prelude.{◌≡◌, ◌∷◌, ◌++◌, ℕ, zero, suc, ◌+◌, ◌*◌, length, List, [], codes, Option, None, Some, Result, Ok, Err, ⊤}
+use Rattle.std.specs.Prelude.{◌≡◌, ◌∷◌, ◌++◌, ℕ, length, List, [], codes, Result, Ok, Err, ⊤}
 use Rattle.std.specs.List.{enumerate_from, flat_map}
 use Rattle.bplist_objects.specs.declared.frame.Frame.{Frame}
 use Rattle.bplist_objects.specs.declared.head.Head.{Head}
 use Rattle.bplist_objects.specs.Heads.{Content, Spells, content_at}
 use Rattle.bplist_objects.specs.Holds.{Holds}
-use Rattle.bplist_objects.specs.Value.{Value, leaf, array, set, dict, text, keys}
+use Rattle.bplist_objects.specs.Value.{Value, leaf, array, set, dict, keys}
 use Rattle.bplist_cert.specs.CheckedFile.{CheckedFile}
 use Rattle.bplist_cert.specs.Valid.{IsVouchedBy}
 use Rattle.bplist_cursor.specs.declared.node.Why.{Why}
 use Rattle.bplist_cursor.specs.Look.{look}
-use Rattle.bplist_cursor.specs.Members.{entries, members, member_of}
+use Rattle.bplist_cursor.specs.Members.{entries, members}
 use Rattle.bplint_engine.specs.declared.members.Members.{Members}
 use Rattle.bplint_engine.specs.declared.members.Members.TheVariants.{Array, Set, Dict}
 use Rattle.bplint_lines.specs.MemberNames.{bracketed, index_name, key_name}
@@ -30,6 +30,13 @@ HasMembers Set n (set vs) = length (members vs) ≡ n
 HasMembers Dict n (dict ps) = length (keys ps) ≡ n
 HasMembers _ n w = ⊥
 
+-- the value is a container with n members, or n pairs
+abbrev pub HasCount : ℕ → Value → Type 0
+HasCount n (leaf l) = ⊥
+HasCount n (array vs) = length (members vs) ≡ n
+HasCount n (set vs) = length (members vs) ≡ n
+HasCount n (dict ps) = length (keys ps) ≡ n
+
 -- some object vouched for by these heights holds the value and has this head
 abbrev pub IsHeadIn : List ℕ → Frame → List ℕ → Head → Value → Type 0
 IsHeadIn f F heights head w = (n : ℕ) × IsVouchedBy heights n × Holds f F n w × ((c : Content) → Spells f F n c → c ≡ content_at f F head)
@@ -41,33 +48,6 @@ IsHeadFor checked = IsHeadIn checked.source.octets checked.frame checked.certifi
 -- a value's line: name, tab, line of `get`
 abbrev pub named_line : Style → List ℕ → Value → List ℕ
 named_line style name w = name ++ codes "\t" ++ found_line style (Ok w)
-
--- the name of member i of an array or set
-abbrev pub item_name : Members → List ℕ → ℕ → List ℕ
-item_name Array path i = index_name path i
-item_name _ path i = bracketed i
-
--- the line of a member, or no bytes if there is no member
-abbrev pub line_of_member : Style → List ℕ → Option Value → List ℕ
-line_of_member style name None = []
-line_of_member style name (Some w) = named_line style name w
-
--- the line of a key's value, or no bytes if there is none
-abbrev pub line_of_pair : Style → List ℕ → ℕ → Option Value → Option Value → List ℕ
-line_of_pair style path i (Some (leaf (text units))) member = line_of_member style (key_name style path i units) member
-line_of_pair style path i _ member = []
-
--- the line of member or pair i; a leaf has no members
-abbrev pub member_line : Style → List ℕ → Value → ℕ → List ℕ
-member_line style path (leaf l) i = []
-member_line style path (array vs) i = line_of_member style (index_name path i) (member_of (array vs) i)
-member_line style path (set vs) i = line_of_member style (bracketed i) (member_of (set vs) i)
-member_line style path (dict ps) i = line_of_pair style path i (member_of (dict ps) (2 * i)) (member_of (dict ps) (2 * i + 1))
-
--- the lines of the first n members
-abbrev pub first_lines : Style → List ℕ → Value → ℕ → List ℕ
-first_lines style path w zero = []
-first_lines style path w (suc n) = first_lines style path w n ++ member_line style path w n
 
 -- the lines of the members of the value, or of the leaf, or of a path that leads nowhere
 abbrev pub listed : Style → List ℕ → Result Value (ℕ × Why) → List ℕ

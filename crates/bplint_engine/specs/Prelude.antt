@@ -27,7 +27,7 @@ pub use Rattle.bplint_engine.specs.Get.{LinesSay, answer_fault, found_line, repl
 pub use Rattle.bplint_engine.specs.Hexadecimal.{spelled}
 pub use Rattle.bplint_engine.specs.Least.{IsLeastFor}
 pub use Rattle.bplint_engine.specs.Lint.{LintSays}
-pub use Rattle.bplint_engine.specs.Ls.{HasMembers, IsHeadFor, IsLeaf, first_lines, item_name, listed, member_line}
+pub use Rattle.bplint_engine.specs.Ls.{HasCount, HasMembers, IsHeadFor, IsLeaf, listed}
 pub use Rattle.bplint_engine.specs.Output.{Answers, IsRefusal, LeavesLed, Sends, read_fault_of}
 pub use Rattle.bplint_engine.specs.PathTexts.{IsWrongAmong, OnPath}
 pub use Rattle.bplint_engine.specs.Print.{NodeSays, PathSays, PrintSays}

@@ -5,9 +5,11 @@ use Rattle.bplist_objects.specs.Value.{Value, leaf, array, set, dict, Values, no
 use Rattle.bplist_cursor.specs.Look.{look}
 use Rattle.bplist_cursor.specs.Members.{entries, members}
 use Rattle.bplist_cursor.specs.Nodes.{nodes}
+use Rattle.bplint_lines.specs.declared.fault.RunFault.{RunFault}
 use Rattle.bplint_lines.specs.declared.fault.RunFault.TheVariants.{TooLong}
 use Rattle.bplint_lines.specs.declared.fault.Said.TheVariants.{All, SomeMissing}
 use Rattle.bplint_lines.specs.Answers.{Answer, gives, refuses}
+use Rattle.bplint_lines.specs.Faults.{IsExcused}
 use Rattle.bplint_lines.specs.MemberNames.{bracketed, index_name, key_name}
 use Rattle.bplint_lines.specs.declared.texts.Style.{Style}
 use Rattle.bplint_engine.specs.Get.{found_line}
@@ -51,6 +53,11 @@ joined_lines lines = flat_map (λ line. line) lines
 -- the value has at most `limit` nodes, and fewer than 18446744073709551615
 abbrev pub HasNodes : Value → ℕ → Type 0
 HasNodes w limit = (nodes w ≤ limit) × (nodes w < 18446744073709551615)
+
+-- why its nodes were not counted: there are too many, or a read failed, or memory was refused
+abbrev pub RefusesNodes : Value → ℕ → RunFault → Type 0
+RefusesNodes w limit TooLong = ¬ HasNodes w limit
+RefusesNodes w limit fault = IsExcused fault
 
 -- the answer is the lines of the value, or that it has too many nodes
 abbrev pub NodeLists : Style → ℕ → List ℕ → Value → Answer → Type 0

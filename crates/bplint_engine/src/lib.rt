@@ -18,6 +18,7 @@
 //! | lint or certify, which take no certificate | [`lint_on`], [`certify_on`] |
 //! | show values of a file that has no certificate | [`show_on`]; [`show_text_on`] and [`show_raw_on`] with a [`Led`] |
 //! | list them | [`list_on`], [`list_all_on`] with a [`Branch`] |
+//! | walk over a value in lines of another form | [`Walk`] with a [`Manner`], which gives one [`Row`] after the other |
 //!
 //! A call returns the `Said` or the `RunFault` of `bplint_lines`. The clause `exact` of each call says which bytes it
 //! wrote; specs/Said.antt defines what each command says. The law `tree_of_ls` says that a recursive listing
@@ -32,7 +33,8 @@
 //! - `show`, `ls`, `tree`, `raw`: the calls that need no certificate.
 //! - `sorting`: whether to sort the keys before many paths are followed.
 //! - `members`: the members of a container.
-//! - `tree_walk`, `names`: the recursive walk, and the names in it.
+//! - `walk`, `names`: the walk over a value, and the names in it.
+//! - `row_lines`: the lines of a walk.
 //! - `raw_bytes`: which raw bytes a value has, and how they are sent in parts.
 //! - `output`: the bytes of an answer, and how they are written.
 //! - `laws`: facts about the definitions.
@@ -51,11 +53,12 @@ mod output;
 mod print;
 mod raw;
 mod raw_bytes;
+mod row_lines;
 mod run;
 mod show;
 mod sorting;
 mod tree;
-mod tree_walk;
+mod walk;
 
 pub use accepted::checked_by_lint;
 pub use certify::certify_on;
@@ -69,4 +72,6 @@ pub use print::print_on;
 pub use raw::show_raw_on;
 pub use run::{Command, Verb, run_on, run_over, undo_hex};
 pub use show::{show_on, show_text_on};
-pub use tree::{Branch, list_all_on};
+pub use names::Name;
+pub use tree::{Branch, count_within, list_all_on};
+pub use walk::{Keys, Manner, Row, Walk};

@@ -1,14 +1,14 @@
-//! The members of a container: how many there are and of what kind, and one of them as node, face or text.
+//! The members of a container: how many there are and of what kind, and one of them as a node or a key.
 
 ghost use Rattle.std.specs.Prelude.{◌≡◌, ◌*◌, ◌^◌, ◌<◌, IfSome, IsTrue, List, MatchOption, Some, ℕ};
 ghost use Rattle.bplist_cursor.specs.Causes.{GivesCursor, cursor_read};
 ghost use Rattle.bplist_cursor.specs.Found.{IsHeld};
-ghost use Rattle.bplint_engine.specs.Prelude.{HasRoom, HasMembers, IsHeadFor, IsLeaf, IsSafeHead, OnlyReadsFile, Value};
+ghost use Rattle.bplint_engine.specs.Prelude.{HasCount, HasRoom, HasMembers, IsHeadFor, IsLeaf, IsSafeHead, OnlyReadsFile, Value};
 ghost use Rattle.bplint_engine.specs.Prelude.{face as face_of, leaf, member_of, text};
 
 use bplist_cert::Checked;
 use bplist_cursor::{CursorFault, Face, Node, face, member_by_head};
-use bplist_objects::Head;
+use bplist_objects::{Head, ObjectNo};
 use bplist_octets::Source;
 use std::alloc::Global;
 
@@ -38,6 +38,16 @@ pub(crate) fn members_of(shown: &Face, length: u64) -> Option<(Members, u64)>
     }
 }
 
+/// Returns the number of members, or of pairs, that a face shows, or `None` for a leaf.
+pub(crate) fn count_of(shown: &Face) -> Option<u64>
+    ensures { (w : Value) → shown.now ≡ face_of w → MatchOption result (IsLeaf w) (λ count. HasCount count w) }
+{
+    match shown {
+        Face::Array(count) | Face::Set(count) | Face::Dict(count) => Some(*count),
+        _ => None,
+    }
+}
+
 /// Returns the node of member `i` of the object with this head.
 pub(crate) fn member_node<S: Source>(
     checked: &mut Checked<S>,
@@ -55,36 +65,27 @@ pub(crate) fn member_node<S: Source>(
     }
 }
 
-/// Returns the face of member `i` of the object with this head.
-pub(crate) fn member_face<S: Source>(
+/// Returns the units of the text that a node holds.
+pub(crate) fn key_text<S: Source>(
     alloc: Global,
     checked: &mut Checked<S>,
-    head: &Head,
-    i: u64,
-) -> Result<Face, CursorFault>
-    requires { IsSafeHead checked.old.frame head.now }
-    ensures reads { OnlyReadsFile (cursor_read result) checked.old checked.new }
-    ensures exact { IsTrue checked.old.source.honest → (w m : Value) → IsHeadFor checked.old head.now w → member_of w i ≡ Some m
-        → GivesCursor (λ shown. shown ≡ face_of m) result }
-{
-    let member = member_node(checked, head, i)?;
-    face(alloc, checked, member)
-}
-
-/// Returns the units of member `i` of the object with this head. The member is a text.
-pub(crate) fn member_text<S: Source>(
-    alloc: Global,
-    checked: &mut Checked<S>,
-    head: &Head,
-    i: u64,
+    key: Node,
 ) -> Result<bplist_cursor::List<u16>, CursorFault>
-    requires { IsSafeHead checked.old.frame head.now }
     ensures reads { OnlyReadsFile (cursor_read result) checked.old checked.new }
-    ensures exact { IsTrue checked.old.source.honest → (w : Value) (u : List ℕ) → IsHeadFor checked.old head.now w
-        → member_of w i ≡ Some (leaf (text u)) → GivesCursor (λ units. units ≡ u) result }
+    ensures exact { IsTrue checked.old.source.honest → (u : List ℕ) → IsHeld checked.old key.object.0 (leaf (text u))
+        → GivesCursor (λ units. units ≡ u) result }
 {
-    match member_face(alloc, checked, head, i)? {
+    match face(alloc, checked, key)? {
         Face::Text(units) => Ok(units),
         _ => Err(CursorFault::Changed),
     }
+}
+
+/// Returns the number of the pair that is number `i` of a dictionary's key list, if the certificate has one.
+pub(crate) fn listed_pair<S: Source>(checked: &Checked<S>, dict: ObjectNo, i: u64) -> Option<u64> {
+    let lists = checked.certificate().keys.as_ref()?;
+    let start = *lists.starts.get(dict.0 as usize)? as u64;
+    let at = start.checked_add(i)?;
+    let number = *lists.positions.get(at as usize)?;
+    Some(number as u64)
 }

@@ -1,20 +1,27 @@
-//! The names of nodes in a recursive listing, in one buffer that names share.
+//! The names of nodes in a walk, in one buffer that names share.
 
 ghost use Rattle.std.specs.Prelude.{◌≡◌, ◌↔◌, IfOk, IsTrue, Some, length, slice_get};
 ghost use Rattle.bplint_lines.specs.MemberNames.{bracketed, index_name, key_name};
 ghost use Rattle.bplint_engine.specs.Names.{Extends, IsNameIn, name_in};
 
-use bplint_lines::{Pair, Style, add_index, add_index_name, add_key_name};
+use bplint_lines::{Pair, Style, add_index, add_index_name, add_key_name, add_whole_key_name};
+use bplist_cursor::Node;
 use std::alloc::{AllocError, Global};
 use std::marker::Model;
 
-/// The range of a name in the buffer.
+/// The name of a node: a path, or the path from the innermost member around the node that has none.
 #[derive(Clone, Copy, Drop)]
-pub(crate) struct Name {
-    /// The place of its first byte.
+pub struct Name {
+    /// The place of its first byte in the buffer.
     start: usize,
+    /// The place of the first byte of the part that names the node in its container.
+    own: usize,
     /// The place after its last byte.
     end: usize,
+    /// The index of that member, if the text of the name does not have it.
+    pub index: Option<u64>,
+    /// The key of that member, if it has one and the text of the name does not have it.
+    pub key: Option<Node>,
 }
 
 /// The names of a node and of the containers that it is in, the outermost first. The name of a member either extends
@@ -48,7 +55,10 @@ impl Names {
     {
         Name {
             start: 0,
+            own: 0,
             end: self.text.len(),
+            index: None,
+            key: None,
         }
     }
 
@@ -58,6 +68,11 @@ impl Names {
         ensures { result.now ≡ name_in self.now name }
     {
         &self.text[name.start..name.end]
+    }
+
+    /// Returns the part of a name that names the node in its container.
+    pub(crate) fn own(&self, name: Name) -> &[u8] {
+        self.text.get(name.own..name.end).unwrap_or(&[])
     }
 
     /// Appends the name of member `i` to the name of its array. Drops what followed that name before.
@@ -74,8 +89,9 @@ impl Names {
         self.text.truncate(array.end);
         add_index_name(alloc, "", i, &mut self.text)?;
         Ok(Name {
-            start: array.start,
+            own: array.end,
             end: self.text.len(),
+            ..array
         })
     }
 
@@ -93,7 +109,9 @@ impl Names {
         add_index(alloc, i, &mut self.text)?;
         Ok(Name {
             start: set.end,
+            own: set.end,
             end: self.text.len(),
+            ..set
         })
     }
 
@@ -114,13 +132,56 @@ impl Names {
         if stands_alone(&self.text[dict.end..]) {
             return Ok(Name {
                 start: dict.end,
+                own: dict.end,
                 end: self.text.len(),
+                ..dict
             });
         }
         Ok(Name {
-            start: dict.start,
+            own: dict.end,
             end: self.text.len(),
+            ..dict
         })
+    }
+
+    /// The same with the whole key, which is that of node `key`. The text has no key with half of a surrogate pair.
+    pub(crate) fn push_whole_key(
+        &mut self,
+        alloc: Global,
+        dict: Name,
+        pair: &Pair<'_>,
+        key: Node,
+    ) -> Result<Name, AllocError>
+        requires { IsNameIn self.old dict }
+        ensures { IfOk result (λ name. Extends self.old self.new dict name) }
+    {
+        let mut token = Vec::new(alloc);
+        if !add_whole_key_name(alloc, pair.key, &mut token)? {
+            return Ok(self.hide(dict, pair.number, Some(key)));
+        }
+        self.text.truncate(dict.end);
+        self.text.extend_from_slice(&token)?;
+        Ok(Name {
+            own: dict.end,
+            end: self.text.len(),
+            ..dict
+        })
+    }
+
+    /// Returns the name of member `i` of a container, of which the text has nothing. Drops what followed the
+    /// container's name before.
+    pub(crate) fn hide(&mut self, container: Name, i: u64, key: Option<Node>) -> Name
+        requires { IsNameIn self.old container }
+        ensures { Extends self.old self.new container result }
+    {
+        self.text.truncate(container.end);
+        Name {
+            start: container.end,
+            own: container.end,
+            end: container.end,
+            index: Some(i),
+            key,
+        }
     }
 }
 

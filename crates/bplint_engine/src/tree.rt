@@ -1,16 +1,18 @@
 //! The command `ls --recursive`: lists a value and everything inside it, in a file that has no certificate.
 
-ghost use Rattle.std.specs.Prelude.{IsTrue};
+ghost use Rattle.std.specs.Prelude.{◌≡◌, IsTrue, MatchResult};
+ghost use Rattle.bplist_cursor.specs.Nodes.{nodes};
 ghost use Rattle.bplint_engine.specs.Prelude.{OnlyReads, Holds, Value, IsVouchedBy, OnlyReadsFile, LintSays};
 ghost use Rattle.bplint_engine.specs.Prelude.{read_failed};
 ghost use Rattle.bplint_lines.specs.Answers.{LeavesSomeBy};
-ghost use Rattle.bplint_engine.specs.Tree.{ListsAll, NodeLists, PathLists};
+ghost use Rattle.bplint_engine.specs.Tree.{HasNodes, ListsAll, NodeLists, PathLists, RefusesNodes};
 
 use crate::accepted::checked_by_lint;
 use crate::get::path_in;
 use crate::output::send_output;
 use crate::print::missing_output;
-use crate::tree_walk::{Listing, write_tree};
+use crate::row_lines::{RowLines, write_rows};
+use crate::walk::{Keys, Manner, Walk};
 use bplint_lines::{RunFault, Said, Style};
 use bplist_cert::Checked;
 use bplist_cursor::{Found, Node, Path, count_nodes, locate};
@@ -101,11 +103,33 @@ fn tree_node<S: Source, W: Write>(
         → (w : Value) → Holds checked.old.source.octets checked.old.frame node.object.0 w
         → LeavesSomeBy (NodeLists branch.now.style branch.now.limit branch.now.path.now w) (W.contents out.old) (W.contents out.new) result }
 {
-    let nodes = count_nodes(alloc, checked, node)?;
-    if nodes > branch.limit || nodes == u64::MAX {
+    let nodes = count_within(alloc, checked, node, branch.limit)?;
+    let manner = Manner {
+        keys: Keys::Shown(branch.style),
+        deep: true,
+        sorted: false,
+    };
+    let walk = Walk::new(alloc, branch.path, manner, nodes)?;
+    write_rows(checked, node, walk, RowLines::new(alloc, branch.style), out)?;
+    Ok(Said::All)
+}
+
+/// Returns how many nodes a node's value has. The error `TooLong` means more than `limit`, or 18446744073709551615 or
+/// more.
+pub fn count_within<S: Source>(
+    alloc: Global,
+    checked: &mut Checked<S>,
+    node: Node,
+    limit: u64,
+) -> Result<u64, RunFault>
+    ensures reads { OnlyReadsFile (read_failed result) checked.old checked.new }
+    ensures exact { IsTrue checked.old.source.honest → IsVouchedBy checked.old.certificate.heights node.object.0
+        → (w : Value) → Holds checked.old.source.octets checked.old.frame node.object.0 w → MatchResult result
+        (λ count. (count ≡ nodes w) × HasNodes w limit) (RefusesNodes w limit) }
+{
+    let count = count_nodes(alloc, checked, node)?;
+    if count > limit || count == u64::MAX {
         return Err(RunFault::TooLong);
     }
-    let listing = Listing::new(alloc, branch.path, nodes)?;
-    write_tree(checked, node, listing, branch.style, out)?;
-    Ok(Said::All)
+    Ok(count)
 }

@@ -21,9 +21,8 @@
 //!
 //! - `finding`: what `lint` finds out about a file.
 //! - `finding_lines`: its line.
-//! - `listing`: the walk over a value.
-//! - `names`: the names of values.
-//! - `rows`, `columns`: their lines, as JSON or in columns.
+//! - `listing`: the lines of a walk over a value.
+//! - `rows`, `columns`: one of them, as JSON or in columns.
 //! - `readable`: dates as people write them.
 #![tactic(auto)]
 
@@ -31,7 +30,6 @@ mod columns;
 mod finding;
 mod finding_lines;
 mod listing;
-mod names;
 mod readable;
 mod rows;
 

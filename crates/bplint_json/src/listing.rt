@@ -1,16 +1,21 @@
 //! The commands `ls --json` and `ls --objects`: list the members of a value, or the value and everything inside it,
 //! with the object of each value and its place.
 
+ghost use Rattle.std.specs.Prelude.{◌≡◌, [], IfOk, None};
+ghost use Rattle.bplist_cursor.specs.Causes.{cursor_read};
+ghost use Rattle.bplist_cursor.specs.Kept.{OnlyReadsFile};
+ghost use Rattle.bplint_engine.specs.Names.{IsNameIn};
+ghost use Rattle.bplint_lines.specs.Answers.{read_failed};
+
 use crate::columns::{columns_of, missing_columns};
-use crate::names::{Name, Names};
 use crate::rows::{Named, Site, missing_row, row_of, with_key};
-use bplint_engine::checked_by_lint;
-use bplint_lines::{Pair, RunFault, Said, Style};
+use bplint_engine::{Keys, Manner, Row, Walk, checked_by_lint, count_within};
+use bplint_lines::{RunFault, Said, Style};
 use bplist_cert::Checked;
-use bplist_cursor::{CursorFault, Face, Found, Node, Path, count_nodes, face, locate, member};
+use bplist_cursor::{CursorFault, Face, Found, Node, Path, Why, face, locate};
 use bplist_objects::offset_of;
 use bplist_octets::{Sink, Source};
-use std::alloc::{AllocError, Global};
+use std::alloc::Global;
 use std::io::Write;
 
 /// What to list of a value.
@@ -62,248 +67,159 @@ pub fn list_rows_on<S: Source, W: Write>(
     };
     match checked_by_lint(alloc, src) {
         Ok(mut checked) => {
-            let made = match locate(&mut checked, &steps) {
-                Ok(found) => list_found(alloc, &mut checked, found, listed, out),
-                Err(fault) => Err(RunFault::from(fault)),
-            };
+            let mut rows = RowLines::new(alloc, listed.form, out);
+            let made = list_path(&mut checked, &steps, listed, &mut rows);
             (made, checked.into_parts().0)
         }
         Err((fault, src)) => (Err(fault), src),
     }
 }
 
-fn list_found<S: Source, W: Write>(
-    alloc: Global,
+fn list_path<S: Source, W: Write>(
     checked: &mut Checked<S>,
-    found: Found,
+    steps: &Path,
     listed: &Listed<'_>,
-    out: &mut W,
+    rows: &mut RowLines<'_, W>,
 ) -> Result<Said, RunFault> {
-    let mut listing = Listing {
-        alloc,
-        form: listed.form,
-        stack: Vec::new(alloc),
-        names: Names::new(alloc, listed.form, listed.path)?,
-        sink: Sink::new(),
-        out,
-    };
-    let said = match found {
+    let said = match locate(checked, steps)? {
         Found::At(node) => {
-            listing.list(checked, node, listed.depth)?;
+            let walk = walk_from(rows.alloc, checked, node, listed)?;
+            put_rows(checked, node, walk, rows)?;
             Said::All
         }
         Found::Missing { step, why } => {
-            let row = match listed.form {
-                Form::Json => missing_row(alloc, listed.path, step, why)?,
-                Form::Columns(_) => missing_columns(alloc, step, why)?,
-            };
-            listing.put(row)?;
+            rows.put_missing(listed.path, step, why)?;
             Said::SomeMissing
         }
     };
-    listing.finish()?;
+    rows.sink.flush(rows.out)?;
     Ok(said)
 }
 
-/// The members of a container.
-#[derive(Clone, Copy, Drop)]
-enum Members {
-    Array,
-    Set,
-    Dict,
-}
-
-/// A container on the stack. Its members before number `next` are listed or begun.
-#[derive(Clone, Copy, Drop)]
-struct Opened {
+/// Returns a walk over the value of a node. If it is deep, the number of nodes bounds that of rows.
+fn walk_from<S: Source>(
+    alloc: Global,
+    checked: &mut Checked<S>,
     node: Node,
-    members: Members,
-    /// The number of members, or of pairs.
-    count: u64,
-    next: u64,
-    name: Name,
+    listed: &Listed<'_>,
+) -> Result<Walk, RunFault>
+    ensures { IfOk result (λ walk. walk.stack.items ≡ []) }
+{
+    let keys = match listed.form {
+        Form::Json => Keys::Whole,
+        Form::Columns(style) => Keys::Shown(style),
+    };
+    let (deep, room) = match listed.depth {
+        Depth::Members => (false, 0),
+        Depth::All(limit) => (true, count_within(alloc, checked, node, limit)?),
+    };
+    let manner = Manner {
+        keys,
+        deep,
+        sorted: false,
+    };
+    Ok(Walk::new(alloc, listed.path, manner, room)?)
 }
 
-/// The state of a listing.
+/// Puts the lines of all rows of a walk that begins at this node.
+fn put_rows<S: Source, W: Write>(
+    checked: &mut Checked<S>,
+    top: Node,
+    walk: Walk,
+    rows: &mut RowLines<'_, W>,
+) -> Result<(), RunFault>
+    requires { walk.stack.items ≡ [] }
+{
+    let mut walk = walk;
+    if let Some(row) = walk.begin(checked, top)? {
+        rows.put(checked, &walk, &row)?;
+    }
+    while let Some(row) = walk.next(checked)? {
+        rows.put(checked, &walk, &row)?;
+    }
+    Ok(())
+}
+
+/// Lines that go through a sink to a writer.
 #[derive(Drop)]
-struct Listing<'a, W> {
+struct RowLines<'a, W> {
     alloc: Global,
     form: Form,
-    /// The containers around the current node, the outermost first.
-    stack: Vec<Opened>,
-    names: Names,
     sink: Sink,
     out: &'a mut W,
 }
 
-impl<'a, W: Write> Listing<'a, W> {
-    fn list<S: Source>(
-        &mut self,
-        checked: &mut Checked<S>,
-        node: Node,
-        depth: Depth,
-    ) -> Result<(), RunFault> {
-        let name = self.names.whole();
-        let shown = face(self.alloc, checked, node)?;
-        match depth {
-            Depth::Members => match opened_by(node, &shown, name) {
-                Some(opened) => self.list_members(checked, opened),
-                None => self.put_row(checked, node, name, &shown),
-            },
-            Depth::All(limit) => {
-                let nodes = count_nodes(self.alloc, checked, node)?;
-                if nodes > limit || nodes == u64::MAX {
-                    return Err(RunFault::TooLong);
-                }
-                self.begin(checked, node, name)?;
-                self.list_stack(checked)
-            }
+impl<'a, W: Write> RowLines<'a, W> {
+    fn new(alloc: Global, form: Form, out: &'a mut W) -> RowLines<'a, W> {
+        RowLines {
+            alloc,
+            form,
+            sink: Sink::new(),
+            out,
         }
     }
 
-    fn list_members<S: Source>(
+    /// Puts the line of a walk's last row.
+    fn put<S: Source>(
         &mut self,
         checked: &mut Checked<S>,
-        opened: Opened,
-    ) -> Result<(), RunFault> {
-        for next in 0..opened.count {
-            let (node, name) = self.name_member(checked, &Opened { next, ..opened })?;
-            let shown = face(self.alloc, checked, node)?;
-            self.put_row(checked, node, name, &shown)?;
-        }
-        Ok(())
-    }
-
-    /// The number of turns is bounded by the number of nodes, which was counted before.
-    fn list_stack<S: Source>(&mut self, checked: &mut Checked<S>) -> Result<(), RunFault> {
-        for _ in 0..u64::MAX {
-            let Some(opened) = self.stack.pop() else {
-                return Ok(());
-            };
-            if opened.next < opened.count {
-                let (node, name) = self.name_member(checked, &opened)?;
-                self.stack.push(Opened {
-                    next: opened.next + 1,
-                    ..opened
-                })?;
-                self.begin(checked, node, name)?;
-            }
-        }
-        Err(RunFault::Changed)
-    }
-
-    /// If the node is a container, it goes on the stack.
-    fn begin<S: Source>(
-        &mut self,
-        checked: &mut Checked<S>,
-        node: Node,
-        name: Name,
-    ) -> Result<(), RunFault> {
-        let shown = face(self.alloc, checked, node)?;
-        self.put_row(checked, node, name, &shown)?;
-        if let Some(opened) = opened_by(node, &shown, name) {
-            self.stack.push(opened)?;
-        }
-        Ok(())
-    }
-
-    fn name_member<S: Source>(
-        &mut self,
-        checked: &mut Checked<S>,
-        opened: &Opened,
-    ) -> Result<(Node, Name), RunFault> {
-        let i = opened.next;
-        match opened.members {
-            Members::Array => {
-                let node = member_of(checked, opened.node, i)?;
-                Ok((node, self.names.push_index(opened.name, i)?))
-            }
-            Members::Set => {
-                let node = member_of(checked, opened.node, i)?;
-                Ok((node, self.names.push_place(opened.name, i)?))
-            }
-            Members::Dict => {
-                let key = member_of(checked, opened.node, i.saturating_mul(2))?;
-                let number = i.saturating_mul(2).saturating_add(1);
-                let node = member_of(checked, opened.node, number)?;
-                match face(self.alloc, checked, key)? {
-                    Face::Text(units) => {
-                        let pair = Pair {
-                            number: i,
-                            key: units.as_slice(),
-                        };
-                        Ok((node, self.names.push_key(opened.name, &pair)?))
-                    }
-                    _ => Err(RunFault::Changed),
-                }
-            }
-        }
-    }
-
-    fn put_row<S: Source>(
-        &mut self,
-        checked: &mut Checked<S>,
-        node: Node,
-        name: Name,
-        shown: &Face,
-    ) -> Result<(), RunFault> {
-        let site = site_of(checked, node)?;
-        let row = match self.form {
-            Form::Json => self.json_row(name, shown, site)?,
-            Form::Columns(style) => {
-                columns_of(self.alloc, style, self.names.get(name), shown, site)?
-            }
+        walk: &Walk,
+        row: &Row,
+    ) -> Result<(), RunFault>
+        requires { IsNameIn walk.now.names row.now.name }
+        ensures { OnlyReadsFile (read_failed result) checked.old checked.new }
+    {
+        let site = site_of(checked, row.node)?;
+        let name = std::str::from_utf8(walk.name(row)).unwrap_or("");
+        let line = match self.form {
+            Form::Json => json_row(self.alloc, checked, name, row, site)?,
+            Form::Columns(style) => columns_of(self.alloc, style, name, &row.shown, site)?,
         };
-        self.put(row)
+        self.put_line(line)
     }
 
-    fn json_row(&self, name: Name, shown: &Face, site: Site) -> Result<Vec<u8>, AllocError> {
-        let named = Named::new(Some(self.names.get(name)), name.index);
-        let row = row_of(self.alloc, named, shown, site)?;
-        match (name.index, self.names.key_of(name)) {
-            (Some(index), Some(key)) => with_key(self.alloc, &row, index, key),
-            _ => Ok(row),
-        }
+    /// Puts the line for a path that leads nowhere.
+    fn put_missing(&mut self, path: &str, step: u64, why: Why) -> Result<(), RunFault> {
+        let line = match self.form {
+            Form::Json => missing_row(self.alloc, path, step, why)?,
+            Form::Columns(_) => missing_columns(self.alloc, step, why)?,
+        };
+        self.put_line(line)
     }
 
-    fn finish(&mut self) -> Result<(), RunFault> {
-        self.sink.flush(self.out)?;
-        Ok(())
-    }
-
-    fn put(&mut self, row: Vec<u8>) -> Result<(), RunFault> {
-        let mut row = row;
-        row.push(b'\n')?;
-        self.sink.put(self.out, &row)?;
+    fn put_line(&mut self, line: Vec<u8>) -> Result<(), RunFault>
+        ensures { read_failed result ≡ None }
+    {
+        let mut line = line;
+        line.push(b'\n')?;
+        self.sink.put(self.out, &line)?;
         Ok(())
     }
 }
 
-/// A leaf is no container.
-fn opened_by(node: Node, shown: &Face, name: Name) -> Option<Opened> {
-    let (members, count) = match shown {
-        Face::Array(count) => (Members::Array, *count),
-        Face::Set(count) => (Members::Set, *count),
-        Face::Dict(count) => (Members::Dict, *count),
-        _ => return None,
+/// Returns the JSON object of a row, without its line feed. A key that no path can have is read again.
+fn json_row<S: Source>(
+    alloc: Global,
+    checked: &mut Checked<S>,
+    name: &str,
+    row: &Row,
+    site: Site,
+) -> Result<Vec<u8>, CursorFault>
+    ensures { OnlyReadsFile (cursor_read result) checked.old checked.new }
+{
+    let line = row_of(alloc, Named::new(Some(name), row.name.index), &row.shown, site)?;
+    let (Some(index), Some(key)) = (row.name.index, row.name.key) else {
+        return Ok(line);
     };
-    Some(Opened {
-        node,
-        members,
-        count,
-        next: 0,
-        name,
-    })
-}
-
-fn member_of<S: Source>(checked: &mut Checked<S>, node: Node, i: u64) -> Result<Node, CursorFault> {
-    match member(checked, node, i)? {
-        Some(member) => Ok(member),
-        None => Err(CursorFault::Changed),
+    match face(alloc, checked, key)? {
+        Face::Text(units) => Ok(with_key(alloc, &line, index, units.as_slice())?),
+        _ => Err(CursorFault::Changed),
     }
 }
 
-fn site_of<S: Source>(checked: &mut Checked<S>, node: Node) -> Result<Site, CursorFault> {
+fn site_of<S: Source>(checked: &mut Checked<S>, node: Node) -> Result<Site, CursorFault>
+    ensures { OnlyReadsFile (cursor_read result) checked.old checked.new }
+{
     let frame = checked.frame();
     if node.object.0 >= frame.objects {
         return Err(CursorFault::Changed);

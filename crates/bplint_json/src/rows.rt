@@ -254,26 +254,25 @@ fn broken_text_row(
     Ok(row)
 }
 
-/// Adds the key of the innermost member that has no path to a line that begins with its index. The key is given as it
-/// stands in a JSON text.
+/// Adds the key of the innermost member that has no path to a line that begins with its index.
 pub(crate) fn with_key(
     alloc: Global,
     row: &[u8],
     index: u64,
-    key: &str,
+    key: &[u16],
 ) -> Result<Vec<u8>, AllocError> {
     let front = format!(in alloc; "{{\"path\":null,\"index\":{index},")?;
     let mut line = Vec::new(alloc);
     line.extend_from_slice(front.as_bytes())?;
     line.extend_from_slice(b"\"key\":\"")?;
-    line.extend_from_slice(key.as_bytes())?;
+    add_broken_text(alloc, key, &mut line)?;
     line.extend_from_slice(b"\",")?;
     line.extend_from_slice(row.get(front.len()..).unwrap_or(&[]))?;
     Ok(line)
 }
 
 /// Adds these units as they stand in a JSON text. A half of a surrogate pair becomes `\u` and its digits.
-pub(crate) fn add_broken_text(
+fn add_broken_text(
     alloc: Global,
     units: &[u16],
     row: &mut Vec<u8>,

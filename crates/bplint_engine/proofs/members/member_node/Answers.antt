@@ -1,7 +1,7 @@
 use Rattle.std.proofs.lemmas.Result.{err_from_is_err_and}
 use Rattle.bplist_cursor.proofs.Causes.{unread_excused}
 use Rattle.bplist_cursor.proofs.Membership.{held_members}
-use Rattle.bplint_engine.proofs.MemberLines.{found_member}
+use Rattle.bplint_engine.proofs.HeldMembers.{found_member}
 use Rattle.bplint_engine.proofs.members.member_node.Goals as goal
 
 pub returns-in_err-member-clause-exact : goal.returns-in_err-member-clause-exact

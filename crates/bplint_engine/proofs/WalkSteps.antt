@@ -1,0 +1,207 @@
+-- What a walk still has to give, step by step.
+use Rattle.std.proofs.Common.{◌≡◌, ◌≤◌, ◌<◌, ◌+◌, ◌++◌, ◌∷◌, [], ◌∙◌, ℕ, List, drop, length, take, Some, Bool, true, false, inl, inr, ap, append_assoc, append-nil, arith, codes, None, refl, subst, sym}
+use Rattle.std.specs.Prelude.{Option, reverse, slice_get}
+use Rattle.std.proofs.lemmas.List.{drop_all, length-append, length-take, reverse-append, take_all, take-take}
+use Rattle.bplist_objects.specs.declared.frame.Frame.{Frame}
+use Rattle.bplist_objects.specs.Value.{Value, leaf, array, set, dict}
+use Rattle.bplist_cert.specs.CheckedFile.{CheckedFile}
+use Rattle.bplist_cursor.specs.Replies.{face}
+use Rattle.bplint_lines.specs.declared.texts.Style.{Style}
+use Rattle.bplint_lines.specs.OutputLines.{face_line}
+use Rattle.bplint_engine.specs.declared.members.Members.{Members}
+use Rattle.bplint_engine.specs.declared.walk.Opened.{Opened}
+use Rattle.bplint_engine.specs.declared.walk.Row.{Row}
+use Rattle.bplint_engine.specs.Ls.{HasCount, HasMembers, IsHeadFor, IsLeaf, named_line}
+use Rattle.bplint_engine.specs.Names.{name_in}
+use Rattle.bplint_engine.specs.Tree.{named_members, tree_lines}
+use Rattle.bplint_engine.specs.Walks.{AreOpen, IsOpen, IsPutBack, LinesLeftIn, OwnLinesLeftIn, behind_next, lines_inside, lines_of, lines_of_all, row_line, row_lines, walked_lines}
+use Rattle.bplint_engine.proofs.TreeLines.{drop_at, length-counted, length-named, tree_by_members}
+
+-- a first part of a first part
+front : (m n : ℕ) (xs : List ℕ) → m ≤ length (take n xs) → take m (take n xs) ≡ take m xs
+front m n xs within = let long = length-take n xs in take-take m n xs (omega (arith, within, long))
+
+-- ---- containers that can be read
+-- containers whose names are in a first part of these bytes
+pub open_in_all : (F : Frame) (n : ℕ) (names : List ℕ) (os : List Opened) → AreOpen F (take n names) os → AreOpen F names os
+open_in_all F n names [] are = tt
+open_in_all F n names (o ∷ os) (first, rest) =
+    let within = first.name.1 in
+    let long = length-take n names in (
+      record { head = first.head; few = first.few; within = first.within; name = (first.name.0, omega (arith, within, long)) },
+      subst (λ t. AreOpen F t os) (front o.at.name.«end» n names within) rest,
+    )
+
+-- a container whose name ends these bytes was pushed on the others
+pub open_pushed : (F : Frame) (names : List ℕ) (o : Opened) (old new : List Opened) → new ≡ old ++ o ∷ [] → o.at.name.«end» ≡ length names → IsOpen F names o
+    → AreOpen F names (reverse old) → AreOpen F names (reverse new)
+open_pushed F names o old new is last first rest =
+    subst (AreOpen F names) (sym (ap reverse is ∙ reverse-append old (o ∷ []))) (first, subst (λ t. AreOpen F t (reverse old)) (sym (take_all o.at.name.«end» names (omega (arith, last)))) rest)
+
+-- the next member of a container has its name behind that of the container
+pub open_behind : (F : Frame) (names names' : List ℕ) (o : Opened) (old new : List Opened) → take o.at.name.«end» names' ≡ take o.at.name.«end» names
+    → o.at.name.«end» ≤ length names' → AreOpen F names (o ∷ reverse old) → IsPutBack o old new → AreOpen F names' (reverse new)
+open_behind F names names' o old new same within (first, rest) (inl (last, is)) =
+    subst (AreOpen F names') (sym (ap reverse is)) (open_in_all F o.at.name.«end» names' (reverse old) (subst (λ t. AreOpen F t (reverse old)) (sym same) rest))
+open_behind F names names' o old new same within (first, rest) (inr (more, is)) =
+    subst (AreOpen F names') (sym (ap reverse is ∙ reverse-append old (behind_next o ∷ []))) (
+      record { head = first.head; few = first.few; within = more; name = (first.name.0, within) },
+      subst (λ t. AreOpen F t (reverse old)) (sym same) rest,
+    )
+
+module _ (style : Style) where
+  -- ---- all lines of a walk
+  -- a walk that is deep gives the tree
+  pub walked_tree : (name : List ℕ) (w : Value) → walked_lines style true name w ≡ tree_lines style name w
+  walked_tree name (leaf l) = refl
+  walked_tree name (array vs) = refl
+  walked_tree name (set vs) = refl
+  walked_tree name (dict ps) = refl
+
+  -- the line of the value comes first, if the walk is deep
+  pub walked_deep : (name : List ℕ) (w : Value) → walked_lines style true name w ≡ named_line style name w ∷ lines_inside style true name w
+  walked_deep name w = walked_tree name w ∙ tree_by_members style name w
+
+  -- it is the only line of a leaf
+  pub walked_leaf : (deep : Bool) (name : List ℕ) (w : Value) → IsLeaf w → walked_lines style deep name w ≡ named_line style name w ∷ lines_inside style deep name w
+  walked_leaf deep name (leaf l) is = refl
+  walked_leaf deep name _ is = absurd is
+
+  -- otherwise a container has no line
+  pub walked_members : (n : ℕ) (name : List ℕ) (w : Value) → HasCount n w → walked_lines style false name w ≡ lines_inside style false name w
+  walked_members n name (leaf l) has = absurd has
+  walked_members n name (array vs) has = refl
+  walked_members n name (set vs) has = refl
+  walked_members n name (dict ps) has = refl
+
+  -- and its members have one each
+  each_one : (ms : List (List ℕ × Value)) → length (lines_of_all style false ms) ≡ length ms
+  each_one [] = refl
+  each_one (m ∷ ms) = let rest = each_one ms in omega (arith, rest)
+
+  pub walked_few : (n : ℕ) (name : List ℕ) (w : Value) → HasCount n w → length (lines_inside style false name w) ≡ n
+  walked_few n name w has = each_one (named_members style name w) ∙ length-counted style n name w has
+
+  -- the line of a row is that of the value that it shows
+  pub row_named : (names name : List ℕ) (row : Row) (w : Value) → name_in names row.name ≡ name → row.shown ≡ face w
+      → row_line style names row ≡ named_line style name w
+  row_named names name row w same shown = ap (λ n. n ++ codes "\t" ++ face_line style row.shown ++ codes "\n") same
+      ∙ ap (λ f. name ++ codes "\t" ++ face_line style f ++ codes "\n") shown ∙ simp append_assoc
+
+  module _ (deep : Bool) where
+    -- the next member's lines, and those of the members after it
+    lines_next : (ms : List (List ℕ × Value)) (i : ℕ) (name : List ℕ) (m : Value) → slice_get ms i ≡ Some (name, m)
+        → lines_of_all style deep (drop i ms) ≡ lines_of style deep name m ++ lines_of_all style deep (drop (i + 1) ms)
+    lines_next ms i name m e = ap (lines_of_all style deep) (drop_at style ms i (name, m) e)
+
+    -- there are no lines after the last member
+    lines_end : (ms : List (List ℕ × Value)) (i : ℕ) → length ms ≤ i → lines_of_all style deep (drop i ms) ≡ []
+    lines_end ms i past = ap (lines_of_all style deep) (drop_all i ms past)
+
+    -- a leaf and an empty container have no lines inside
+    pub none_in_leaf : (name : List ℕ) (w : Value) → IsLeaf w → lines_inside style deep name w ≡ []
+    none_in_leaf name (leaf l) is = refl
+    none_in_leaf name _ is = absurd is
+
+    pub none_inside : (kind : Members) (n : ℕ) (name : List ℕ) (w : Value) → HasMembers kind n w → n ≡ 0 → lines_inside style deep name w ≡ []
+    none_inside kind n name w has none =
+        let count = length-named style kind n name w has in
+        lines_end (named_members style name w) 0 (omega (arith, count, none))
+
+    module _ (checked : CheckedFile) where
+      left_same : (names names' : List ℕ) (o : Opened) (os : List Opened) (left : List (List ℕ)) → take o.at.name.«end» names' ≡ take o.at.name.«end» names
+          → LinesLeftIn style deep checked names (o ∷ os) left → LinesLeftIn style deep checked names' (o ∷ os) left
+      left_same names names' o os left same (own, outer, opened, stack, is) = (
+        own,
+        outer,
+        subst (λ t. OwnLinesLeftIn style deep checked (drop o.at.name.start t) o own) (sym same) opened,
+        subst (λ t. LinesLeftIn style deep checked t os outer) (sym same) stack,
+        is,
+      )
+
+      left_in_all : (F : Frame) (n : ℕ) (names : List ℕ) (os : List Opened) (left : List (List ℕ)) → AreOpen F (take n names) os
+          → LinesLeftIn style deep checked (take n names) os left → LinesLeftIn style deep checked names os left
+      left_in_all F n names [] left are is = is
+      left_in_all F n names (o ∷ os) left (first, rest) is = left_same (take n names) names o os left (sym (front o.at.name.«end» n names first.name.1)) is
+
+      -- a container none of whose members had its row was pushed on the others
+      pub left_pushed : (names : List ℕ) (o : Opened) (old new : List Opened) (w : Value) (left : List (List ℕ)) → new ≡ old ++ o ∷ [] → o.at.name.«end» ≡ length names
+          → o.next ≡ 0 → IsHeadFor checked o.head w → HasMembers o.members o.count w → LinesLeftIn style deep checked names (reverse old) left
+          → LinesLeftIn style deep checked names (reverse new) (lines_inside style deep (name_in names o.at.name) w ++ left)
+      left_pushed names o old new w left is last none head has stands =
+          let ms = named_members style (name_in names o.at.name) w in
+          let own = lines_of_all style deep ms in
+          subst (λ os. LinesLeftIn style deep checked names os (own ++ left)) (sym (ap reverse is ∙ reverse-append old (o ∷ []))) (
+            own,
+            left,
+            (w, head, has, ap (λ i. lines_of_all style deep (drop i ms)) (sym none)),
+            subst (λ t. LinesLeftIn style deep checked t (reverse old) left) (sym (take_all o.at.name.«end» names (omega (arith, last)))) stands,
+            refl,
+          )
+
+      -- the next member's lines come first, and then everything after it
+      pub left_behind : (F : Frame) (names names' : List ℕ) (o : Opened) (old new : List Opened) (own outer left : List (List ℕ)) (w : Value) (name : List ℕ) (m : Value)
+          → AreOpen F names (o ∷ reverse old) → IsHeadFor checked o.head w → HasMembers o.members o.count w
+          → own ≡ lines_of_all style deep (drop o.next (named_members style (name_in names o.at.name) w))
+          → LinesLeftIn style deep checked (take o.at.name.«end» names) (reverse old) outer → left ≡ own ++ outer
+          → slice_get (named_members style (name_in names o.at.name) w) o.next ≡ Some (name, m) → take o.at.name.«end» names' ≡ take o.at.name.«end» names
+          → IsPutBack o old new → (rest : List (List ℕ)) × LinesLeftIn style deep checked names' (reverse new) rest × (left ≡ lines_of style deep name m ++ rest)
+      left_behind F names names' o old new own outer left w name m are head has own_is stack all there same (inl (last, is)) =
+          let ms = named_members style (name_in names o.at.name) w in
+          let count = length-named style o.members o.count (name_in names o.at.name) w has in
+          let only = lines_next ms o.next name m there ∙ ap (λ l. lines_of style deep name m ++ l) (lines_end ms (o.next + 1) (omega (arith, count, last))) ∙ append-nil (lines_of style deep name m) in (
+            outer,
+            subst (λ os. LinesLeftIn style deep checked names' os outer) (sym (ap reverse is)) (left_in_all F o.at.name.«end» names' (reverse old) outer
+            (subst (λ t. AreOpen F t (reverse old)) (sym same) are.1) (subst (λ t. LinesLeftIn style deep checked t (reverse old) outer) (sym same) stack)),
+            all ∙ ap (λ l. l ++ outer) (own_is ∙ only),
+          )
+      left_behind F names names' o old new own outer left w name m are head has own_is stack all there same (inr (more, is)) =
+          let ms = named_members style (name_in names o.at.name) w in
+          let behind = lines_of_all style deep (drop (o.next + 1) ms) in (
+            behind ++ outer,
+            subst (λ os. LinesLeftIn style deep checked names' os (behind ++ outer)) (sym (ap reverse is ∙ reverse-append old (behind_next o ∷ [])))
+            (left_same names names' (behind_next o) (reverse old) (behind ++ outer) same (behind, outer, (w, head, has, refl), stack, refl)),
+            all ∙ ap (λ l. l ++ outer) (own_is ∙ lines_next ms o.next name m there) ∙ append_assoc (lines_of style deep name m) behind outer,
+          )
+
+      -- ---- the beginning of a walk
+      -- what a walk that began with this row, or with none, still has to give
+      abbrev pub Begins : List ℕ → List Opened → ℕ → List ℕ → Value → Option Row → Type 0
+      Begins names' os room names w found = (rest : List (List ℕ)) × LinesLeftIn style deep checked names' os rest
+          × (walked_lines style deep names w ≡ row_lines style names' found ++ rest) × (length rest ≤ room)
+
+      pub begins_deep : (names names' : List ℕ) (os : List Opened) (room : ℕ) (w : Value) (row : Row) → deep ≡ true
+          → (deep ≡ true → length (walked_lines style true names w) ≤ room) → row_line style names' row ≡ named_line style names w
+          → LinesLeftIn style deep checked names' os (lines_inside style deep names w ++ []) → Begins names' os room names w (Some row)
+      begins_deep names names' os room w row is few line stands =
+          let all = ap (λ d. walked_lines style d names w) is ∙ walked_deep names w ∙ ap (λ d. named_line style names w ∷ lines_inside style d names w) (sym is) in
+          let long = ap length all in
+          let same = ap (λ d. length (walked_lines style d names w)) is in
+          let small = few is in (
+            lines_inside style deep names w ++ [],
+            stands,
+            all ∙ ap (λ l. l ∷ lines_inside style deep names w) (sym line) ∙ ap (λ ls. row_line style names' row ∷ ls) (sym (append-nil (lines_inside style deep names w))),
+            omega (arith, long, same, small, length-append (lines_inside style deep names w) []),
+          )
+
+      pub begins_leaf : (names names' : List ℕ) (os : List Opened) (room : ℕ) (w : Value) (row : Row) → IsLeaf w → row_line style names' row ≡ named_line style names w
+          → LinesLeftIn style deep checked names' os (lines_inside style deep names w ++ []) → Begins names' os room names w (Some row)
+      begins_leaf names names' os room w row is line stands =
+          let none = none_in_leaf names w is in
+          let rest = ap (λ l. l ++ []) none in (
+            [],
+            subst (LinesLeftIn style deep checked names' os) rest stands,
+            walked_leaf deep names w is ∙ ap (λ ls. named_line style names w ∷ ls) none ∙ ap (λ l. l ∷ []) (sym line),
+            omega arith,
+          )
+
+      pub begins_members : (names names' : List ℕ) (os : List Opened) (n : ℕ) (w : Value) → deep ≡ false → HasCount n w
+          → LinesLeftIn style deep checked names' os (lines_inside style deep names w ++ []) → Begins names' os n names w None
+      begins_members names names' os n w is has stands =
+          let all = ap (λ d. walked_lines style d names w) is ∙ walked_members n names w has ∙ ap (λ d. lines_inside style d names w) (sym is) in
+          let count = ap (λ d. length (lines_inside style d names w)) is ∙ walked_few n names w has in (
+            lines_inside style deep names w ++ [],
+            stands,
+            all ∙ sym (append-nil (lines_inside style deep names w)),
+            omega (arith, count, length-append (lines_inside style deep names w) []),
+          )
