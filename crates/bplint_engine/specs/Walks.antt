@@ -1,5 +1,5 @@
 -- The state of a walk: a stack of containers, and the lines of the rows that it still has to give. Source: profile.
-use Rattle.std.specs.Prelude.{◌≡◌, ◌⊎◌, ◌∷◌, ◌++◌, ℕ, ◌+◌, ◌*◌, ◌^◌, ◌<◌, Bool, false, if◌then◌else◌, List, [], Option, None, Some, codes, drop, slice_get, take, ⊤}
+use Rattle.std.specs.Prelude.{◌≡◌, ◌⊎◌, ◌∷◌, ◌++◌, ℕ, ◌+◌, ◌*◌, ◌^◌, ◌<◌, ◌≤◌, Bool, false, if◌then◌else◌, IfSome, List, [], Option, None, Some, codes, drop, length, reverse, slice_get, take, ⊤}
 use Rattle.std.specs.List.{flat_map}
 use Rattle.bplist_objects.specs.declared.frame.Frame.{Frame}
 use Rattle.bplist_objects.specs.Safe.{IsSafeHead}
@@ -35,7 +35,17 @@ AreOpen F names (o ∷ os) = IsOpen F names o × AreOpen F (take o.at.name.«end
 pub record IsKept (old new : Walk) : Type 0 where
   pub stack : new.stack.items ≡ old.stack.items
   pub manner : new.manner ≡ old.manner
+  pub first : new.first ≡ old.first
   pub room : new.room ≡ old.room
+
+-- the containers of the walk can be read, and the name of the row that it begins with is in its bytes
+pub record IsReady (F : Frame) (walk : Walk) : Type 0 where
+  pub open : AreOpen F walk.names (reverse walk.stack.items)
+  pub name : IfSome walk.first (λ row. IsNameIn walk.names row.name)
+
+-- how many rows the walk may still give
+abbrev pub most_rows : Walk → ℕ
+most_rows walk = elim walk.first [ None ↦ walk.room | Some row ↦ walk.room + 1 ]
 
 -- rows come in the order of the file, with names that have keys as lines in this style show them
 abbrev pub IsInOrder : Style → Manner → Type 0
@@ -96,6 +106,14 @@ module _ (style : Style) where
 
       abbrev pub LinesLeftIn : List ℕ → List Opened → List (List ℕ) → Type 0
       LinesLeftIn = LinesLeft checked.source.octets checked.frame checked.certificate.heights
+
+  -- `left` are the lines of all rows that the walk still has to give
+  pub record RowsLeft (checked : CheckedFile) (walk : Walk) (left : List (List ℕ)) : Type 0 where
+    pub order : IsInOrder style walk.manner
+    pub rest : List (List ℕ)
+    pub stands : LinesLeftIn walk.manner.deep checked walk.names (reverse walk.stack.items) rest
+    pub few : length rest ≤ walk.room
+    pub is : left ≡ row_lines walk.names walk.first ++ rest
 
   -- the node holds member i of the value with this name, and has the name of that member
   abbrev pub IsMemberAt : CheckedFile → Value → List ℕ → ℕ → List ℕ → Named → Type 0

@@ -74,4 +74,4 @@ pub use run::{Command, Verb, run_on, run_over, undo_hex};
 pub use show::{show_on, show_text_on};
 pub use names::Name;
 pub use tree::{Branch, count_within, list_all_on};
-pub use walk::{Keys, Manner, Row, Walk};
+pub use walk::{Keys, Manner, Row, Start, Walk};

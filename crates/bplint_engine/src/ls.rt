@@ -12,7 +12,7 @@ use crate::get::path_in;
 use crate::output::send_output;
 use crate::print::missing_output;
 use crate::row_lines::{RowLines, write_rows};
-use crate::walk::{Keys, Manner, Walk};
+use crate::walk::{Keys, Manner, Start, Walk};
 use bplint_lines::{RunFault, Said, Style};
 use bplist_cert::Checked;
 use bplist_cursor::{Found, Node, Path, locate};
@@ -112,6 +112,12 @@ fn list_node<S: Source, W: Write>(
         deep: false,
         sorted: false,
     };
-    let walk = Walk::new(alloc, title.path, manner, 0)?;
-    write_rows(checked, node, walk, RowLines::new(alloc, title.style), out)
+    let start = Start {
+        node,
+        path: title.path,
+        manner,
+        room: 0,
+    };
+    let walk = Walk::begin(alloc, checked, start)?;
+    write_rows(checked, walk, RowLines::new(alloc, title.style), out)
 }

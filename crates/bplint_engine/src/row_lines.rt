@@ -1,17 +1,16 @@
 //! The lines of a walk, on their way to a writer.
 
-ghost use Rattle.std.specs.Prelude.{◌≡◌, ◌++◌, ◌≤◌, [], IsTrue, None, OnOk, codes, length, true};
-ghost use Rattle.bplist_cursor.specs.Found.{IsHeld};
+ghost use Rattle.std.specs.Prelude.{◌≡◌, ◌++◌, IsTrue, List, None, OnOk, codes, ℕ};
 ghost use Rattle.bplint_engine.specs.Names.{IsNameIn};
-ghost use Rattle.bplint_engine.specs.Prelude.{OnlyReadsFile, Value, face_line, read_failed};
+ghost use Rattle.bplint_engine.specs.Prelude.{OnlyReadsFile, face_line, read_failed};
 ghost use Rattle.bplint_engine.specs.Streams.{Puts, SendsAll, begun};
 ghost use Rattle.bplint_engine.specs.Tree.{joined_lines};
-ghost use Rattle.bplint_engine.specs.Walks.{IsInOrder, row_line, walked_lines};
+ghost use Rattle.bplint_engine.specs.Walks.{IsReady, RowsLeft, row_line};
 
 use crate::walk::{Row, Walk};
 use bplint_lines::{RunFault, Style, add_face};
 use bplist_cert::Checked;
-use bplist_cursor::{Face, Node};
+use bplist_cursor::Face;
 use bplist_octets::{Sink, Source};
 use std::alloc::{AllocError, Global};
 use std::io::Write;
@@ -54,23 +53,21 @@ impl RowLines {
     }
 }
 
-/// Writes the lines of all rows of a walk that begins at this node.
+/// Writes the lines of all rows of a walk.
 pub(crate) fn write_rows<S: Source, W: Write>(
     checked: &mut Checked<S>,
-    top: Node,
     walk: Walk,
     lines: RowLines,
     out: &mut W,
 ) -> Result<(), RunFault>
-    requires { (walk.stack.items ≡ []) × (lines.sink ≡ begun) }
+    requires ready { IsReady checked.old.frame walk }
+    requires begun { lines.sink ≡ begun }
     ensures reads { OnlyReadsFile (read_failed result) checked.old checked.new }
-    ensures exact { IsTrue checked.old.source.honest → IsInOrder lines.style walk.manner → (w : Value)
-        → IsHeld checked.old top.object.0 w
-        → (walk.manner.deep ≡ true → length (walked_lines lines.style true walk.names w) ≤ walk.room)
-        → SendsAll (W.contents out.old) (W.contents out.new) (joined_lines (walked_lines lines.style walk.manner.deep walk.names w)) result }
+    ensures exact { IsTrue checked.old.source.honest → (left : List (List ℕ)) → RowsLeft lines.style checked.old walk left
+        → SendsAll (W.contents out.old) (W.contents out.new) (joined_lines left) result }
 {
     let (mut walk, mut lines) = (walk, lines);
-    put_rows(checked, top, &mut walk, &mut lines, out)?;
+    put_rows(checked, &mut walk, &mut lines, out)?;
     lines.sink.flush(out)?;
     Ok(())
 }
@@ -78,22 +75,15 @@ pub(crate) fn write_rows<S: Source, W: Write>(
 /// Puts the lines of all rows of a walk into the sink.
 fn put_rows<S: Source, W: Write>(
     checked: &mut Checked<S>,
-    top: Node,
     walk: &mut Walk,
     lines: &mut RowLines,
     out: &mut W,
 ) -> Result<(), RunFault>
-    requires { walk.old.stack.items ≡ [] }
+    requires { IsReady checked.old.frame walk.old }
     ensures reads { OnlyReadsFile (read_failed result) checked.old checked.new }
-    ensures exact { IsTrue checked.old.source.honest → IsInOrder lines.old.style walk.old.manner → (w : Value)
-        → IsHeld checked.old top.object.0 w
-        → (walk.old.manner.deep ≡ true → length (walked_lines lines.old.style true walk.old.names w) ≤ walk.old.room)
-        → Puts (W.contents out.old) (W.contents out.new) lines.old.sink lines.new.sink
-        (joined_lines (walked_lines lines.old.style walk.old.manner.deep walk.old.names w)) result }
+    ensures exact { IsTrue checked.old.source.honest → (left : List (List ℕ)) → RowsLeft lines.old.style checked.old walk.old left
+        → Puts (W.contents out.old) (W.contents out.new) lines.old.sink lines.new.sink (joined_lines left) result }
 {
-    if let Some(row) = walk.begin(checked, top)? {
-        lines.put(walk, &row, out)?;
-    }
     while let Some(row) = walk.next(checked)? {
         lines.put(walk, &row, out)?;
     }

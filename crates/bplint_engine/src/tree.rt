@@ -12,7 +12,7 @@ use crate::get::path_in;
 use crate::output::send_output;
 use crate::print::missing_output;
 use crate::row_lines::{RowLines, write_rows};
-use crate::walk::{Keys, Manner, Walk};
+use crate::walk::{Keys, Manner, Start, Walk};
 use bplint_lines::{RunFault, Said, Style};
 use bplist_cert::Checked;
 use bplist_cursor::{Found, Node, Path, count_nodes, locate};
@@ -109,8 +109,14 @@ fn tree_node<S: Source, W: Write>(
         deep: true,
         sorted: false,
     };
-    let walk = Walk::new(alloc, branch.path, manner, nodes)?;
-    write_rows(checked, node, walk, RowLines::new(alloc, branch.style), out)?;
+    let start = Start {
+        node,
+        path: branch.path,
+        manner,
+        room: nodes,
+    };
+    let walk = Walk::begin(alloc, checked, start)?;
+    write_rows(checked, walk, RowLines::new(alloc, branch.style), out)?;
     Ok(Said::All)
 }
 

@@ -8,8 +8,8 @@ ghost use Rattle.bplist_cursor.specs.Found.{IsHeld};
 ghost use Rattle.bplint_lines.specs.MemberNames.{bracketed, key_name};
 ghost use Rattle.bplint_engine.specs.Names.{Extends, IsNameIn, name_in};
 ghost use Rattle.bplint_engine.specs.Prelude.{HasMembers, HasRoom, IsHeadFor, OnlyReadsFile, Value, face as face_of, leaf, text};
-ghost use Rattle.bplint_engine.specs.Walks.{AreOpen, IsInOrder, IsKept, IsMemberAt, IsOpen, IsPutBack, LinesLeftIn, lines_inside};
-ghost use Rattle.bplint_engine.specs.Walks.{row_line, row_lines, walked_lines};
+ghost use Rattle.bplint_engine.specs.Walks.{AreOpen, IsInOrder, IsKept, IsMemberAt, IsOpen, IsPutBack, IsReady, LinesLeftIn};
+ghost use Rattle.bplint_engine.specs.Walks.{RowsLeft, lines_inside, most_rows, row_line, walked_lines};
 ghost use Rattle.bplint_engine.specs.declared.walk.Keys.TheVariants.{Shown};
 
 use crate::members::{Members, count_of, key_text, listed_pair, member_node, members_of};
@@ -76,6 +76,20 @@ struct Opened {
     at: Named,
 }
 
+/// Where a walk begins, and how it goes on.
+#[derive(Clone, Copy, Drop)]
+pub struct Start<'a> {
+    /// The node of the value.
+    pub node: Node,
+    /// The path text of the value.
+    pub path: &'a str,
+    /// Which rows the walk gives.
+    pub manner: Manner,
+    /// How many rows may come after the first, if the walk is deep. Otherwise the number of members bounds that of
+    /// rows.
+    pub room: u64,
+}
+
 /// A walk over a value in a checked file.
 #[derive(Drop)]
 pub struct Walk {
@@ -85,24 +99,53 @@ pub struct Walk {
     stack: Vec<Opened>,
     /// Their names, and that of the last row.
     names: Names,
-    /// How many more rows may come.
+    /// The row of the value itself, until it is given. `None` if it has none.
+    first: Option<Row>,
+    /// How many more rows may come after it.
     room: u64,
 }
 
 impl Walk {
-    /// A walk that has not begun, over a value with this path text. A deep walk gives at most `room` rows after the
-    /// first; otherwise the number of members bounds that of rows.
-    pub fn new(alloc: Global, path: &str, manner: Manner, room: u64) -> Result<Walk, AllocError>
-        ensures { IfOk result (λ walk. (walk.stack.items ≡ []) × (walk.names ≡ path.now) × (walk.manner ≡ manner)
-            × (walk.room ≡ room)) }
+    /// Begins a walk.
+    pub fn begin<S: Source>(
+        alloc: Global,
+        checked: &mut Checked<S>,
+        start: Start<'_>,
+    ) -> Result<Walk, CursorFault>
+        ensures reads { OnlyReadsFile (cursor_read result) checked.old checked.new }
+        ensures ready { IfOk result (λ walk. IsReady checked.old.frame walk) }
+        ensures exact { IsTrue checked.old.source.honest → (style : Style) → IsInOrder style start.entry.manner
+            → (w : Value) → IsHeld checked.old start.entry.node.object.0 w
+            → (start.entry.manner.deep ≡ true
+            → length (walked_lines style true start.entry.path.now w) ≤ start.entry.room + 1)
+            → GivesCursor (λ walk. RowsLeft style checked.old walk
+            (walked_lines style start.entry.manner.deep start.entry.path.now w)) result }
     {
-        Ok(Walk {
+        let names = Names::new(alloc, start.path)?;
+        let at = Named {
+            node: start.node,
+            name: names.whole(),
+            depth: 0,
+        };
+        let mut walk = Walk {
             alloc,
-            manner,
+            manner: start.manner,
             stack: Vec::new(alloc),
-            names: Names::new(alloc, path)?,
-            room,
-        })
+            names,
+            first: None,
+            room: start.room,
+        };
+        let row = walk.enter(checked, at)?;
+        if walk.manner.deep {
+            walk.first = Some(row);
+            return Ok(walk);
+        }
+        let Some(count) = count_of(&row.shown) else {
+            walk.first = Some(row);
+            return Ok(walk);
+        };
+        walk.room = count;
+        Ok(walk)
     }
 
     /// Returns the text of the last row's name.
@@ -118,48 +161,34 @@ impl Walk {
         self.names.own(row.name)
     }
 
-    /// Begins at this node. Returns its row, unless it is a container and only its members have rows.
-    pub fn begin<S: Source>(
-        &mut self,
-        checked: &mut Checked<S>,
-        top: Node,
-    ) -> Result<Option<Row>, CursorFault>
-        requires { self.old.stack.items ≡ [] }
-        ensures reads { OnlyReadsFile (cursor_read result) checked.old checked.new }
-        ensures open { OnOk result (AreOpen checked.old.frame self.new.names (reverse self.new.stack.items)) }
-        ensures kept { self.new.manner ≡ self.old.manner }
-        ensures name { IfOk result (λ found. IfSome found (λ row. IsNameIn self.new.names row.name)) }
-        ensures exact { IsTrue checked.old.source.honest → (style : Style) → IsInOrder style self.old.manner
-            → (w : Value) → IsHeld checked.old top.object.0 w
-            → (self.old.manner.deep ≡ true → length (walked_lines style true self.old.names w) ≤ self.old.room)
-            → GivesCursor (λ found. (rest : List (List ℕ))
-            × LinesLeftIn style self.old.manner.deep checked.old self.new.names (reverse self.new.stack.items) rest
-            × (walked_lines style self.old.manner.deep self.old.names w ≡ row_lines style self.new.names found ++ rest)
-            × (length rest ≤ self.new.room)) result }
-    {
-        let at = Named {
-            node: top,
-            name: self.names.whole(),
-            depth: 0,
-        };
-        let row = self.enter(checked, at)?;
-        if self.manner.deep {
-            return Ok(Some(row));
-        }
-        let Some(count) = count_of(&row.shown) else {
-            return Ok(Some(row));
-        };
-        self.room = count;
-        Ok(None)
-    }
-
     /// Returns the next row, or `None` after the last one. `Changed` also means that there are more rows than there
     /// was room for.
     pub fn next<S: Source>(&mut self, checked: &mut Checked<S>) -> Result<Option<Row>, CursorFault>
+        requires { IsReady checked.old.frame self.old }
+        ensures reads { OnlyReadsFile (cursor_read result) checked.old checked.new }
+        ensures ready { OnOk result (IsReady checked.old.frame self.new) }
+        ensures falls { IfOk result (λ found. IfSome found (λ _. most_rows self.new < most_rows self.old)) }
+        ensures name { IfOk result (λ found. IfSome found (λ row. IsNameIn self.new.names row.name)) }
+        ensures exact { IsTrue checked.old.source.honest → (style : Style) (left : List (List ℕ))
+            → RowsLeft style checked.old self.old left
+            → GivesCursor (λ found. MatchOption found (left ≡ []) (λ row. (rest : List (List ℕ))
+            × RowsLeft style checked.old self.new rest × (left ≡ row_line style self.new.names row ∷ rest))) result }
+    {
+        if let Some(row) = self.first.take() {
+            return Ok(Some(row));
+        }
+        self.next_member(checked)
+    }
+
+    /// Returns the row of the next member.
+    fn next_member<S: Source>(
+        &mut self,
+        checked: &mut Checked<S>,
+    ) -> Result<Option<Row>, CursorFault>
         requires { AreOpen checked.old.frame self.old.names (reverse self.old.stack.items) }
         ensures reads { OnlyReadsFile (cursor_read result) checked.old checked.new }
         ensures open { OnOk result (AreOpen checked.old.frame self.new.names (reverse self.new.stack.items)) }
-        ensures kept { self.new.manner ≡ self.old.manner }
+        ensures kept { (self.new.manner ≡ self.old.manner) × (self.new.first ≡ self.old.first) }
         ensures falls { IfOk result (λ found. IfSome found (λ _. self.new.room + 1 ≡ self.old.room)) }
         ensures name { IfOk result (λ found. IfSome found (λ row. IsNameIn self.new.names row.name)) }
         ensures exact { IsTrue checked.old.source.honest → (style : Style) → IsInOrder style self.old.manner
@@ -190,7 +219,7 @@ impl Walk {
         requires { opened.now.next < opened.now.count }
         ensures stack { OnOk result (IsPutBack opened.now self.old.stack.items self.new.stack.items) }
         ensures kept { (self.new.names ≡ self.old.names) × (self.new.manner ≡ self.old.manner)
-            × (self.new.room ≡ self.old.room) }
+            × (self.new.first ≡ self.old.first) × (self.new.room ≡ self.old.room) }
     {
         let next = opened.next + 1;
         if next == opened.count {
@@ -231,7 +260,7 @@ impl Walk {
         ensures reads { OnlyReadsFile (cursor_read result) checked.old checked.new }
         ensures open { OnOk result (AreOpen checked.old.frame self.new.names (reverse self.new.stack.items)) }
         ensures kept { (self.new.names ≡ self.old.names) × (self.new.manner ≡ self.old.manner)
-            × (self.new.room ≡ self.old.room) }
+            × (self.new.first ≡ self.old.first) × (self.new.room ≡ self.old.room) }
         ensures name { IfOk result (λ row. row.name ≡ at.name) }
         ensures exact { IsTrue checked.old.source.honest → (style : Style) (deep : Bool) → (w : Value)
             → IsHeld checked.old at.node.object.0 w → (left : List (List ℕ))

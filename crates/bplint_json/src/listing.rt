@@ -1,15 +1,16 @@
 //! The commands `ls --json` and `ls --objects`: list the members of a value, or the value and everything inside it,
 //! with the object of each value and its place.
 
-ghost use Rattle.std.specs.Prelude.{◌≡◌, [], IfOk, None};
+ghost use Rattle.std.specs.Prelude.{◌≡◌, IfOk, None};
 ghost use Rattle.bplist_cursor.specs.Causes.{cursor_read};
 ghost use Rattle.bplist_cursor.specs.Kept.{OnlyReadsFile};
 ghost use Rattle.bplint_engine.specs.Names.{IsNameIn};
+ghost use Rattle.bplint_engine.specs.Walks.{IsReady};
 ghost use Rattle.bplint_lines.specs.Answers.{read_failed};
 
 use crate::columns::{columns_of, missing_columns};
 use crate::rows::{Named, Site, missing_row, row_of, with_key};
-use bplint_engine::{Keys, Manner, Row, Walk, checked_by_lint, count_within};
+use bplint_engine::{Keys, Manner, Row, Start, Walk, checked_by_lint, count_within};
 use bplint_lines::{RunFault, Said, Style};
 use bplist_cert::Checked;
 use bplist_cursor::{CursorFault, Face, Found, Node, Path, Why, face, locate};
@@ -84,7 +85,7 @@ fn list_path<S: Source, W: Write>(
     let said = match locate(checked, steps)? {
         Found::At(node) => {
             let walk = walk_from(rows.alloc, checked, node, listed)?;
-            put_rows(checked, node, walk, rows)?;
+            put_rows(checked, walk, rows)?;
             Said::All
         }
         Found::Missing { step, why } => {
@@ -103,7 +104,7 @@ fn walk_from<S: Source>(
     node: Node,
     listed: &Listed<'_>,
 ) -> Result<Walk, RunFault>
-    ensures { IfOk result (λ walk. walk.stack.items ≡ []) }
+    ensures { IfOk result (λ walk. IsReady checked.new.frame walk) }
 {
     let keys = match listed.form {
         Form::Json => Keys::Whole,
@@ -118,22 +119,24 @@ fn walk_from<S: Source>(
         deep,
         sorted: false,
     };
-    Ok(Walk::new(alloc, listed.path, manner, room)?)
+    let start = Start {
+        node,
+        path: listed.path,
+        manner,
+        room,
+    };
+    Ok(Walk::begin(alloc, checked, start)?)
 }
 
-/// Puts the lines of all rows of a walk that begins at this node.
+/// Puts the lines of all rows of a walk.
 fn put_rows<S: Source, W: Write>(
     checked: &mut Checked<S>,
-    top: Node,
     walk: Walk,
     rows: &mut RowLines<'_, W>,
 ) -> Result<(), RunFault>
-    requires { walk.stack.items ≡ [] }
+    requires { IsReady checked.old.frame walk }
 {
     let mut walk = walk;
-    if let Some(row) = walk.begin(checked, top)? {
-        rows.put(checked, &walk, &row)?;
-    }
     while let Some(row) = walk.next(checked)? {
         rows.put(checked, &walk, &row)?;
     }
