@@ -1,6 +1,6 @@
 -- The lines of a walk that were put into a sink, row by row.
-use Rattle.std.proofs.Common.{◌≡◌, ◌≤◌, ◌++◌, ◌∷◌, [], ◌∙◌, ℕ, List, length, Ok, ap, append_assoc, append-nil, refl, subst, sym}
-use Rattle.std.specs.Prelude.{Bool, false, Option}
+use Rattle.std.proofs.Common.{◌≡◌, ◌++◌, ◌∷◌, [], ◌∙◌, ℕ, List, Ok, ap, append_assoc, append-nil, refl, subst, sym}
+use Rattle.std.specs.Prelude.{false, Option}
 use Rattle.std.specs.List.{flat_map}
 use Rattle.std.proofs.lemmas.Grind.{flat_map-append}
 use Rattle.bplist_octets.specs.Sending.{Sending, Takes}
@@ -10,11 +10,11 @@ use Rattle.bplist_cert.specs.CheckedFile.{CheckedFile}
 use Rattle.bplint_lines.specs.declared.fault.RunFault.{RunFault}
 use Rattle.bplint_lines.specs.declared.texts.Style.{Style}
 use Rattle.bplint_lines.specs.Faults.{IsExcused}
-use Rattle.bplint_engine.specs.declared.walk.Opened.{Opened}
+use Rattle.bplint_engine.specs.declared.walk.Walk.{Walk}
 use Rattle.bplint_engine.specs.Ls.{listed, named_line}
 use Rattle.bplint_engine.specs.Streams.{Fails}
 use Rattle.bplint_engine.specs.Tree.{joined_lines, named_members}
-use Rattle.bplint_engine.specs.Walks.{LinesLeftIn, lines_of_all, walked_lines}
+use Rattle.bplint_engine.specs.Walks.{RowsLeftIn, lines_of_all, walked_lines}
 use Rattle.bplint_engine.proofs.Puts.{fails_behind, stopped_behind}
 use Rattle.bplint_engine.proofs.TreeLines.{listed_by_members}
 
@@ -39,32 +39,29 @@ module _ (style : Style) where
   walked_listed name (set vs) = joined_each (named_members style name (set vs)) ∙ sym (listed_by_members style name (set vs) (λ is. is))
   walked_listed name (dict ps) = joined_each (named_members style name (dict ps)) ∙ sym (listed_by_members style name (dict ps) (λ is. is))
 
-  module _ (deep : Bool) (checked : CheckedFile) where
-    -- a first part of these lines was put into the sink, and a walk with these names, stack and room still gives the rest
-    pub record PutsOn (old new : Option (List ℕ)) (before after : Sending) (names : List ℕ) (os : List Opened) (room : ℕ) (lines : List (List ℕ)) : Type 0 where
+  module _ (checked : CheckedFile) where
+    -- a first part of these lines was put into the sink, and the walk still gives the rest
+    pub record PutsOn (old new : Option (List ℕ)) (before after : Sending) (walk : Walk) (lines : List (List ℕ)) : Type 0 where
       pub put : List (List ℕ)
       pub rest : List (List ℕ)
       pub takes : Takes old new before after (joined_lines put)
-      pub stands : LinesLeftIn style deep checked names os rest
-      pub few : length rest ≤ room
+      pub stands : RowsLeftIn style checked walk rest
       pub is : lines ≡ put ++ rest
 
     -- nothing was put in yet
-    pub puts_none : (now : Option (List ℕ)) (s : Sending) (names : List ℕ) (os : List Opened) (room : ℕ) (lines rest : List (List ℕ))
-        → LinesLeftIn style deep checked names os rest → length rest ≤ room → lines ≡ rest → PutsOn now now s s names os room lines
-    puts_none now s names os room lines rest stands few is = record { put = []; rest = rest; takes = takes_nothing now s; stands = stands; few = few; is = is }
+    pub puts_none : (now : Option (List ℕ)) (s : Sending) (walk : Walk) (lines : List (List ℕ)) → RowsLeftIn style checked walk lines → PutsOn now now s s walk lines
+    puts_none now s walk lines stands = record { put = []; rest = lines; takes = takes_nothing now s; stands = stands; is = refl }
 
-    module _ {old mid new : Option (List ℕ)} {before after : Sending} {names : List ℕ} {os : List Opened} {room : ℕ} {lines : List (List ℕ)} (p : PutsOn old mid before after names os room lines) where
+    module _ {old mid new : Option (List ℕ)} {before after : Sending} {walk : Walk} {lines : List (List ℕ)} (p : PutsOn old mid before after walk lines) where
       -- the next line was put in
-      pub puts_next : (later : Sending) (names' : List ℕ) (os' : List Opened) (room' : ℕ) (line : List ℕ) (rest : List (List ℕ)) → p.rest ≡ line ∷ rest
-          → Takes mid new after later line → LinesLeftIn style deep checked names' os' rest → length rest ≤ room' → PutsOn old new before later names' os' room' lines
-      puts_next later names' os' room' line rest next takes stands few = record {
+      pub puts_next : (later : Sending) (next : Walk) (line : List ℕ) (rest : List (List ℕ)) → p.rest ≡ line ∷ rest → Takes mid new after later line
+          → RowsLeftIn style checked next rest → PutsOn old new before later next lines
+      puts_next later next line rest first takes stands = record {
         put = p.put ++ line ∷ [];
         rest = rest;
         takes = subst (Takes old new before later) (sym (joined_more p.put (line ∷ []) ∙ ap (λ l. joined_lines p.put ++ l) (joined_one line))) (takes_more p.takes takes);
         stands = stands;
-        few = few;
-        is = p.is ∙ ap (λ l. p.put ++ l) next ∙ sym (append_assoc p.put (line ∷ []) rest);
+        is = p.is ∙ ap (λ l. p.put ++ l) first ∙ sym (append_assoc p.put (line ∷ []) rest);
       }
 
       -- the next line was not put in

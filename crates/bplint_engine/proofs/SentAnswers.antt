@@ -27,7 +27,7 @@ use Rattle.bplint_engine.specs.Ls.{PathListed, listed}
 use Rattle.bplint_engine.specs.Output.{Answers, IsRefusal}
 use Rattle.bplint_engine.specs.Raw.{IsRawless, LeadsToRawless, LeavesRawBy, PathShowsRaw, ShowsRaw}
 use Rattle.bplint_engine.specs.Streams.{Fails, begun}
-use Rattle.bplint_engine.specs.Tree.{ListsAll, PathLists}
+use Rattle.bplint_engine.specs.Tree.{ListsAll, NodeLists, PathLists, RefusesNodes}
 use Rattle.bplint_engine.proofs.PathAnswers.{IsThere, IsYes}
 use Rattle.bplint_engine.proofs.EqualAnswers.{same_gives}
 use Rattle.bplint_engine.proofs.LeftBytes.{kept_self, led_as, said_within}
@@ -49,6 +49,20 @@ excused_leaves Says old _ h = absurd h
 
 pub cursor_leaves : (Says : Answer → Type 0) (old : Option (List ℕ)) (fault : CursorFault) → IsCursorExcused fault → LeavesSomeBy Says old old (Err (cursor_fault fault))
 cursor_leaves Says old fault h = excused_leaves Says old (cursor_fault fault) (cursor_excused fault h)
+
+-- a failed read or refused memory is why nodes were not counted
+pub excused_refuses : (w : Value) (limit : ℕ) (fault : RunFault) → IsExcused fault → RefusesNodes w limit fault
+excused_refuses w limit (faults.Read _) h = tt
+excused_refuses w limit faults.Memory h = tt
+excused_refuses w limit _ h = absurd h
+
+-- nodes were not counted, and nothing was written
+pub uncounted : (style : Style) (limit : ℕ) (name : List ℕ) (w : Value) (old : Option (List ℕ)) (fault : RunFault) → RefusesNodes w limit fault
+    → LeavesSomeBy (NodeLists style limit name w) old old (Err fault)
+uncounted style limit name w old faults.TooLong h = (h, kept_self old)
+uncounted style limit name w old (faults.Read _) h = (tt, inl (kept_self old))
+uncounted style limit name w old faults.Memory h = (tt, inl (kept_self old))
+uncounted style limit name w old _ h = absurd h
 
 -- the same under another description of the answer
 pub some_as : (P Q : Answer → Type 0) (old new : Option (List ℕ)) (result : Result Said RunFault) → ((a : Answer) → P a → Q a)

@@ -1,20 +1,24 @@
 -- What a walk still has to give, step by step.
-use Rattle.std.proofs.Common.{◌≡◌, ◌≤◌, ◌<◌, ◌+◌, ◌++◌, ◌∷◌, [], ◌∙◌, ℕ, List, drop, length, take, Some, Bool, true, false, inl, inr, ap, append_assoc, append-nil, arith, codes, None, refl, subst, sym}
-use Rattle.std.specs.Prelude.{Option, reverse, slice_get}
+use Rattle.std.proofs.Common.{◌≡◌, ◌≤◌, ◌<◌, ◌+◌, ◌++◌, ◌∷◌, [], ◌∙◌, ℕ, zero, suc, List, drop, length, take, Some, Result, Ok, Err, Bool, true, false, inl, inr, ap, append_assoc, append-nil, arith, codes, None, refl, subst, sym}
+use Rattle.std.specs.Prelude.{IfOk, IfSome, MatchOption, Option, reverse, slice_get}
 use Rattle.std.proofs.lemmas.List.{drop_all, length-append, length-take, reverse-append, take_all, take-take}
 use Rattle.bplist_objects.specs.declared.frame.Frame.{Frame}
 use Rattle.bplist_objects.specs.Value.{Value, leaf, array, set, dict}
 use Rattle.bplist_cert.specs.CheckedFile.{CheckedFile}
+use Rattle.bplist_cursor.specs.declared.faults.CursorFault.{CursorFault}
+use Rattle.bplist_cursor.specs.Causes.{GivesCursor}
 use Rattle.bplist_cursor.specs.Replies.{face}
 use Rattle.bplint_lines.specs.declared.texts.Style.{Style}
 use Rattle.bplint_lines.specs.OutputLines.{face_line}
 use Rattle.bplint_engine.specs.declared.members.Members.{Members}
 use Rattle.bplint_engine.specs.declared.walk.Opened.{Opened}
+use Rattle.bplint_engine.specs.declared.walk.Manner.{Manner}
 use Rattle.bplint_engine.specs.declared.walk.Row.{Row}
+use Rattle.bplint_engine.specs.declared.walk.Walk.{Walk}
 use Rattle.bplint_engine.specs.Ls.{HasCount, HasMembers, IsHeadFor, IsLeaf, named_line}
 use Rattle.bplint_engine.specs.Names.{name_in}
 use Rattle.bplint_engine.specs.Tree.{named_members, tree_lines}
-use Rattle.bplint_engine.specs.Walks.{AreOpen, IsOpen, IsPutBack, LinesLeftIn, OwnLinesLeftIn, behind_next, lines_inside, lines_of, lines_of_all, row_line, row_lines, walked_lines}
+use Rattle.bplint_engine.specs.Walks.{AreOpen, IsOpen, IsInOrder, IsPutBack, LinesLeftIn, OwnLinesLeftIn, RowsLeftIn, behind_next, lines_inside, lines_of, lines_of_all, row_line, row_lines, walked_lines}
 use Rattle.bplint_engine.proofs.TreeLines.{drop_at, length-counted, length-named, tree_by_members}
 
 -- a first part of a first part
@@ -88,6 +92,24 @@ module _ (style : Style) where
   row_named names name row w same shown = ap (λ n. n ++ codes "\t" ++ face_line style row.shown ++ codes "\n") same
       ∙ ap (λ f. name ++ codes "\t" ++ face_line style f ++ codes "\n") shown ∙ simp append_assoc
 
+  -- a value has at least one line
+  line_some : (deep : Bool) (name : List ℕ) (w : Value) → 0 < length (lines_of style deep name w)
+  line_some true name w = let long = ap length (tree_by_members style name w) in omega (arith, long)
+  line_some false name w = omega arith
+
+  -- the line of the row comes first, and then all lines inside the value
+  pub next_deep : (deep : Bool) (name : List ℕ) (w : Value) (line : List ℕ) (rest left : List (List ℕ)) → deep ≡ true → line ≡ named_line style name w
+      → left ≡ lines_of style deep name w ++ rest → left ≡ line ∷ (lines_inside style deep name w ++ rest)
+  next_deep true name w line rest left yes same is =
+      is ∙ ap (λ ls. ls ++ rest) (tree_by_members style name w) ∙ ap (λ l. l ∷ (lines_inside style true name w ++ rest)) (sym same)
+  next_deep false name w line rest left yes same is = cc yes
+
+  -- the line of the row is all
+  pub next_flat : (deep : Bool) (name : List ℕ) (w : Value) (line : List ℕ) (rest left : List (List ℕ)) → deep ≡ false → line ≡ named_line style name w
+      → left ≡ lines_of style deep name w ++ rest → left ≡ line ∷ rest
+  next_flat true name w line rest left no same is = cc no
+  next_flat false name w line rest left no same is = is ∙ ap (λ l. l ∷ rest) (sym same)
+
   module _ (deep : Bool) where
     -- the next member's lines, and those of the members after it
     lines_next : (ms : List (List ℕ × Value)) (i : ℕ) (name : List ℕ) (m : Value) → slice_get ms i ≡ Some (name, m)
@@ -97,6 +119,14 @@ module _ (style : Style) where
     -- there are no lines after the last member
     lines_end : (ms : List (List ℕ × Value)) (i : ℕ) → length ms ≤ i → lines_of_all style deep (drop i ms) ≡ []
     lines_end ms i past = ap (lines_of_all style deep) (drop_all i ms past)
+
+    -- there are lines before
+    lines_some : (ms : List (List ℕ × Value)) (i : ℕ) → i < length ms → 0 < length (lines_of_all style deep (drop i ms))
+    lines_some [] i within = absurd (omega (arith, within))
+    lines_some (m ∷ ms) zero within =
+        let some = line_some deep m.0 m.1 in
+        omega (arith, some, length-append (lines_of style deep m.0 m.1) (lines_of_all style deep ms))
+    lines_some (m ∷ ms) (suc i) within = lines_some ms i (omega (arith, within))
 
     -- a leaf and an empty container have no lines inside
     pub none_in_leaf : (name : List ℕ) (w : Value) → IsLeaf w → lines_inside style deep name w ≡ []
@@ -123,6 +153,17 @@ module _ (style : Style) where
           → LinesLeftIn style deep checked (take n names) os left → LinesLeftIn style deep checked names os left
       left_in_all F n names [] left are is = is
       left_in_all F n names (o ∷ os) left (first, rest) is = left_same (take n names) names o os left (sym (front o.at.name.«end» n names first.name.1)) is
+
+      -- a container on the stack has more lines
+      pub left_some : (F : Frame) (names : List ℕ) (o : Opened) (os : List Opened) (left : List (List ℕ)) → AreOpen F names (o ∷ os)
+          → LinesLeftIn style deep checked names (o ∷ os) left → 0 < length left
+      left_some F names o os left (first, rest) (own, outer, (w, head, has, own_is), stack, all) =
+          let count = length-named style o.members o.count (name_in names o.at.name) w has in
+          let within = first.within in
+          let some = lines_some (named_members style (name_in names o.at.name) w) o.next (omega (arith, count, within)) in
+          let long = ap length all in
+          let short = ap length own_is in
+          omega (arith, some, long, short, length-append own outer)
 
       -- a container none of whose members had its row was pushed on the others
       pub left_pushed : (names : List ℕ) (o : Opened) (old new : List Opened) (w : Value) (left : List (List ℕ)) → new ≡ old ++ o ∷ [] → o.at.name.«end» ≡ length names
@@ -164,44 +205,80 @@ module _ (style : Style) where
             all ∙ ap (λ l. l ++ outer) (own_is ∙ lines_next ms o.next name m there) ∙ append_assoc (lines_of style deep name m) behind outer,
           )
 
-      -- ---- the beginning of a walk
-      -- what a walk that began with this row, or with none, still has to give
-      abbrev pub Begins : List ℕ → List Opened → ℕ → List ℕ → Value → Option Row → Type 0
-      Begins names' os room names w found = (rest : List (List ℕ)) × LinesLeftIn style deep checked names' os rest
-          × (walked_lines style deep names w ≡ row_lines style names' found ++ rest) × (length rest ≤ room)
+  -- ---- the rows of a walk
+  module _ (checked : CheckedFile) where
+    -- a walk that gives the row of the value first
+    begins_first : (walk : Walk) (row : Row) (manner : Manner) (path : List ℕ) (w : Value) → IsInOrder style manner → walk.manner ≡ manner → walk.first ≡ Some row
+        → row_line style walk.names row ≡ named_line style path w
+        → LinesLeftIn style manner.deep checked walk.names (reverse walk.stack.items) (lines_inside style manner.deep path w ++ [])
+        → walked_lines style manner.deep path w ≡ named_line style path w ∷ lines_inside style manner.deep path w → length (lines_inside style manner.deep path w) ≤ walk.room
+        → RowsLeftIn style checked walk (walked_lines style manner.deep path w)
+    begins_first walk row manner path w order same first line stands all few =
+        let inside = lines_inside style manner.deep path w in
+        record {
+          order = subst (IsInOrder style) (sym same) order;
+          rest = inside ++ [];
+          stands = subst (λ m. LinesLeftIn style m.deep checked walk.names (reverse walk.stack.items) (inside ++ [])) (sym same) stands;
+          few = omega (arith, few, length-append inside []);
+          is = all ∙ ap (λ l. l ∷ inside) (sym line) ∙ ap (λ ls. row_line style walk.names row ∷ ls) (sym (append-nil inside)) ∙ ap (λ f. row_lines style walk.names f ++ (inside ++ [])) (sym first);
+        }
 
-      pub begins_deep : (names names' : List ℕ) (os : List Opened) (room : ℕ) (w : Value) (row : Row) → deep ≡ true
-          → (deep ≡ true → length (walked_lines style true names w) ≤ room) → row_line style names' row ≡ named_line style names w
-          → LinesLeftIn style deep checked names' os (lines_inside style deep names w ++ []) → Begins names' os room names w (Some row)
-      begins_deep names names' os room w row is few line stands =
-          let all = ap (λ d. walked_lines style d names w) is ∙ walked_deep names w ∙ ap (λ d. named_line style names w ∷ lines_inside style d names w) (sym is) in
-          let long = ap length all in
-          let same = ap (λ d. length (walked_lines style d names w)) is in
-          let small = few is in (
-            lines_inside style deep names w ++ [],
-            stands,
-            all ∙ ap (λ l. l ∷ lines_inside style deep names w) (sym line) ∙ ap (λ ls. row_line style names' row ∷ ls) (sym (append-nil (lines_inside style deep names w))),
-            omega (arith, long, same, small, length-append (lines_inside style deep names w) []),
-          )
+    -- it has one if the walk is deep
+    pub begins_deep : (walk : Walk) (row : Row) (manner : Manner) (path : List ℕ) (w : Value) → IsInOrder style manner → walk.manner ≡ manner → walk.first ≡ Some row
+        → row_line style walk.names row ≡ named_line style path w
+        → LinesLeftIn style manner.deep checked walk.names (reverse walk.stack.items) (lines_inside style manner.deep path w ++ [])
+        → manner.deep ≡ true → (manner.deep ≡ true → length (walked_lines style true path w) ≤ walk.room + 1)
+        → RowsLeftIn style checked walk (walked_lines style manner.deep path w)
+    begins_deep walk row manner path w order same first line stands deep few =
+        let all = ap (λ d. walked_lines style d path w) deep ∙ walked_deep path w ∙ ap (λ d. named_line style path w ∷ lines_inside style d path w) (sym deep) in
+        let long = ap length all in
+        let whole = ap (λ d. length (walked_lines style d path w)) deep in
+        let small = few deep in
+        begins_first walk row manner path w order same first line stands all (omega (arith, long, whole, small))
 
-      pub begins_leaf : (names names' : List ℕ) (os : List Opened) (room : ℕ) (w : Value) (row : Row) → IsLeaf w → row_line style names' row ≡ named_line style names w
-          → LinesLeftIn style deep checked names' os (lines_inside style deep names w ++ []) → Begins names' os room names w (Some row)
-      begins_leaf names names' os room w row is line stands =
-          let none = none_in_leaf names w is in
-          let rest = ap (λ l. l ++ []) none in (
-            [],
-            subst (LinesLeftIn style deep checked names' os) rest stands,
-            walked_leaf deep names w is ∙ ap (λ ls. named_line style names w ∷ ls) none ∙ ap (λ l. l ∷ []) (sym line),
-            omega arith,
-          )
+    -- so has a leaf
+    pub begins_leaf : (walk : Walk) (row : Row) (manner : Manner) (path : List ℕ) (w : Value) → IsInOrder style manner → walk.manner ≡ manner → walk.first ≡ Some row
+        → row_line style walk.names row ≡ named_line style path w
+        → LinesLeftIn style manner.deep checked walk.names (reverse walk.stack.items) (lines_inside style manner.deep path w ++ [])
+        → IsLeaf w → RowsLeftIn style checked walk (walked_lines style manner.deep path w)
+    begins_leaf walk row manner path w order same first line stands leaf =
+        let none = ap length (none_in_leaf manner.deep path w leaf) in
+        begins_first walk row manner path w order same first line stands (walked_leaf manner.deep path w leaf) (omega (arith, none))
 
-      pub begins_members : (names names' : List ℕ) (os : List Opened) (n : ℕ) (w : Value) → deep ≡ false → HasCount n w
-          → LinesLeftIn style deep checked names' os (lines_inside style deep names w ++ []) → Begins names' os n names w None
-      begins_members names names' os n w is has stands =
-          let all = ap (λ d. walked_lines style d names w) is ∙ walked_members n names w has ∙ ap (λ d. lines_inside style d names w) (sym is) in
-          let count = ap (λ d. length (lines_inside style d names w)) is ∙ walked_few n names w has in (
-            lines_inside style deep names w ++ [],
-            stands,
-            all ∙ sym (append-nil (lines_inside style deep names w)),
-            omega (arith, count, length-append (lines_inside style deep names w) []),
-          )
+    -- otherwise a container has none
+    pub begins_members : (walk : Walk) (manner : Manner) (path : List ℕ) (w : Value) → IsInOrder style manner → walk.manner ≡ manner → walk.first ≡ None
+        → LinesLeftIn style manner.deep checked walk.names (reverse walk.stack.items) (lines_inside style manner.deep path w ++ [])
+        → manner.deep ≡ false → HasCount walk.room w → RowsLeftIn style checked walk (walked_lines style manner.deep path w)
+    begins_members walk manner path w order same first stands flat has =
+        let inside = lines_inside style manner.deep path w in
+        let all = ap (λ d. walked_lines style d path w) flat ∙ walked_members walk.room path w has ∙ ap (λ d. lines_inside style d path w) (sym flat) in
+        let count = ap (λ d. length (lines_inside style d path w)) flat ∙ walked_few walk.room path w has in
+        record {
+          order = subst (IsInOrder style) (sym same) order;
+          rest = inside ++ [];
+          stands = subst (λ m. LinesLeftIn style m.deep checked walk.names (reverse walk.stack.items) (inside ++ [])) (sym same) stands;
+          few = omega (arith, count, length-append inside []);
+          is = all ∙ sym (append-nil inside) ∙ ap (λ f. row_lines style walk.names f ++ (inside ++ [])) (sym first);
+        }
+
+    -- after its first row a walk gives the rows of members
+    pub next_gives : (old new : Walk) (left : List (List ℕ)) (r : Result (Option Row) CursorFault) → old.first ≡ None → new.first ≡ None → new.manner ≡ old.manner
+        → IfOk r (λ found. IfSome found (λ _. new.room + 1 ≡ old.room)) → (p : RowsLeftIn style checked old left)
+        → GivesCursor (λ found. MatchOption found (p.rest ≡ []) (λ row. (rest : List (List ℕ))
+        × LinesLeftIn style old.manner.deep checked new.names (reverse new.stack.items) rest × (p.rest ≡ row_line style new.names row ∷ rest))) r
+        → GivesCursor (λ found. MatchOption found (left ≡ []) (λ row. (rest : List (List ℕ)) × RowsLeftIn style checked new rest × (left ≡ row_line style new.names row ∷ rest))) r
+    next_gives old new left (Ok None) none gone same falls p gives = p.is ∙ ap (λ f. row_lines style old.names f ++ p.rest) none ∙ gives
+    next_gives old new left (Ok (Some row)) none gone same falls p (rest, stands, is) =
+        let long = ap length is in
+        let few = p.few in (
+          rest,
+          record {
+            order = subst (IsInOrder style) (sym same) p.order;
+            rest = rest;
+            stands = subst (λ m. LinesLeftIn style m.deep checked new.names (reverse new.stack.items) rest) (sym same) stands;
+            few = omega (arith, long, few, falls);
+            is = ap (λ f. row_lines style new.names f ++ rest) (sym gone);
+          },
+          p.is ∙ ap (λ f. row_lines style old.names f ++ p.rest) none ∙ is,
+        )
+    next_gives old new left (Err fault) none gone same falls p gives = gives

@@ -107,13 +107,18 @@ module _ (style : Style) where
       abbrev pub LinesLeftIn : List ℕ → List Opened → List (List ℕ) → Type 0
       LinesLeftIn = LinesLeft checked.source.octets checked.frame checked.certificate.heights
 
-  -- `left` are the lines of all rows that the walk still has to give
-  pub record RowsLeft (checked : CheckedFile) (walk : Walk) (left : List (List ℕ)) : Type 0 where
-    pub order : IsInOrder style walk.manner
-    pub rest : List (List ℕ)
-    pub stands : LinesLeftIn walk.manner.deep checked walk.names (reverse walk.stack.items) rest
-    pub few : length rest ≤ walk.room
-    pub is : left ≡ row_lines walk.names walk.first ++ rest
+  module _ (f : List ℕ) (F : Frame) (heights : List ℕ) where
+    -- `left` are the lines of all rows that the walk still has to give
+    pub record RowsLeft (walk : Walk) (left : List (List ℕ)) : Type 0 where
+      pub order : IsInOrder style walk.manner
+      pub rest : List (List ℕ)
+      pub stands : LinesLeft walk.manner.deep f F heights walk.names (reverse walk.stack.items) rest
+      pub few : length rest ≤ walk.room
+      pub is : left ≡ row_lines walk.names walk.first ++ rest
+
+  -- the same in a checked file
+  abbrev pub RowsLeftIn : CheckedFile → Walk → List (List ℕ) → Type 0
+  RowsLeftIn checked = RowsLeft checked.source.octets checked.frame checked.certificate.heights
 
   -- the node holds member i of the value with this name, and has the name of that member
   abbrev pub IsMemberAt : CheckedFile → Value → List ℕ → ℕ → List ℕ → Named → Type 0

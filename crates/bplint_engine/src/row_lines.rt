@@ -5,7 +5,7 @@ ghost use Rattle.bplint_engine.specs.Names.{IsNameIn};
 ghost use Rattle.bplint_engine.specs.Prelude.{OnlyReadsFile, face_line, read_failed};
 ghost use Rattle.bplint_engine.specs.Streams.{Puts, SendsAll, begun};
 ghost use Rattle.bplint_engine.specs.Tree.{joined_lines};
-ghost use Rattle.bplint_engine.specs.Walks.{IsReady, RowsLeft, row_line};
+ghost use Rattle.bplint_engine.specs.Walks.{IsReady, RowsLeftIn, row_line};
 
 use crate::walk::{Row, Walk};
 use bplint_lines::{RunFault, Style, add_face};
@@ -63,7 +63,7 @@ pub(crate) fn write_rows<S: Source, W: Write>(
     requires ready { IsReady checked.old.frame walk }
     requires begun { lines.sink ≡ begun }
     ensures reads { OnlyReadsFile (read_failed result) checked.old checked.new }
-    ensures exact { IsTrue checked.old.source.honest → (left : List (List ℕ)) → RowsLeft lines.style checked.old walk left
+    ensures exact { IsTrue checked.old.source.honest → (left : List (List ℕ)) → RowsLeftIn lines.style checked.old walk left
         → SendsAll (W.contents out.old) (W.contents out.new) (joined_lines left) result }
 {
     let (mut walk, mut lines) = (walk, lines);
@@ -81,7 +81,7 @@ fn put_rows<S: Source, W: Write>(
 ) -> Result<(), RunFault>
     requires { IsReady checked.old.frame walk.old }
     ensures reads { OnlyReadsFile (read_failed result) checked.old checked.new }
-    ensures exact { IsTrue checked.old.source.honest → (left : List (List ℕ)) → RowsLeft lines.old.style checked.old walk.old left
+    ensures exact { IsTrue checked.old.source.honest → (left : List (List ℕ)) → RowsLeftIn lines.old.style checked.old walk.old left
         → Puts (W.contents out.old) (W.contents out.new) lines.old.sink lines.new.sink (joined_lines left) result }
 {
     while let Some(row) = walk.next(checked)? {

@@ -9,7 +9,7 @@ ghost use Rattle.bplint_lines.specs.MemberNames.{bracketed, key_name};
 ghost use Rattle.bplint_engine.specs.Names.{Extends, IsNameIn, name_in};
 ghost use Rattle.bplint_engine.specs.Prelude.{HasMembers, HasRoom, IsHeadFor, OnlyReadsFile, Value, face as face_of, leaf, text};
 ghost use Rattle.bplint_engine.specs.Walks.{AreOpen, IsInOrder, IsKept, IsMemberAt, IsOpen, IsPutBack, IsReady, LinesLeftIn};
-ghost use Rattle.bplint_engine.specs.Walks.{RowsLeft, lines_inside, most_rows, row_line, walked_lines};
+ghost use Rattle.bplint_engine.specs.Walks.{RowsLeftIn, lines_inside, most_rows, row_line, walked_lines};
 ghost use Rattle.bplint_engine.specs.declared.walk.Keys.TheVariants.{Shown};
 
 use crate::members::{Members, count_of, key_text, listed_pair, member_node, members_of};
@@ -118,7 +118,7 @@ impl Walk {
             → (w : Value) → IsHeld checked.old start.entry.node.object.0 w
             → (start.entry.manner.deep ≡ true
             → length (walked_lines style true start.entry.path.now w) ≤ start.entry.room + 1)
-            → GivesCursor (λ walk. RowsLeft style checked.old walk
+            → GivesCursor (λ walk. RowsLeftIn style checked.old walk
             (walked_lines style start.entry.manner.deep start.entry.path.now w)) result }
     {
         let names = Names::new(alloc, start.path)?;
@@ -170,9 +170,9 @@ impl Walk {
         ensures falls { IfOk result (λ found. IfSome found (λ _. most_rows self.new < most_rows self.old)) }
         ensures name { IfOk result (λ found. IfSome found (λ row. IsNameIn self.new.names row.name)) }
         ensures exact { IsTrue checked.old.source.honest → (style : Style) (left : List (List ℕ))
-            → RowsLeft style checked.old self.old left
+            → RowsLeftIn style checked.old self.old left
             → GivesCursor (λ found. MatchOption found (left ≡ []) (λ row. (rest : List (List ℕ))
-            × RowsLeft style checked.old self.new rest × (left ≡ row_line style self.new.names row ∷ rest))) result }
+            × RowsLeftIn style checked.old self.new rest × (left ≡ row_line style self.new.names row ∷ rest))) result }
     {
         if let Some(row) = self.first.take() {
             return Ok(Some(row));

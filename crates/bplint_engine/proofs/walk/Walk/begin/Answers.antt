@@ -1,13 +1,48 @@
-use Rattle.std.proofs.Common.{◌≡◌, List, [], ap, refl, sym, ◌∙◌, ℕ}
+use Rattle.std.proofs.Common.{◌≡◌, ◌++◌, ◌∙◌, List, [], ap, refl, subst, sym, ℕ}
 use Rattle.std.specs.Prelude.{reverse}
 use Rattle.std.proofs.lemmas.Result.{err_from_is_err_and}
-use Rattle.bplint_engine.specs.Walks.{LinesLeftIn}
+use Rattle.bplint_engine.specs.Names.{name_in}
+use Rattle.bplint_engine.specs.Walks.{LinesLeftIn, lines_inside}
 use Rattle.bplint_engine.proofs.WalkSteps.{begins_deep, begins_leaf, begins_members, row_named}
 use Rattle.bplint_engine.proofs.walk.Walk.begin.Goals as goal
 
 pub returns-in_err-row-clause-exact : goal.returns-in_err-row-clause-exact
 returns-in_err-row-clause-exact g c = λ honest style order w held few.
-    let deep = c.args.self.now.manner.deep in
-    let stands : LinesLeftIn style deep c.args.checked.now c.args.self.now.names (reverse c.args.self.now.stack.items) [] = rw c.requires refl in
-    let p = err_from_is_err_and c.from_residual.result c.from_residual.ensures.1 in
-    rw (p.1, p.2) (c.in_err-row.ensures.exact honest style deep w held [] stands)
+    let p = err_from_is_err_and c.from_residual-in_err-row.result c.from_residual-in_err-row.ensures.1 in
+    rw (p.1, p.2) (c.in_err-row.ensures.exact honest style true w held [] refl)
+
+pub returns-then-deep-clause-exact : goal.returns-then-deep-clause-exact
+returns-then-deep-clause-exact g c = λ honest style order w held few.
+    let manner = c.args.start.manner in
+    let path = c.args.start.path.now in
+    let names = c.enter.new.self.names in
+    let shows = c.in_ok-row.ensures.exact honest style manner.deep w held [] refl in
+    let top : name_in c.in_ok-names.names c.whole.result ≡ path = c.whole.ensures.1 ∙ c.in_ok-names.ensures in
+    let name : name_in names c.in_ok-row.row.name ≡ path = ap (λ t. name_in t c.in_ok-row.row.name) c.in_ok-row.ensures.kept.0 ∙ ap (name_in c.in_ok-names.names) c.in_ok-row.ensures.name ∙ top in
+    let stands = subst (λ n. LinesLeftIn style manner.deep c.args.checked.now names (reverse c.enter.new.self.stack.items) (lines_inside style manner.deep n w ++ [])) top shows.1 in
+    begins_deep style c.args.checked.now _ c.in_ok-row.row manner path w order c.in_ok-row.ensures.kept.1 refl (row_named style names path c.in_ok-row.row w name shows.0) stands
+    (sym (ap (λ m. m.deep) c.in_ok-row.ensures.kept.1) ∙ c.if-deep.true) (rw c.in_ok-row.ensures.kept.3 few)
+
+pub returns-in_default-clause-exact : goal.returns-in_default-clause-exact
+returns-in_default-clause-exact g c = λ honest style order w held few.
+    let manner = c.args.start.manner in
+    let path = c.args.start.path.now in
+    let names = c.enter.new.self.names in
+    let shows = c.in_ok-row.ensures.exact honest style manner.deep w held [] refl in
+    let top : name_in c.in_ok-names.names c.whole.result ≡ path = c.whole.ensures.1 ∙ c.in_ok-names.ensures in
+    let name : name_in names c.in_ok-row.row.name ≡ path = ap (λ t. name_in t c.in_ok-row.row.name) c.in_ok-row.ensures.kept.0 ∙ ap (name_in c.in_ok-names.names) c.in_ok-row.ensures.name ∙ top in
+    let stands = subst (λ n. LinesLeftIn style manner.deep c.args.checked.now names (reverse c.enter.new.self.stack.items) (lines_inside style manner.deep n w ++ [])) top shows.1 in
+    let leaf = rw c.in-None.is at (c.count_of.ensures w shows.0) in
+    begins_leaf style c.args.checked.now _ c.in_ok-row.row manner path w order c.in_ok-row.ensures.kept.1 refl (row_named style names path c.in_ok-row.row w name shows.0) stands leaf
+
+pub returns-clause-exact : goal.returns-clause-exact
+returns-clause-exact g c = λ honest style order w held few.
+    let manner = c.args.start.manner in
+    let path = c.args.start.path.now in
+    let names = c.enter.new.self.names in
+    let shows = c.in_ok-row.ensures.exact honest style manner.deep w held [] refl in
+    let top : name_in c.in_ok-names.names c.whole.result ≡ path = c.whole.ensures.1 ∙ c.in_ok-names.ensures in
+    let stands = subst (λ n. LinesLeftIn style manner.deep c.args.checked.now names (reverse c.enter.new.self.stack.items) (lines_inside style manner.deep n w ++ [])) top shows.1 in
+    let has = rw c.in-Some.is at (c.count_of.ensures w shows.0) in
+    begins_members style c.args.checked.now _ manner path w order c.in_ok-row.ensures.kept.1 c.in_ok-row.ensures.kept.2 stands
+    (sym (ap (λ m. m.deep) c.in_ok-row.ensures.kept.1) ∙ c.if-deep.false) has
