@@ -1,6 +1,6 @@
 -- What a walk still has to give, step by step.
 use Rattle.std.proofs.Common.{◌≡◌, ◌≤◌, ◌<◌, ◌+◌, ◌++◌, ◌∷◌, [], ◌∙◌, ℕ, zero, suc, List, drop, length, take, Some, Result, Ok, Err, Bool, true, false, inl, inr, ap, append_assoc, append-nil, arith, codes, None, refl, subst, sym}
-use Rattle.std.specs.Prelude.{IfOk, IfSome, MatchOption, Option, reverse, slice_get}
+use Rattle.std.specs.Prelude.{IfOk, IfSome, MatchOption, OnOk, Option, reverse, slice_get}
 use Rattle.std.proofs.lemmas.List.{drop_all, length-append, length-take, reverse-append, take_all, take-take}
 use Rattle.bplist_objects.specs.declared.frame.Frame.{Frame}
 use Rattle.bplist_objects.specs.Value.{Value, leaf, array, set, dict}
@@ -16,9 +16,9 @@ use Rattle.bplint_engine.specs.declared.walk.Manner.{Manner}
 use Rattle.bplint_engine.specs.declared.walk.Row.{Row}
 use Rattle.bplint_engine.specs.declared.walk.Walk.{Walk}
 use Rattle.bplint_engine.specs.Ls.{HasCount, HasMembers, IsHeadFor, IsLeaf, named_line}
-use Rattle.bplint_engine.specs.Names.{name_in}
+use Rattle.bplint_engine.specs.Names.{IsNameIn, name_in}
 use Rattle.bplint_engine.specs.Tree.{named_members, tree_lines}
-use Rattle.bplint_engine.specs.Walks.{AreOpen, IsOpen, IsInOrder, IsPutBack, LinesLeftIn, OwnLinesLeftIn, RowsLeftIn, behind_next, lines_inside, lines_of, lines_of_all, row_line, row_lines, walked_lines}
+use Rattle.bplint_engine.specs.Walks.{AreOpen, IsOpen, IsInOrder, IsPutBack, IsReady, LinesLeftIn, OwnLinesLeftIn, RowsLeftIn, behind_next, first_rows, lines_inside, lines_of, lines_of_all, most_rows, row_line, row_lines, walked_lines}
 use Rattle.bplint_engine.proofs.TreeLines.{drop_at, length-counted, length-named, tree_by_members}
 
 -- a first part of a first part
@@ -52,6 +52,20 @@ open_behind F names names' o old new same within (first, rest) (inr (more, is)) 
       record { head = first.head; few = first.few; within = more; name = (first.name.0, within) },
       subst (λ t. AreOpen F t (reverse old)) (sym same) rest,
     )
+
+-- ---- after the first row
+-- the walk can go on
+pub ready_behind : (F : Frame) (new : Walk) (r : Result (Option Row) CursorFault) → new.first ≡ None → OnOk r (AreOpen F new.names (reverse new.stack.items))
+    → OnOk r (IsReady F new)
+ready_behind F new (Ok found) gone are = record { open = are; name = subst (λ f. IfSome f (λ row. IsNameIn new.names row.name)) (sym gone) tt }
+ready_behind F new (Err fault) gone are = are
+
+-- each row lowers the bound
+pub falls_behind : (old new : Walk) (r : Result (Option Row) CursorFault) → new.first ≡ None → IfOk r (λ found. IfSome found (λ _. new.room + 1 ≡ old.room))
+    → IfOk r (λ found. IfSome found (λ _. most_rows new < most_rows old))
+falls_behind old new (Ok None) gone falls = falls
+falls_behind old new (Ok (Some row)) gone falls = let none = ap first_rows gone in omega (arith, none, falls)
+falls_behind old new (Err fault) gone falls = falls
 
 module _ (style : Style) where
   -- ---- all lines of a walk

@@ -44,8 +44,12 @@ pub record IsReady (F : Frame) (walk : Walk) : Type 0 where
   pub name : IfSome walk.first (λ row. IsNameIn walk.names row.name)
 
 -- how many rows the walk may still give
+abbrev pub first_rows : Option Row → ℕ
+first_rows None = 0
+first_rows (Some row) = 1
+
 abbrev pub most_rows : Walk → ℕ
-most_rows walk = elim walk.first [ None ↦ walk.room | Some row ↦ walk.room + 1 ]
+most_rows walk = walk.room + first_rows walk.first
 
 -- rows come in the order of the file, with names that have keys as lines in this style show them
 abbrev pub IsInOrder : Style → Manner → Type 0

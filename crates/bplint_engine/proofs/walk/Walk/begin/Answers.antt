@@ -11,6 +11,14 @@ returns-in_err-row-clause-exact g c = λ honest style order w held few.
     let p = err_from_is_err_and c.from_residual-in_err-row.result c.from_residual-in_err-row.ensures.1 in
     rw (p.1, p.2) (c.in_err-row.ensures.exact honest style true w held [] refl)
 
+pub returns-then-deep-clause-ready : goal.returns-then-deep-clause-ready
+returns-then-deep-clause-ready g c =
+    record { open = c.in_ok-row.ensures.open; name = rw (c.in_ok-row.ensures.name, c.in_ok-row.ensures.kept.0) c.whole.ensures.0 }
+
+pub returns-in_default-clause-ready : goal.returns-in_default-clause-ready
+returns-in_default-clause-ready g c =
+    record { open = c.in_ok-row.ensures.open; name = rw (c.in_ok-row.ensures.name, c.in_ok-row.ensures.kept.0) c.whole.ensures.0 }
+
 pub returns-then-deep-clause-exact : goal.returns-then-deep-clause-exact
 returns-then-deep-clause-exact g c = λ honest style order w held few.
     let manner = c.args.start.manner in

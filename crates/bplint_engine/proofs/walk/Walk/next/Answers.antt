@@ -1,6 +1,6 @@
-use Rattle.std.proofs.Common.{◌≡◌, ◌++◌, ◌∙◌, None, ap, rules, sym}
-use Rattle.bplint_engine.specs.Walks.{row_lines}
-use Rattle.bplint_engine.proofs.WalkSteps.{next_gives}
+use Rattle.std.proofs.Common.{◌≡◌, ◌++◌, ◌∙◌, None, ap, arith, rules, sym}
+use Rattle.bplint_engine.specs.Walks.{first_rows, row_lines}
+use Rattle.bplint_engine.proofs.WalkSteps.{falls_behind, next_gives, ready_behind}
 use Rattle.bplint_engine.proofs.walk.Walk.next.Goals as goal
 
 pub returns-in-Some-clause-exact : goal.returns-in-Some-clause-exact
@@ -11,6 +11,28 @@ returns-in-Some-clause-exact g c = λ honest style left p.
       record { order = p.order; rest = p.rest; stands = p.stands; few = p.few; is = ap (λ f. row_lines style names f ++ p.rest) (sym gone) },
       p.is ∙ ap (λ f. row_lines style names f ++ p.rest) (search rules),
     )
+
+pub returns-in-Some-clause-ready : goal.returns-in-Some-clause-ready
+returns-in-Some-clause-ready g c =
+    let gone : c.take.new.self ≡ None = search rules in
+    record { open = c.requires.open; name = rw gone tt }
+
+pub returns-in-Some-clause-falls : goal.returns-in-Some-clause-falls
+returns-in-Some-clause-falls g c =
+    let gone : c.take.new.self ≡ None = search rules in
+    let none = ap first_rows gone in
+    let one = ap first_rows (search rules) in
+    omega (arith, none, one)
+
+pub returns-clause-ready : goal.returns-clause-ready
+returns-clause-ready g c =
+    let gone : c.take.new.self ≡ None = search rules in
+    ready_behind c.args.checked.now.frame c.next_member.new.self c.next_member.result (c.next_member.ensures.kept.1 ∙ gone) c.next_member.ensures.open
+
+pub returns-clause-falls : goal.returns-clause-falls
+returns-clause-falls g c =
+    let gone : c.take.new.self ≡ None = search rules in
+    falls_behind c.args.self.now c.next_member.new.self c.next_member.result (c.next_member.ensures.kept.1 ∙ gone) c.next_member.ensures.falls
 
 pub returns-clause-exact : goal.returns-clause-exact
 returns-clause-exact g c = λ honest style left p.
