@@ -57,7 +57,7 @@ open_behind F names names' o old new same within (first, rest) (inr (more, is)) 
 -- the walk can go on
 pub ready_behind : (F : Frame) (new : Walk) (r : Result (Option Row) CursorFault) → new.first ≡ None → OnOk r (AreOpen F new.names (reverse new.stack.items))
     → OnOk r (IsReady F new)
-ready_behind F new (Ok found) gone are = record { open = are; name = subst (λ f. IfSome f (λ row. IsNameIn new.names row.name)) (sym gone) tt }
+ready_behind F new (Ok found) gone are = record { stack = are; name = subst (λ f. IfSome f (λ row. IsNameIn new.names row.name)) (sym gone) tt }
 ready_behind F new (Err fault) gone are = are
 
 -- each row lowers the bound
@@ -114,15 +114,15 @@ module _ (style : Style) where
   -- the line of the row comes first, and then all lines inside the value
   pub next_deep : (deep : Bool) (name : List ℕ) (w : Value) (line : List ℕ) (rest left : List (List ℕ)) → deep ≡ true → line ≡ named_line style name w
       → left ≡ lines_of style deep name w ++ rest → left ≡ line ∷ (lines_inside style deep name w ++ rest)
-  next_deep true name w line rest left yes same is =
+  next_deep true name w line rest left is_deep same is =
       is ∙ ap (λ ls. ls ++ rest) (tree_by_members style name w) ∙ ap (λ l. l ∷ (lines_inside style true name w ++ rest)) (sym same)
-  next_deep false name w line rest left yes same is = cc yes
+  next_deep false name w line rest left is_deep same is = cc is_deep
 
   -- the line of the row is all
   pub next_flat : (deep : Bool) (name : List ℕ) (w : Value) (line : List ℕ) (rest left : List (List ℕ)) → deep ≡ false → line ≡ named_line style name w
       → left ≡ lines_of style deep name w ++ rest → left ≡ line ∷ rest
-  next_flat true name w line rest left no same is = cc no
-  next_flat false name w line rest left no same is = is ∙ ap (λ l. l ∷ rest) (sym same)
+  next_flat true name w line rest left is_flat same is = cc is_flat
+  next_flat false name w line rest left is_flat same is = is ∙ ap (λ l. l ∷ rest) (sym same)
 
   module _ (deep : Bool) where
     -- the next member's lines, and those of the members after it
@@ -255,9 +255,9 @@ module _ (style : Style) where
         → row_line style walk.names row ≡ named_line style path w
         → LinesLeftIn style manner.deep checked walk.names (reverse walk.stack.items) (lines_inside style manner.deep path w ++ [])
         → IsLeaf w → RowsLeftIn style checked walk (walked_lines style manner.deep path w)
-    begins_leaf walk row manner path w order same first line stands leaf =
-        let none = ap length (none_in_leaf manner.deep path w leaf) in
-        begins_first walk row manner path w order same first line stands (walked_leaf manner.deep path w leaf) (omega (arith, none))
+    begins_leaf walk row manner path w order same first line stands is_leaf =
+        let none = ap length (none_in_leaf manner.deep path w is_leaf) in
+        begins_first walk row manner path w order same first line stands (walked_leaf manner.deep path w is_leaf) (omega (arith, none))
 
     -- otherwise a container has none
     pub begins_members : (walk : Walk) (manner : Manner) (path : List ℕ) (w : Value) → IsInOrder style manner → walk.manner ≡ manner → walk.first ≡ None

@@ -40,7 +40,7 @@ pub record IsKept (old new : Walk) : Type 0 where
 
 -- the containers of the walk can be read, and the name of the row that it begins with is in its bytes
 pub record IsReady (F : Frame) (walk : Walk) : Type 0 where
-  pub open : AreOpen F walk.names (reverse walk.stack.items)
+  pub stack : AreOpen F walk.names (reverse walk.stack.items)
   pub name : IfSome walk.first (λ row. IsNameIn walk.names row.name)
 
 -- how many rows the walk may still give

@@ -1,7 +1,7 @@
 //! The walk over a value and everything inside it. It gives one row after the other: a container comes before its
 //! members. A stack holds the containers that have more members.
 
-ghost use Rattle.std.specs.Prelude.{◌≡◌, ◌∷◌, ◌++◌, ◌+◌, ◌*◌, ◌^◌, ◌<◌, ◌≤◌, [], IfOk, IfSome, IsTrue, List, MatchOption};
+ghost use Rattle.std.specs.Prelude.{◌≡◌, ◌∷◌, ◌++◌, ◌+◌, ◌*◌, ◌^◌, ◌<◌, ◌≤◌, [], IfOk, IfSome, IsTrue, List, MatchOption, None};
 ghost use Rattle.std.specs.Prelude.{Bool, Ok, OnOk, false, length, reverse, true, ℕ};
 ghost use Rattle.bplist_cursor.specs.Causes.{GivesCursor, cursor_read};
 ghost use Rattle.bplist_cursor.specs.Found.{IsHeld};
@@ -187,7 +187,7 @@ impl Walk {
     ) -> Result<Option<Row>, CursorFault>
         requires { AreOpen checked.old.frame self.old.names (reverse self.old.stack.items) }
         ensures reads { OnlyReadsFile (cursor_read result) checked.old checked.new }
-        ensures open { OnOk result (AreOpen checked.old.frame self.new.names (reverse self.new.stack.items)) }
+        ensures stack { OnOk result (AreOpen checked.old.frame self.new.names (reverse self.new.stack.items)) }
         ensures kept { (self.new.manner ≡ self.old.manner) × (self.new.first ≡ self.old.first) }
         ensures falls { IfOk result (λ found. IfSome found (λ _. self.new.room + 1 ≡ self.old.room)) }
         ensures name { IfOk result (λ found. IfSome found (λ row. IsNameIn self.new.names row.name)) }
@@ -255,10 +255,10 @@ impl Walk {
         checked: &mut Checked<S>,
         at: Named,
     ) -> Result<Row, CursorFault>
-        requires open { AreOpen checked.old.frame self.old.names (reverse self.old.stack.items) }
+        requires stack { AreOpen checked.old.frame self.old.names (reverse self.old.stack.items) }
         requires name { IsNameIn self.old.names at.name × (at.name.«end» ≡ length self.old.names) }
         ensures reads { OnlyReadsFile (cursor_read result) checked.old checked.new }
-        ensures open { OnOk result (AreOpen checked.old.frame self.new.names (reverse self.new.stack.items)) }
+        ensures stack { OnOk result (AreOpen checked.old.frame self.new.names (reverse self.new.stack.items)) }
         ensures kept { (self.new.names ≡ self.old.names) × (self.new.manner ≡ self.old.manner)
             × (self.new.first ≡ self.old.first) × (self.new.room ≡ self.old.room) }
         ensures name { IfOk result (λ row. row.name ≡ at.name) }
@@ -347,6 +347,7 @@ impl Walk {
         opened: &Opened,
     ) -> Result<u64, CursorFault>
         requires { opened.now.next < opened.now.count }
+        ensures reads { cursor_read result ≡ None }
         ensures within { IfOk result (λ i. i < opened.now.count) }
         ensures exact { self.now.manner.sorted ≡ false → result ≡ Ok opened.now.next }
     {
