@@ -52,11 +52,11 @@ module _ (style : Style) where
     pub puts_none : (now : Option (List ℕ)) (s : Sending) (walk : Walk) (lines : List (List ℕ)) → RowsLeftIn style checked walk lines → PutsOn now now s s walk lines
     puts_none now s walk lines stands = record { put = []; rest = lines; takes = takes_nothing now s; stands = stands; is = refl }
 
-    module _ {old mid new : Option (List ℕ)} {before after : Sending} {walk : Walk} {lines : List (List ℕ)} (p : PutsOn old mid before after walk lines) where
+    module _ {old mid : Option (List ℕ)} {before after : Sending} {walk : Walk} {lines : List (List ℕ)} (p : PutsOn old mid before after walk lines) where
       -- the next line was put in
-      pub puts_next : (later : Sending) (next : Walk) (line : List ℕ) (rest : List (List ℕ)) → p.rest ≡ line ∷ rest → Takes mid new after later line
-          → RowsLeftIn style checked next rest → PutsOn old new before later next lines
-      puts_next later next line rest first takes stands = record {
+      pub puts_next : (new : Option (List ℕ)) (later : Sending) (next : Walk) (line : List ℕ) → (rest : List (List ℕ)) × RowsLeftIn style checked next rest × (p.rest ≡ line ∷ rest)
+          → Takes mid new after later line → PutsOn old new before later next lines
+      puts_next new later next line (rest, stands, first) takes = record {
         put = p.put ++ line ∷ [];
         rest = rest;
         takes = subst (Takes old new before later) (sym (joined_more p.put (line ∷ []) ∙ ap (λ l. joined_lines p.put ++ l) (joined_one line))) (takes_more p.takes takes);
@@ -65,10 +65,11 @@ module _ (style : Style) where
       }
 
       -- the next line was not put in
-      pub puts_fail : (line : List ℕ) (rest : List (List ℕ)) (fault : RunFault) → p.rest ≡ line ∷ rest → Fails mid new after line fault → Fails old new before (joined_lines lines) fault
-      puts_fail line rest fault next fails =
+      pub puts_fail : (new : Option (List ℕ)) (line : List ℕ) (rest : List (List ℕ)) (fault : RunFault) → p.rest ≡ line ∷ rest → Fails mid new after line fault
+          → Fails old new before (joined_lines lines) fault
+      puts_fail new line rest fault first fails =
           fails_behind old mid new line (joined_lines rest) (joined_lines lines) fault p.takes fails
-          (ap joined_lines p.is ∙ joined_more p.put p.rest ∙ ap (λ l. joined_lines p.put ++ joined_lines l) next)
+          (ap joined_lines p.is ∙ joined_more p.put p.rest ∙ ap (λ l. joined_lines p.put ++ joined_lines l) first)
 
       -- a read failed or memory was refused
       pub puts_stop : (fault : RunFault) → IsExcused fault → Fails old mid before (joined_lines lines) fault

@@ -33,7 +33,7 @@ returns-in_err-put-clause-exact g c = λ honest left stands.
     let on = i.puts honest left stands in
     let (rest, next, is) = rw c.in-Some.is at ((rw i.same at c.in_ok-row.ensures.exact) honest style on.rest on.stands) in
     let p = err_from_is_err_and c.from_residual-in_err-put.result c.from_residual-in_err-put.ensures.1 in
-    rw (p.1, p.2) (puts_fail style c.args.checked.now on (row_line style c.next.new.walk.names c.in-Some.row) rest _ is (rw i.style at c.in_err-put.ensures.exact))
+    rw (p.1, p.2) (puts_fail style c.args.checked.now on _ (row_line style c.next.new.self.names c.in-Some.row) rest _ is (rw i.style at c.in_err-put.ensures.exact))
 
 pub loop-row-preserved : goal.loop-row-preserved
 loop-row-preserved g c =
@@ -45,8 +45,64 @@ loop-row-preserved g c =
       style = c.in_ok-put.ensures.style ∙ i.style;
       puts = λ honest left stands.
           let on = i.puts honest left stands in
-          let (rest, next, is) = rw c.in-Some.is at ((rw i.same at c.in_ok-row.ensures.exact) honest style on.rest on.stands) in
-          puts_next style c.args.checked.now on _ c.next.new.self (row_line style c.next.new.self.names c.in-Some.row) rest is (rw i.style at c.in_ok-put.ensures.exact) next;
+          let next = rw c.in-Some.is at ((rw i.same at c.in_ok-row.ensures.exact) honest style on.rest on.stands) in
+          puts_next style c.args.checked.now on _ _ c.next.new.self (row_line style c.next.new.self.names c.in-Some.row) next (rw i.style at c.in_ok-put.ensures.exact);
+    }
+
+pub loop-row-preserved-in_ok-put : goal.loop-row-preserved-in_ok-put
+loop-row-preserved-in_ok-put g c =
+    let i = c.loop-row.invariant in
+    let style = c.args.lines.now.style in
+    record {
+      same = same_file c.args.checked.now c.in_ok-row.ensures.reads i.same;
+      ready = rw i.same at c.in_ok-row.ensures.ready;
+      style = c.in_ok-put.ensures.style ∙ i.style;
+      puts = λ honest left stands.
+          let on = i.puts honest left stands in
+          let next = rw c.in-Some.is at ((rw i.same at c.in_ok-row.ensures.exact) honest style on.rest on.stands) in
+          puts_next style c.args.checked.now on _ _ c.next.new.self (row_line style c.next.new.self.names c.in-Some.row) next (rw i.style at c.in_ok-put.ensures.exact);
+    }
+
+pub loop-row-preserved-in_ok-put-2 : goal.loop-row-preserved-in_ok-put-2
+loop-row-preserved-in_ok-put-2 g c =
+    let i = c.loop-row.invariant in
+    let style = c.args.lines.now.style in
+    record {
+      same = same_file c.args.checked.now c.in_ok-row.ensures.reads i.same;
+      ready = rw i.same at c.in_ok-row.ensures.ready;
+      style = c.in_ok-put.ensures.style ∙ i.style;
+      puts = λ honest left stands.
+          let on = i.puts honest left stands in
+          let next = rw c.in-Some.is at ((rw i.same at c.in_ok-row.ensures.exact) honest style on.rest on.stands) in
+          puts_next style c.args.checked.now on _ _ c.next.new.self (row_line style c.next.new.self.names c.in-Some.row) next (rw i.style at c.in_ok-put.ensures.exact);
+    }
+
+pub loop-row-preserved-in_ok-put-3 : goal.loop-row-preserved-in_ok-put-3
+loop-row-preserved-in_ok-put-3 g c =
+    let i = c.loop-row.invariant in
+    let style = c.args.lines.now.style in
+    record {
+      same = same_file c.args.checked.now c.in_ok-row.ensures.reads i.same;
+      ready = rw i.same at c.in_ok-row.ensures.ready;
+      style = c.in_ok-put.ensures.style ∙ i.style;
+      puts = λ honest left stands.
+          let on = i.puts honest left stands in
+          let next = rw c.in-Some.is at ((rw i.same at c.in_ok-row.ensures.exact) honest style on.rest on.stands) in
+          puts_next style c.args.checked.now on _ _ c.next.new.self (row_line style c.next.new.self.names c.in-Some.row) next (rw i.style at c.in_ok-put.ensures.exact);
+    }
+
+pub loop-row-preserved-in_ok-put-4 : goal.loop-row-preserved-in_ok-put-4
+loop-row-preserved-in_ok-put-4 g c =
+    let i = c.loop-row.invariant in
+    let style = c.args.lines.now.style in
+    record {
+      same = same_file c.args.checked.now c.in_ok-row.ensures.reads i.same;
+      ready = rw i.same at c.in_ok-row.ensures.ready;
+      style = c.in_ok-put.ensures.style ∙ i.style;
+      puts = λ honest left stands.
+          let on = i.puts honest left stands in
+          let next = rw c.in-Some.is at ((rw i.same at c.in_ok-row.ensures.exact) honest style on.rest on.stands) in
+          puts_next style c.args.checked.now on _ _ c.next.new.self (row_line style c.next.new.self.names c.in-Some.row) next (rw i.style at c.in_ok-put.ensures.exact);
     }
 
 pub returns-clause-exact : goal.returns-clause-exact

@@ -1,4 +1,4 @@
-use Rattle.std.proofs.Common.{◌≡◌, ◌++◌, ◌∙◌, List, [], ap, refl, rules, subst, sym, true, ℕ}
+use Rattle.std.proofs.Common.{◌≡◌, ◌++◌, ◌∙◌, List, None, [], ap, refl, rules, subst, sym, true, ℕ}
 use Rattle.std.specs.Prelude.{reverse}
 use Rattle.std.proofs.lemmas.Result.{err_from_is_err_and}
 use Rattle.bplint_engine.specs.Names.{name_in}
@@ -45,7 +45,8 @@ returns-in_default-clause-exact g c = λ honest style order w held few.
     let top : name_in c.in_ok-names.names c.whole.result ≡ path = c.whole.ensures.1 ∙ c.in_ok-names.ensures in
     let name : name_in names c.in_ok-row.row.name ≡ path = ap (λ t. name_in t c.in_ok-row.row.name) c.in_ok-row.ensures.kept.0 ∙ ap (name_in c.in_ok-names.names) c.in_ok-row.ensures.name ∙ top in
     let stands = subst (λ n. LinesLeftIn style manner.deep c.args.checked.now names (reverse c.enter.new.self.stack.items) (lines_inside style manner.deep n w ++ [])) top shows.1 in
-    let is_leaf = rw c.in-None.is at (c.count_of.ensures w shows.0) in
+    let gone : c.count_of.result ≡ None = search rules in
+    let is_leaf = rw gone at (c.count_of.ensures w shows.0) in
     begins_leaf style c.args.checked.now _ c.in_ok-row.row manner path w order c.in_ok-row.ensures.kept.1 refl (row_named style names path c.in_ok-row.row w name shows.0) stands is_leaf
 
 pub returns-clause-exact : goal.returns-clause-exact
