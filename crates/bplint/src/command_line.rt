@@ -156,7 +156,7 @@ fn ask_of<'a>(alloc: Global, name: &str, matches: &ArgMatches<'a>) -> Result<Ask
         }),
         "check" => Ok(Ask::Check),
         "get" => Ok(Ask::Get {
-            paths: all_paths(alloc, texts_in(matches))?,
+            paths: all_paths(alloc, matches.get_strs("PATH").unwrap_or(&[]))?,
         }),
         "print" => Ok(Ask::Print {
             path: path_in(matches),
@@ -176,7 +176,7 @@ fn ask_of<'a>(alloc: Global, name: &str, matches: &ArgMatches<'a>) -> Result<Ask
 fn show_of<'a>(alloc: Global, matches: &ArgMatches<'a>) -> Result<Ask<'a>, Error> {
     let (text, raw) = (matches.get_flag("text"), matches.get_flag("raw"));
     let (path, limit) = (path_in(matches), limit_in(matches));
-    match texts_in(matches) {
+    match matches.get_strs("PATH").unwrap_or(&[]) {
         [_, _, ..] if text || raw => {
             let message = "--text and --raw take one PATH";
             Err(refusal(alloc, ErrorKind::TooManyValues, message)?)
@@ -229,10 +229,6 @@ fn all_paths(alloc: Global, texts: &[&str]) -> Result<Vec<String>, AllocError> {
         paths.push(String::from_str(alloc, text)?)?;
     }
     Ok(paths)
-}
-
-fn texts_in<'m, 'a>(matches: &'m ArgMatches<'a>) -> &'m [&'a str] {
-    matches.get_strs("PATH").unwrap_or(&[])
 }
 
 /// Without a PATH it is the empty one, for the whole value.

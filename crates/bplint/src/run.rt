@@ -124,12 +124,13 @@ pub fn answer<S: Source + Drop, C: Source + Drop, W: Write>(
     if out.is_refused() {
         return Ending::with(alloc, RunFault::Memory);
     }
-    match ending.answer {
+    let Ending { answer, under, .. } = ending;
+    match answer {
         Err(fault) if line.explain => {
             let under = under_fault(alloc, line, &mut file, &mut cert, &fault);
             Ending::over(Err(fault), under)
         }
-        answer => Ending { answer, ..ending },
+        answer => Ending::over(answer, under),
     }
 }
 
