@@ -32,6 +32,8 @@ pub(crate) enum Form {
     ListWithout(&'static [&'static str]),
     /// A required text.
     One,
+    /// The same, but not required with this flag.
+    OneUnless(&'static str),
     /// A required text that may be repeated.
     Many,
     /// The same, but not required with this flag.
@@ -109,7 +111,7 @@ pub(crate) const FINDINGS: Argument = Argument {
 
 pub(crate) const JSON: Argument = Argument {
     name: "json",
-    form: Form::Without(&["utf8", "with-filename"]),
+    form: Form::Without(&["utf8", "readable"]),
     help: "Print a JSON object for each value",
 };
 
@@ -129,6 +131,12 @@ pub(crate) const FILES_FROM: Argument = Argument {
     name: "files-from",
     form: Form::List,
     help: "Lint the files that LIST names, one a line; - is standard input",
+};
+
+pub(crate) const MORE_FILES: Argument = Argument {
+    name: "files-from",
+    form: Form::ListWithout(&["raw"]),
+    help: "Take the files that LIST names, one a line, in place of FILE, and begin each line with the name of its file",
 };
 
 pub(crate) const PATHS_FROM: Argument = Argument {
@@ -199,6 +207,33 @@ pub(crate) const SHOWN_UTF8: Argument = Argument {
 
 const UTF8_HELP: &str = "Write texts in UTF-8, in quotes if they are not plain";
 
+pub(crate) const READABLE: Argument = Argument {
+    name: "readable",
+    form: Form::Flag,
+    help: READABLE_HELP,
+};
+
+pub(crate) const SHOWN_READABLE: Argument = Argument {
+    name: "readable",
+    form: Form::Without(&["text", "raw"]),
+    help: READABLE_HELP,
+};
+
+const READABLE_HELP: &str =
+    "Write texts in UTF-8, dates and reals as people read them, and of long data the length and SHA-256";
+
+pub(crate) const SORT: Argument = Argument {
+    name: "sort",
+    form: Form::Flag,
+    help: "Sort the keys of each dictionary by their UTF-16 units",
+};
+
+pub(crate) const INDENTED: Argument = Argument {
+    name: "tree",
+    form: Form::Without(&["json", "objects"]),
+    help: "Print the value and everything inside it as an indented tree",
+};
+
 pub(crate) const MAP_PATHS: Argument = Argument {
     name: "paths",
     form: Form::Flag,
@@ -226,6 +261,12 @@ pub(crate) const LIST_BYTES: Argument = Argument {
 pub(crate) const FILE: Argument = Argument {
     name: "FILE",
     form: Form::One,
+    help: FILE_HELP,
+};
+
+pub(crate) const MAYBE_FILE: Argument = Argument {
+    name: "FILE",
+    form: Form::OneUnless("files-from"),
     help: FILE_HELP,
 };
 
@@ -311,6 +352,7 @@ impl Argument {
             Form::List => Ok(list(arg, name)),
             Form::ListWithout(others) => list(arg, name).conflicts_with_all(others),
             Form::One => Ok(arg.required(true)),
+            Form::OneUnless(other) => arg.required_unless_present(other),
             Form::Many => Ok(many(arg).required(true)),
             Form::ManyUnless(other) => many(arg).required_unless_present(other),
             Form::Maybe => Ok(arg),

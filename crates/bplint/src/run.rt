@@ -1,4 +1,4 @@
-//! Answers what is asked about one FILE.
+//! Answers what is asked about one FILE, or about each one that a list names.
 
 ghost use Rattle.std.specs.Prelude.{◌≡◌, ◌≤◌, IsTrue};
 ghost use Rattle.bplint.specs.Questions.{LeavesAsked, answer_of};
@@ -6,17 +6,20 @@ ghost use Rattle.bplint.specs.Questions.{LeavesAsked, answer_of};
 use crate::args::{Ask, Run};
 use crate::ending::{Ending, end, refuse_line};
 use crate::first_lines::FirstLines;
-use crate::input::{Inputs, WHOLE_LIMIT, bytes_in, decode, open_inputs};
+use crate::input::{Inputs, WHOLE_LIMIT, bytes_in, decode, open_inputs, read_input};
 use crate::labels::Labelled;
 use crate::lists::with_listed_paths;
 use crate::output::{OutFault, OutFile};
-use crate::reasons::{completed, form_lines, keeps_line, most_line, path_lines, too_long_line};
+use crate::reasons::{
+    completed, form_lines, keeps_line, most_line, octets_prefix, path_lines, prefix_of, too_long_line,
+};
 use crate::textconv::show_any;
+use crate::unread::Unread;
 use bplint_engine::{
     certify_on, check_on, get_on, lint_on, list_all_on, list_on, print_on, show_on, show_raw_on,
     show_text_on,
 };
-use bplint_json::list_rows_on;
+use bplint_json::{list_rows_on, show_readable_on};
 use bplint_lines::{RawFault, RunFault, Said, explain};
 use bplint_map::map_on;
 use bplist_octets::Source;
@@ -24,8 +27,125 @@ use std::alloc::{AllocError, Global};
 use std::fs::{File, Files};
 use std::io::Write;
 
-/// Opens FILE and CERT, and answers what is asked. Returns the exit status.
+/// Answers what is asked about FILE, or about the FILEs of a list. Returns the exit status.
 pub fn run<R: Files<File = File> + Input + Print + Eprint>(
+    rt: &R,
+    alloc: Global,
+    line: Run<'_>,
+) -> u8
+    ensures { result ≤ 4 }
+{
+    match line.files_from {
+        None => run_one(rt, alloc, line),
+        Some(list) => run_list(rt, alloc, line, list),
+    }
+}
+
+/// Returns the greatest of the exit statuses.
+fn run_list<R: Files<File = File> + Input + Print + Eprint>(
+    rt: &R,
+    alloc: Global,
+    line: Run<'_>,
+    list: &str,
+) -> u8
+    ensures { result ≤ 4 }
+{
+    let line = match with_listed_paths(rt, alloc, line) {
+        Ok(line) => line,
+        Err(status) => return status,
+    };
+    match read_input(rt, alloc, list) {
+        Ok(names) => run_names(rt, alloc, line, &names),
+        Err(fault) => {
+            let unread = Unread::new(list, fault);
+            end(rt, alloc, "", unread.ending(alloc, line.explain))
+        }
+    }
+}
+
+/// A line feed ends each name. Nothing is asked any more once nobody reads the answers.
+fn run_names<'a, R: Files<File = File> + Input + Print + Eprint>(
+    rt: &R,
+    alloc: Global,
+    line: Run<'a>,
+    names: &'a [u8],
+) -> u8
+    ensures { result ≤ 4 }
+{
+    let mut line = line;
+    let mut greatest = 0;
+    for name in names.split(|octet| *octet == b'\n') {
+        let ended = match std::str::from_utf8(name) {
+            Ok("") => continue,
+            Ok(name) => {
+                line.file = name;
+                run_named(rt, alloc, &mut line)
+            }
+            Err(_) => refuse_name(rt, alloc, name),
+        };
+        greatest = ended.status.max(greatest);
+        if ended.is_closed {
+            break;
+        }
+    }
+    greatest.min(4)
+}
+
+/// Each line begins with the name of the file.
+fn run_named<R: Files<File = File> + Input + Print + Eprint>(
+    rt: &R,
+    alloc: Global,
+    line: &mut Run<'_>,
+) -> Ended
+    ensures { result.status ≤ 4 }
+{
+    line.prefix = match prefix_of(alloc, line.file, true) {
+        Ok(prefix) => prefix,
+        Err(_) => return Ended::with(end(rt, alloc, "", Ending::with(alloc, RunFault::Memory))),
+    };
+    match open_inputs(rt, alloc, line) {
+        Ok(inputs) => run_opened(rt, alloc, line, inputs),
+        Err(unread) => {
+            let ending = unread.ending(alloc, line.explain);
+            Ended::with(end(rt, alloc, &line.prefix, ending))
+        }
+    }
+}
+
+/// No file can be opened by a name that is not UTF-8.
+fn refuse_name<R: Eprint>(rt: &R, alloc: Global, name: &[u8]) -> Ended
+    ensures { result.status ≤ 4 }
+{
+    let ending = Ending::with(alloc, RunFault::Open);
+    let status = match octets_prefix(alloc, name) {
+        Ok(prefix) => end(rt, alloc, &prefix, ending),
+        Err(_) => end(rt, alloc, "", ending),
+    };
+    Ended::with(status)
+}
+
+/// How the run for one FILE ended.
+#[derive(Clone, Copy, Drop)]
+struct Ended {
+    /// The exit status.
+    status: u8,
+    /// True if nobody reads standard output any more.
+    is_closed: bool,
+}
+
+impl Ended {
+    fn with(status: u8) -> Ended
+        ensures { result.status ≡ status }
+    {
+        Ended {
+            status,
+            is_closed: false,
+        }
+    }
+}
+
+/// Opens FILE and CERT, and answers what is asked. Returns the exit status.
+fn run_one<R: Files<File = File> + Input + Print + Eprint>(
     rt: &R,
     alloc: Global,
     line: Run<'_>,
@@ -39,7 +159,7 @@ pub fn run<R: Files<File = File> + Input + Print + Eprint>(
         }
     };
     match with_listed_paths(rt, alloc, line) {
-        Ok(line) => run_opened(rt, alloc, &line, inputs),
+        Ok(line) => run_opened(rt, alloc, &line, inputs).status,
         Err(status) => status,
     }
 }
@@ -49,8 +169,8 @@ fn run_opened<R: Files<File = File> + Print + Eprint>(
     alloc: Global,
     line: &Run<'_>,
     inputs: Inputs,
-) -> u8
-    ensures { result ≤ 4 }
+) -> Ended
+    ensures { result.status ≤ 4 }
 {
     let Inputs { file, cert } = inputs;
     let mut out = OutFile::new(rt, line.out).replacing(line.replaces);
@@ -66,15 +186,14 @@ fn run_opened<R: Files<File = File> + Print + Eprint>(
         }
     };
     if let Some(OutFault::Kept) = out.fault() {
-        return keep_out(rt, alloc, line);
+        return Ended::with(keep_out(rt, alloc, line));
     }
     let ending = completed(alloc, line, ending, out.fault());
-    end(
-        rt,
-        alloc,
-        &line.prefix,
-        warned(alloc, line, ending, out.written()),
-    )
+    let ending = warned(alloc, line, ending, out.written());
+    Ended {
+        is_closed: ending.silent,
+        status: end(rt, alloc, &line.prefix, ending),
+    }
 }
 
 /// The answer has more bytes than may be written. If memory for the tip is refused, it is left out.
@@ -159,6 +278,7 @@ fn answer_on<S: Source + Drop, C: Source, W: Write>(
             of(alloc, print_on(alloc, file, decoded, path, *limit, out))
         }
         Ask::Show { paths, style } => of(alloc, show_on(alloc, file, paths, *style, out)),
+        Ask::Readable { paths } => of(alloc, show_readable_on(alloc, file, paths, out)),
         Ask::Text { path, limit } => {
             let (led, file) = show_text_on(alloc, file, path, *limit, out);
             (Ending::of_led(alloc, led.map_err(RawFault::Run)), file)
@@ -169,7 +289,9 @@ fn answer_on<S: Source + Drop, C: Source, W: Write>(
         }
         Ask::List { path, style } => of(alloc, list_on(alloc, file, path, *style, out)),
         Ask::Tree(branch) => of(alloc, list_all_on(alloc, file, branch, out)),
-        Ask::Rows(listed) => of(alloc, list_rows_on(alloc, file, listed, out)),
+        Ask::Rows(listed) => {
+            of(alloc, list_rows_on(alloc, file, listed, line.named(), out))
+        }
         Ask::Map { paths } => {
             let mut file = file;
             (Ending::of(alloc, map_on(alloc, &mut file, *paths, out)), file)

@@ -21,10 +21,10 @@ pub enum Values {
 pub(crate) fn line_of(
     alloc: Global,
     values: Values,
-    name: &[u8],
+    name: &str,
     shown: &Face,
 ) -> Result<Vec<u8>, AllocError> {
-    let mut line = Vec::from_slice(alloc, name)?;
+    let mut line = Vec::from_slice(alloc, name.as_bytes())?;
     line.push(b'\t')?;
     add_value(alloc, values, shown, &mut line)?;
     Ok(line)
@@ -41,17 +41,17 @@ pub(crate) fn add_site(alloc: Global, site: Site, line: &mut Vec<u8>) -> Result<
 /// container.
 pub(crate) fn indented(
     alloc: Global,
-    depth: u64,
-    name: &[u8],
+    depth: usize,
+    name: &str,
     shown: &Face,
 ) -> Result<Vec<u8>, AllocError> {
     let mut line = Vec::new(alloc);
     for _ in 0..depth {
         line.extend_from_slice(b"  ")?;
     }
-    let name = name.strip_prefix(b"/").unwrap_or(name);
+    let name = name.strip_prefix('/').unwrap_or(name);
     if depth > 0 || !name.is_empty() {
-        line.extend_from_slice(name)?;
+        line.extend_from_slice(name.as_bytes())?;
         line.extend_from_slice(b": ")?;
     }
     add_readable(alloc, shown, &mut line)?;
@@ -65,7 +65,7 @@ pub(crate) fn missing_line(alloc: Global, step: u64, why: Why) -> Result<Vec<u8>
     Ok(line)
 }
 
-pub(crate) fn add_value(
+fn add_value(
     alloc: Global,
     values: Values,
     shown: &Face,
