@@ -113,26 +113,26 @@ struct Opened {
 
 /// The state of a listing.
 #[derive(Drop)]
-struct Listing<'a, W> {
+struct Listing<'f, 'o, W> {
     alloc: Global,
     form: Form,
     sorted: bool,
     /// The name of the file that JSON objects have.
-    file: Option<&'a str>,
+    file: Option<&'f str>,
     /// The containers around the current node, the outermost first.
     stack: Vec<Opened>,
     names: Names,
     sink: Sink,
-    out: &'a mut W,
+    out: &'o mut W,
 }
 
-impl<'a, W: Write> Listing<'a, W> {
+impl<'f, 'o, W: Write> Listing<'f, 'o, W> {
     fn new(
         alloc: Global,
         listed: &Listed<'_>,
-        file: Option<&'a str>,
-        out: &'a mut W,
-    ) -> Result<Listing<'a, W>, AllocError> {
+        file: Option<&'f str>,
+        out: &'o mut W,
+    ) -> Result<Listing<'f, 'o, W>, AllocError> {
         Ok(Listing {
             alloc,
             form: listed.form,

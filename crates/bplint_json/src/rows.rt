@@ -308,10 +308,10 @@ fn add_part(alloc: Global, part: &str, row: &mut Vec<u8>) -> Result<(), AllocErr
 }
 
 /// Returns the line for a path that leads nowhere, without its line feed: which step does not lead on, and why.
-pub(crate) fn missing_row(
+pub(crate) fn missing_row<'a>(
     alloc: Global,
-    file: Option<&str>,
-    path: &str,
+    file: Option<&'a str>,
+    path: &'a str,
     reason: (u64, Why),
 ) -> Result<Vec<u8>, AllocError> {
     let (step, why) = reason;
