@@ -1,11 +1,12 @@
 #!/usr/bin/env python3
 """readable.py PROGRAM
 
-Shows what PROGRAM writes for people: `--readable` in `show`, `ls` and `textconv`, `--sort`, `--tree` and `--files-from`.
+Shows what PROGRAM writes for people: `--readable` in `show`, `ls` and `textconv`, `--sort`, `--tree` and
+`--files-from`.
 
-Dates are those of Python's datetime, and reals those of its repr. In git a file that was written twice, in two orders of
-keys and with one value changed, differs in two lines. The last line is `N passed, M failed`. The exit status is 1 if one
-failed.
+Dates are those of Python's datetime, and reals those of its repr. In git a file that was written twice, in two orders
+of keys and with one value changed, differs in two lines. The last line is `N passed, M failed`. The exit status is 1 if
+one failed.
 """
 import datetime
 import hashlib
@@ -160,7 +161,7 @@ def test_lists(cases):
     here = {"cwd": cases.folder}
     ran = run(cases.program, "show", "--explain=never", "--files-from", "list", "/a", "/b", **here)
     cases.expect("show", ran.stdout, b"one: int 1\none: array 1\ntwo words: int 1\ntwo words: array 1\n")
-    faults = b"nothing: read Open\nwrong: fault TooShort object none place 0\nx\\xff: read Open\n"
+    faults = b"nothing: read Open\nwrong: fault TooShort object none place 7\nx\\xff: read Open\n"
     cases.expect("faults", ran.stderr, faults)
     cases.expect("status", ran.returncode, 3)
     ran = run(cases.program, "ls", "--files-from", "-", "/b", input=b"one\ntwo words", **here)

@@ -32,9 +32,9 @@ const LEAST: u64 = 1 << 20;
 /// The largest number of bytes of lines that are shown.
 const MOST: u64 = 1 << 26;
 
-/// Shows a file: the lines of `ls --recursive --readable --sort`; or, of a binary property list that is not sound, its fault and
-/// its first bytes; or the file itself, if it is no binary property list. Returns the file too. The prefix begins each
-/// line, but not those of a file that is written as it is.
+/// Shows a file: the lines of `ls --recursive --readable --sort`; or, of a binary property list that is not sound, its
+/// fault and its first bytes; or the file itself, if it is no binary property list. Returns the file too. The prefix
+/// begins each line, but not those of a file that is written as it is.
 pub fn show_any<S: Source + Drop, W: Write>(
     alloc: Global,
     src: S,
