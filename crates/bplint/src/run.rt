@@ -1,4 +1,4 @@
-//! Answers what is asked about one FILE, or about each one that a list names.
+//! Answers what is asked about one FILE.
 
 ghost use Rattle.std.specs.Prelude.{◌≡◌, ◌≤◌, IsTrue};
 ghost use Rattle.bplint.specs.Questions.{LeavesAsked, answer_of};
@@ -6,15 +6,12 @@ ghost use Rattle.bplint.specs.Questions.{LeavesAsked, answer_of};
 use crate::args::{Ask, Run};
 use crate::ending::{Ending, end, refuse_line};
 use crate::first_lines::FirstLines;
-use crate::input::{Inputs, WHOLE_LIMIT, bytes_in, decode, open_inputs, read_input};
+use crate::input::{Inputs, WHOLE_LIMIT, bytes_in, decode, open_inputs};
 use crate::labels::Labelled;
 use crate::lists::with_listed_paths;
 use crate::output::{OutFault, OutFile};
-use crate::reasons::{
-    completed, form_lines, keeps_line, most_line, octets_prefix, path_lines, prefix_of, too_long_line,
-};
+use crate::reasons::{completed, form_lines, keeps_line, most_line, path_lines, too_long_line};
 use crate::textconv::show_any;
-use crate::unread::Unread;
 use bplint_engine::{
     certify_on, check_on, get_on, lint_on, list_all_on, list_on, print_on, show_on, show_raw_on,
     show_text_on,
@@ -27,114 +24,18 @@ use std::alloc::{AllocError, Global};
 use std::fs::{File, Files};
 use std::io::Write;
 
-/// Answers what is asked about FILE, or about the FILEs of a list. Returns the exit status.
-pub fn run<R: Files<File = File> + Input + Print + Eprint>(
-    rt: &R,
-    alloc: Global,
-    line: Run<'_>,
-) -> u8
-    ensures { result ≤ 4 }
-{
-    match line.files_from {
-        None => run_one(rt, alloc, line),
-        Some(list) => run_list(rt, alloc, line, list),
-    }
-}
-
-/// Returns the greatest of the exit statuses.
-fn run_list<R: Files<File = File> + Input + Print + Eprint>(
-    rt: &R,
-    alloc: Global,
-    line: Run<'_>,
-    list: &str,
-) -> u8
-    ensures { result ≤ 4 }
-{
-    let line = match with_listed_paths(rt, alloc, line) {
-        Ok(line) => line,
-        Err(status) => return status,
-    };
-    match read_input(rt, alloc, list) {
-        Ok(names) => run_names(rt, alloc, line, &names),
-        Err(fault) => {
-            let unread = Unread::new(list, fault);
-            end(rt, alloc, "", unread.ending(alloc, line.explain))
-        }
-    }
-}
-
-/// A line feed ends each name. Nothing is asked any more once nobody reads the answers.
-fn run_names<'a, R: Files<File = File> + Input + Print + Eprint>(
-    rt: &R,
-    alloc: Global,
-    line: Run<'a>,
-    names: &'a [u8],
-) -> u8
-    ensures { result ≤ 4 }
-{
-    let mut line = line;
-    let mut greatest = 0;
-    for name in names.split(|octet| *octet == b'\n') {
-        let ended = match std::str::from_utf8(name) {
-            Ok("") => continue,
-            Ok(name) => {
-                line.file = name;
-                run_named(rt, alloc, &mut line)
-            }
-            Err(_) => refuse_name(rt, alloc, name),
-        };
-        greatest = ended.status.max(greatest);
-        if ended.is_closed {
-            break;
-        }
-    }
-    greatest.min(4)
-}
-
-/// Each line begins with the name of the file.
-fn run_named<R: Files<File = File> + Input + Print + Eprint>(
-    rt: &R,
-    alloc: Global,
-    line: &mut Run<'_>,
-) -> Ended
-    ensures { result.status ≤ 4 }
-{
-    line.prefix = match prefix_of(alloc, line.file, true) {
-        Ok(prefix) => prefix,
-        Err(_) => return Ended::with(end(rt, alloc, "", Ending::with(alloc, RunFault::Memory))),
-    };
-    match open_inputs(rt, alloc, line) {
-        Ok(inputs) => run_opened(rt, alloc, line, inputs),
-        Err(unread) => {
-            let ending = unread.ending(alloc, line.explain);
-            Ended::with(end(rt, alloc, &line.prefix, ending))
-        }
-    }
-}
-
-/// No file can be opened by a name that is not UTF-8.
-fn refuse_name<R: Eprint>(rt: &R, alloc: Global, name: &[u8]) -> Ended
-    ensures { result.status ≤ 4 }
-{
-    let ending = Ending::with(alloc, RunFault::Open);
-    let status = match octets_prefix(alloc, name) {
-        Ok(prefix) => end(rt, alloc, &prefix, ending),
-        Err(_) => end(rt, alloc, "", ending),
-    };
-    Ended::with(status)
-}
-
 /// How the run for one FILE ended.
 #[derive(Clone, Copy, Drop)]
-struct Ended {
+pub struct Ended {
     /// The exit status.
-    status: u8,
+    pub status: u8,
     /// True if nobody reads standard output any more.
-    is_closed: bool,
+    pub is_closed: bool,
 }
 
 impl Ended {
-    fn with(status: u8) -> Ended
+    /// The end with this status, after which there may be another run.
+    pub fn with(status: u8) -> Ended
         ensures { result.status ≡ status }
     {
         Ended {
@@ -145,7 +46,7 @@ impl Ended {
 }
 
 /// Opens FILE and CERT, and answers what is asked. Returns the exit status.
-fn run_one<R: Files<File = File> + Input + Print + Eprint>(
+pub fn run<R: Files<File = File> + Input + Print + Eprint>(
     rt: &R,
     alloc: Global,
     line: Run<'_>,
@@ -164,7 +65,8 @@ fn run_one<R: Files<File = File> + Input + Print + Eprint>(
     }
 }
 
-fn run_opened<R: Files<File = File> + Print + Eprint>(
+/// Answers what is asked about inputs that are open.
+pub fn run_opened<R: Files<File = File> + Print + Eprint>(
     rt: &R,
     alloc: Global,
     line: &Run<'_>,

@@ -1,6 +1,10 @@
 //! The lines of a listing that are not JSON: those of `ls`, in columns with the object of each value and its place, or
 //! indented.
 
+ghost use Rattle.std.specs.Prelude.{◌≡◌, ◌++◌, IfOk, OnOk, codes};
+ghost use Rattle.std.specs.Fmt.{decimal};
+ghost use Rattle.bplint_lines.specs.OutputLines as spec;
+
 use crate::readable_values::add_readable;
 use crate::rows::Site;
 use bplint_lines::{Style, add_face, add_missing};
@@ -31,7 +35,10 @@ pub(crate) fn line_of(
 }
 
 /// Adds the columns with the object of a value and its place.
-pub(crate) fn add_site(alloc: Global, site: Site, line: &mut Vec<u8>) -> Result<(), AllocError> {
+pub(crate) fn add_site(alloc: Global, site: Site, line: &mut Vec<u8>) -> Result<(), AllocError>
+    ensures { OnOk result (line.new.items ≡ line.old.items ++ codes "\t" ++ decimal site.object ++ codes "\t"
+        ++ decimal site.place) }
+{
     let Site { object, place } = site;
     let columns = format!(in alloc; "\t{object}\t{place}")?;
     line.extend_from_slice(columns.as_bytes())
@@ -59,7 +66,9 @@ pub(crate) fn indented(
 }
 
 /// Returns the line for a path that leads nowhere, without its line feed.
-pub(crate) fn missing_line(alloc: Global, step: u64, why: Why) -> Result<Vec<u8>, AllocError> {
+pub(crate) fn missing_line(alloc: Global, step: u64, why: Why) -> Result<Vec<u8>, AllocError>
+    ensures { IfOk result (λ line. line.items ≡ spec.missing_line step why) }
+{
     let mut line = Vec::new(alloc);
     add_missing(alloc, step, why, &mut line)?;
     Ok(line)
