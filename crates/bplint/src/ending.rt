@@ -2,7 +2,7 @@
 
 ghost use Rattle.std.specs.Prelude.{◌≡◌, ◌≤◌, Err, Ok};
 ghost use Rattle.bplint.specs.ExitStatuses.{EndsWith, IsPrintedWith, IsRefusedWith};
-ghost use Rattle.bplint.specs.Questions.{answer_of, answer_of_led};
+ghost use Rattle.bplint.specs.Questions.{answer_of, answer_of_led, led_of};
 ghost use Rattle.clap.specs.Values.{kind_of};
 
 use crate::output::{OutFault, OutFile};
@@ -43,6 +43,16 @@ impl Ending {
             Ok(Led::There) => Ending::over(Ok(Said::All), String::new(alloc)),
             Ok(Led::Nowhere(line)) => Ending::over(Ok(Said::SomeMissing), text_of(alloc, line)),
             Err(fault) => Ending::over(Err(fault), String::new(alloc)),
+        }
+    }
+
+    /// The same of a run whose faults are those of other commands.
+    pub fn of_text(alloc: Global, led: Result<Led, RunFault>) -> Ending
+        ensures { result.answer ≡ answer_of_led (led_of led) }
+    {
+        match led {
+            Ok(led) => Ending::of_led(alloc, Ok(led)),
+            Err(fault) => Ending::with(alloc, fault),
         }
     }
 

@@ -163,7 +163,7 @@ fn answer_on<S: Source + Drop, C: Source, W: Write>(
     cert: &mut C,
     out: &mut W,
 ) -> (Ending, S)
-    ensures exact { IsTrue (S.means file).honest → IsTrue (C.means cert.old).honest
+    ensures { IsTrue (S.means file).honest → IsTrue (C.means cert.old).honest
         → ∥ LeavesAsked line.now.ask line.now.hex (S.means file).octets (C.means cert.old).octets
         (W.contents out.old) (W.contents out.new) result.0.answer ∥₁ }
 {
@@ -183,7 +183,7 @@ fn answer_on<S: Source + Drop, C: Source, W: Write>(
         Ask::Readable { paths } => of(alloc, show_readable_on(alloc, file, paths, out)),
         Ask::Text { path, limit } => {
             let (led, file) = show_text_on(alloc, file, path, *limit, out);
-            (Ending::of_led(alloc, led.map_err(RawFault::Run)), file)
+            (Ending::of_text(alloc, led), file)
         }
         Ask::Raw { path } => {
             let (led, file) = show_raw_on(alloc, file, path, out);
