@@ -208,10 +208,7 @@ impl<'a> Run<'a> {
                 paths: &[],
             },
             Ask::Get { paths } | Ask::Show { paths, .. } | Ask::Readable { paths }
-                if self.paths_from.is_some() =>
-            {
-                Labels { prefix, paths }
-            }
+                if self.paths_from.is_some() => { Labels { prefix, paths } }
             _ => Labels { prefix, paths: &[] },
         }
     }

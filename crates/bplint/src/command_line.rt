@@ -203,10 +203,7 @@ fn show_of<'a>(alloc: Global, matches: &ArgMatches<'a>) -> Result<Ask<'a>, Error
 }
 
 /// Returns the PATHs. With `--files-from` there is no FILE, and the first operand is a PATH.
-fn operands_in<'a>(
-    alloc: Global,
-    matches: &ArgMatches<'a>,
-) -> Result<Vec<&'a str>, AllocError> {
+fn operands_in<'a>(alloc: Global, matches: &ArgMatches<'a>) -> Result<Vec<&'a str>, AllocError> {
     let mut operands = Vec::new(alloc);
     if matches.get_str("files-from").is_some() {
         if let Some(first) = matches.get_str("FILE") {

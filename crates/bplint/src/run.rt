@@ -191,12 +191,13 @@ fn answer_on<S: Source + Drop, C: Source, W: Write>(
         }
         Ask::List { path, style } => of(alloc, list_on(alloc, file, path, *style, out)),
         Ask::Tree(branch) => of(alloc, list_all_on(alloc, file, branch, out)),
-        Ask::Rows(listed) => {
-            of(alloc, list_rows_on(alloc, file, listed, line.named(), out))
-        }
+        Ask::Rows(listed) => { of(alloc, list_rows_on(alloc, file, listed, line.named(), out)) }
         Ask::Map { paths } => {
             let mut file = file;
-            (Ending::of(alloc, map_on(alloc, &mut file, *paths, out)), file)
+            (
+                Ending::of(alloc, map_on(alloc, &mut file, *paths, out)),
+                file,
+            )
         }
         Ask::Textconv => of(alloc, show_any(alloc, file, &line.prefix, out)),
     }

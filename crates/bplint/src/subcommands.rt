@@ -2,11 +2,11 @@
 
 use crate::argument_forms::Argument;
 use crate::arguments::{
-    ALL, ANY_PATHS, CERT, EXPLAIN, FILE, FILES, FILES_FROM, FINDINGS, FORCE, HEX, HEX_CERT, HEX_OUT,
-    INDENTED, JSON, LIMIT, LIST, LIST_BYTES, MAP_PATHS, MAYBE_FILE, MAYBE_PATH, MORE_FILES, NULL,
-    OBJECTS, OUT, PATH, PATHS, PATHS_FROM, QUIET, RAW, READABLE, RECURSIVE, SHOWN_READABLE,
-    SHOWN_UTF8, SKIP_OTHER, SORT, SORTED, SUMMARY, TEXT, TEXT_LIMIT, TREE, TREE_LIMIT, UTF8,
-    WITH_NAME, WORDS,
+    ALL, ANY_PATHS, CERT, EXPLAIN, FILE, FILES, FILES_FROM, FINDINGS, FORCE, HEX, HEX_CERT,
+    HEX_OUT, INDENTED, JSON, LIMIT, LIST, LIST_BYTES, MAP_PATHS, MAYBE_FILE, MAYBE_PATH,
+    MORE_FILES, NULL, OBJECTS, OUT, PATH, PATHS, PATHS_FROM, QUIET, RAW, READABLE, RECURSIVE,
+    SHOWN_READABLE, SHOWN_UTF8, SKIP_OTHER, SORT, SORTED, SUMMARY, TEXT, TEXT_LIMIT, TREE,
+    TREE_LIMIT, UTF8, WITH_NAME, WORDS,
 };
 use clap::Command;
 use std::alloc::{AllocError, Global};
@@ -112,8 +112,18 @@ static SHOWING: [Subcommand; 5] = [
         about: "Prints what lies under each PATH, or the whole",
         help: SHOW_HELP,
         arguments: &[
-            HEX, TEXT, TEXT_LIMIT, RAW, SHOWN_UTF8, SHOWN_READABLE, PATHS_FROM, MORE_FILES,
-            WITH_NAME, EXPLAIN, MAYBE_FILE, ANY_PATHS,
+            HEX,
+            TEXT,
+            TEXT_LIMIT,
+            RAW,
+            SHOWN_UTF8,
+            SHOWN_READABLE,
+            PATHS_FROM,
+            MORE_FILES,
+            WITH_NAME,
+            EXPLAIN,
+            MAYBE_FILE,
+            ANY_PATHS,
         ],
     },
     Subcommand {

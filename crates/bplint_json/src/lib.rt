@@ -45,8 +45,8 @@ use bplint_lines::is_unshown;
 pub use columns::Values;
 pub use finding::{Finding, Way, find_in};
 pub use listing::{Depth, Form, Listed, list_rows_on};
-pub use show::show_readable_on;
 use serde::Serialize;
+pub use show::show_readable_on;
 use std::alloc::{AllocError, Global};
 
 /// A character that a line may not show is `\u` and four digits. The only error is refused memory, since each key is a
