@@ -176,7 +176,10 @@ fn ask_of<'a>(alloc: Global, name: &str, matches: &ArgMatches<'a>) -> Result<Ask
 /// value.
 fn show_of<'a>(alloc: Global, matches: &ArgMatches<'a>) -> Result<Ask<'a>, Error> {
     let (text, raw) = (matches.get_flag("text"), matches.get_flag("raw"));
-    let operands = operands_in(alloc, matches)?;
+    let mut operands = operands_in(alloc, matches)?;
+    if operands.is_empty() {
+        operands.push("")?;
+    }
     let path = operands.first().copied().unwrap_or("");
     if (text || raw) && operands.len() > 1 {
         let message = "--text and --raw take one PATH";
@@ -189,12 +192,7 @@ fn show_of<'a>(alloc: Global, matches: &ArgMatches<'a>) -> Result<Ask<'a>, Error
         let limit = limit_in(matches);
         return Ok(Ask::Text { path, limit });
     }
-    let texts: &[&str] = if operands.is_empty() {
-        &[""]
-    } else {
-        &operands
-    };
-    let paths = all_paths(alloc, texts)?;
+    let paths = all_paths(alloc, &operands)?;
     if matches.get_flag("readable") {
         return Ok(Ask::Readable { paths });
     }
