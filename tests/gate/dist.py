@@ -11,6 +11,7 @@ release, not those of the tree.
 - The archive of the suite for other readers runs it, and has the licence. The packages name the project's page.
 - In each of these places the session of README.md prints what README.md says, `man` shows the manual page, and the example
   compiles with bplist.pc and runs. In the venv the Python code of README.md runs.
+- The loader refuses a program that was built with another 0.N of the library.
 - Removing what was installed leaves no file and no folder.
 - lintian finds no error, and no file names a folder of the build. README.md names the glibc that the symbols need.
 
@@ -187,7 +188,9 @@ class Tests:
         (prefix / "bin").mkdir(parents=True)
         stage.mkdir()
         self.make(ROOT, "install", f"PREFIX={prefix}")
-        self.use(Installed("make install", prefix, "lib", ROOT / "examples/print_value.c"))
+        there = Installed("make install", prefix, "lib", ROOT / "examples/print_value.c")
+        self.use(there)
+        self.loads_another(there)
         words = [f"DESTDIR={stage}", "PREFIX=/usr", "libdir=/usr/lib64", "bindir=/usr/sbin"]
         self.make(ROOT, "install", *words)
         moved = ["usr/sbin/bplint", "usr/lib64/libbplist.so.0", "usr/lib64/pkgconfig/bplist.pc"]
@@ -233,6 +236,23 @@ class Tests:
             run("gcc", *STRICT, "-o", example, there.example, *words)
             said = run(example, "Info.plist", "/WindowSize/width", folder=place, **found)
             self.count(f"{there.name}: {kind} library", "" if said == "640\n" else said)
+
+    def loads_another(self, there):
+        """A program that was built with a library of the same name, but with the symbol version of 0.4."""
+        folder = self.folder / "another"
+        folder.mkdir()
+        (folder / "library.c").write_text("int bplist_version(void) { return 0; }\n", encoding="ascii")
+        (folder / "program.c").write_text("int bplist_version(void);\nint main(void) { return bplist_version(); }\n", encoding="ascii")
+        (folder / "library.map").write_text("BPLIST_0.4 { global: bplist_version; local: *; };\n", encoding="ascii")
+        library, program = folder / "libbplist.so.0", folder / "program"
+        linked = ["-shared", "-Wl,-soname,libbplist.so.0", f"-Wl,--version-script={folder}/library.map"]
+        run("gcc", *linked, "-o", library, folder / "library.c")
+        run("gcc", "-o", program, folder / "program.c", library)
+        run(program, LD_LIBRARY_PATH=folder)
+        found = {**os.environ, "LD_LIBRARY_PATH": str(there.prefix / there.library)}
+        said = subprocess.run([program], env=found, capture_output=True, text=True, check=False)
+        refused = said.returncode != 0 and "`BPLIST_0.4' not found" in said.stderr
+        self.count(f"{there.name}: a program of 0.4", "" if refused else f"status {said.returncode}, {said.stderr}")
 
     def see(self, unpacked):
         """No file names a folder of the build."""

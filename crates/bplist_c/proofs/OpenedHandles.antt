@@ -34,11 +34,17 @@ module _ (file : Bor (List ℕ)) (sorted : Bool) (P : Lint → Type 0) (Q : Faul
   opened_for : (certificate : Lists) (checked : CheckedFile) → IsCheckedFor file certificate sorted checked
       → IsOpened checked.source.octets checked.certificate sorted handle → IsOpened file.now certificate sorted handle
   opened_for certificate checked (source, heights, given, plain) opened =
-      let (length, s, held, session, high, kept, unsorted, listed) = rw source at opened in (
+      let (length, (s, held, session, high, kept, unsorted, listed)) = rw source at opened in (
         length,
-        (s, held, session, high ∙ heights,
-        (λ some. kept (subst (λ (l : Lists). IsSome l.keys) (sym (given some)) some) ∙ given some),
-        (λ no. unsorted no ∙ plain no), listed),
+        (
+          s,
+          held,
+          session,
+          high ∙ heights,
+          (λ some. kept (subst (λ (l : Lists). IsSome l.keys) (sym (given some)) some) ∙ given some),
+          (λ no. unsorted no ∙ plain no),
+          listed,
+        ),
       )
 
   -- refused memory is a result too

@@ -26,3 +26,7 @@ halved_digits m n half some =
     let below = below_digits (n / 2) (n / 2) (omega arith) in
     let fewer = length-digits_of-le 2 (digits_2 (n / 2)) m (omega arith) (omega (arith, below, half)) in
     omega (arith, fewer, length-digits_of_step 2 n (omega arith) some)
+
+-- a smaller number has no more digits
+pub fewer_digits : (m n : ℕ) → m ≤ n → digits_2 m ≤ digits_2 n
+fewer_digits m n less = length-digits_of-le 2 (digits_2 n) m (omega arith) (omega (arith, less, below_digits n n (omega arith)))

@@ -1,5 +1,7 @@
 -- What the certificate of a checked file says about the object that a path leads to.
 use Rattle.std.proofs.Common.{arith, ◌≡◌, ◌<◌, ◌≤◌, ◌+◌, ℕ, zero, suc, List, [], ◌∷◌, length, map, drop, slice_index_or, Result, Ok, Err, refl, sym, ap, ◌∙◌, subst, IsTrue, Contains, Some, None}
+use Rattle.std.specs.List.{sum_by}
+use Rattle.std.proofs.lemmas.List.Sums.{sum_by-cons}
 use Rattle.std.proofs.Props.{props}
 use Rattle.std.proofs.lemmas.Grind.{not_there}
 use Rattle.std.proofs.Math.Logic.{∥∥₁_map, ∥∥₁_elim}
@@ -15,7 +17,7 @@ use Rattle.bplist_cursor.specs.Look.{stepped, look}
 use Rattle.bplist_cursor.specs.Leads.{LeadTo}
 use Rattle.bplist_cursor.specs.Found.{IsHeld}
 use Rattle.bplist_cursor.specs.KeySearch.{halvings, RisesAtMost}
-use Rattle.bplist_cursor.specs.Asked.{path_bytes}
+use Rattle.bplist_cursor.specs.Asked.{path_bytes, step_bytes}
 use Rattle.bplist_cert.specs.Lists.{Keyed}
 use Rattle.std.specs.Prelude.{Option}
 use Rattle.bplist_cursor.proofs.AskedSteps.{on_either, value_bytes}
@@ -37,6 +39,15 @@ pub split_at : {X : Type 0} (units : X → List ℕ) (xs : List X) (k : ℕ) (d 
 split_at units [] k d l = absurd (omega arith)
 split_at units (x ∷ xs) zero d l = refl
 split_at units (x ∷ xs) (suc k) d l = split_at units xs k d (omega arith)
+
+-- one more step, over any source
+pub step_asked : (steps : List (List ℕ)) (k : ℕ) (s : List ℕ) (positions start now after : ℕ) → drop k steps ≡ s ∷ drop (suc k) steps
+    → now + sum_by (step_bytes positions) (drop k steps) ≤ start + sum_by (step_bytes positions) steps → after ≤ now + step_bytes positions s
+    → after + sum_by (step_bytes positions) (drop (k + 1) steps) ≤ start + sum_by (step_bytes positions) steps
+step_asked steps k s positions start now after split before one =
+    let sum = ap (sum_by (step_bytes positions)) split ∙ sum_by-cons (step_bytes positions) s (drop (suc k) steps) in
+    let next : suc k ≡ k + 1 = omega arith in
+    subst (λ m. after + sum_by (step_bytes positions) (drop m steps) ≤ start + sum_by (step_bytes positions) steps) next (omega (arith, before, one, sum))
 
 pub drop_all : {X : Type 0} (units : X → List ℕ) (xs : List X) → drop (length xs) (map units xs) ≡ []
 drop_all units [] = refl

@@ -9,7 +9,7 @@ ghost use Rattle.bplist_cursor.specs.Prelude.{HonestlyChecked, text, Spells, lea
 ghost use Rattle.bplist_cursor.specs.Prelude.{SpellsText, GivesCursor, cursor_read, OnlyReadsFile, part, compare_units};
 ghost use Rattle.bplist_cursor.specs.Prelude.{Keyed, HonestlyAt, GivesRead, read_failed, SpellTexts, HonestlyKeyed};
 ghost use Rattle.bplist_cursor.specs.Prelude.{IsKeyIndex, IsCompared, IsKeyList, RisesAtMost, ListStarts, IsUnlisted};
-ghost use Rattle.bplist_cursor.specs.Prelude.{IsSafeText, texts_bytes, tries};
+ghost use Rattle.bplist_cursor.specs.Prelude.{IsSafeText, step_bytes, texts_bytes, tries};
 ghost use Rattle.bplist_objects.specs.Units.{units_of};
 ghost use Rattle.std.specs.List.{AllZip};
 ghost use Rattle.std.specs.Int.Digits.{digits_of};
@@ -227,6 +227,8 @@ pub(crate) fn key_index<S: Source>(
     requires is_dict { head.now.kind ≡ Dict }
     ensures reads { OnlyReadsFile (read_failed result) checked.old checked.new }
     ensures asks { checked.new.asked ≤ checked.old.asked + tries checked.old.certificate.keys head.now.count * (36 + 2 * length units.now) }
+    ensures asks_any { (keyed : Keyed) → checked.old.certificate.keys ≡ Some keyed
+        → checked.new.asked + 36 ≤ checked.old.asked + step_bytes (length keyed.positions) units.now }
     ensures exact { HonestlyAt checked.old n.0 (λ f F m. (ks ms : List ℕ) → Spells f F m (dict ks ms)
         → dict ks ms ≡ content_at f F head.now → SpellTexts f F ks
         → GivesRead (IsKeyIndex f F ks units.now) result) }

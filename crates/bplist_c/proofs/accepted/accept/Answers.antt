@@ -1,4 +1,5 @@
-use Rattle.std.proofs.Common.{◌≡◌, ◌∙◌, ℕ, Bool, Err, List, None, Ok, false, true, refl, subst}
+use Rattle.std.proofs.Common.{◌≡◌, ◌∙◌, ℕ, Bool, IsTrue, Err, List, None, Ok, false, true, refl, subst}
+use Rattle.bplist_octets.specs.Meaning.{Meaning}
 use Rattle.bplist_objects.specs.declared.frame.Frame.{Frame}
 use Rattle.bplist_cert.specs.Lists.{Lists, lists}
 use Rattle.bplist_lint.specs.declared.linter.Keys.{Keys}
@@ -21,12 +22,12 @@ returns-in-Ok c =
     let tally = c.in-Ok.tally in
     let lint = lint_of checked.frame (lists checked.certificate.heights None) tally in
     let made = subst (λ (keys : Keys). IsLintedWith keys f checked.frame checked.certificate tally) c.for_certificate.ensures
-        ((rw c.new.ensures.octets at c.in-Ok.ensures.exact) refl) in
+    (subst (λ (m : Meaning). IsTrue m.honest → IsLintedWith c.for_certificate.result m.octets checked.frame checked.certificate tally) c.new.ensures.means c.in-Ok.ensures.exact refl) in
     let same = c.in-Ok.ensures.handed ∙ c.new.ensures.means in (
       Ok lint,
       (checked.frame, made.0.valid.frame, made.0),
       accepts c.args.file checked same c.args.sorted lint c.with_verdict.result
-      (same, refl, (λ some. cc some), plain c.args.sorted f checked.frame checked.certificate tally made) c.with_verdict.ensures,
+          (same, refl, (λ some. cc some), plain c.args.sorted f checked.frame checked.certificate tally made) c.with_verdict.ensures,
     )
 
 pub returns-in-Err : goal.returns-in-Err

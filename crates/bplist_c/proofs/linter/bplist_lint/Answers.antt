@@ -1,4 +1,4 @@
-use Rattle.std.proofs.Common.{refl}
+use Rattle.std.proofs.Common.{false, refl}
 use Rattle.bplist_c.proofs.OpenedHandles.{Tells, shown}
 use Rattle.bplist_c.proofs.linter.bplist_lint.Goals as goal
 use Rattle.bplist_c.proofs.linter.bplist_lint.Goals.{in-Ok+in-Some-1, in-Ok+in-None-1, in-Err}
