@@ -75,6 +75,7 @@ impl<'a, R: Files<File = File> + Print + Eprint> Findings<'a, R> {
             replaces: Replaces::Certificates,
             hex: self.lint.choice.hex,
             prefix,
+            files_from: None,
             paths_from: None,
             most: None,
             explain: self.lint.explain,
