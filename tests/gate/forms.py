@@ -69,7 +69,8 @@ LONG_PATHS = {
 }
 MORE = {
     "show --paths-from": LONG_PATHS,
-    "show --readable": LONG_PATHS,
+    # the paths are kept while lines are written
+    "show --readable": {**LONG_PATHS, "one_long_key": (READ + PATHS, WRITTEN, 2 * MEMORY)},
     "get, version 1": LONG_PATHS,
     "get, version 2": LONG_PATHS,
     "map --paths": {"map_paths": (READ, 96, MEMORY)},  # each path may have some 5,000 bytes
