@@ -38,7 +38,7 @@ led_of (Ok led) = Ok led
 led_of (Err fault) = Err (Run fault)
 
 -- the answer to a question about the file f and the certificate with these bytes; with `hex` certify writes hexadecimal
--- text. What `ls --json`, `ls --objects`, `map` and `textconv` say is tested
+-- text. What `show --readable`, other forms of `ls`, `map` and `textconv` say is tested
 abbrev pub SaysAsked : Ask → Bool → List ℕ → List ℕ → Answer → Type 0
 SaysAsked asks.Lint hex f cert answer = LintSays f answer
 SaysAsked (asks.Certify sorted) hex f cert answer = CertifySays sorted hex f answer
@@ -75,6 +75,7 @@ LeavesAsked (asks.Text path limit) hex f cert old new result = (led : Result Led
     × LeavesLed (PrintSays limit (LintSays f) f (path.now ∷ [])) (Some limit) old new led × (result ≡ answer_of_led (led_of led))
 LeavesAsked (asks.Raw path) hex f cert old new result = (led : Result Led RawFault)
     × LeavesRawBy (ShowsRaw (LintSays f) f path.now) (IsRawless (LintSays f) f path.now) old new led × (result ≡ answer_of_led led)
+LeavesAsked (asks.Readable paths) hex f cert old new result = ⊤
 LeavesAsked (asks.Rows listed) hex f cert old new result = ⊤
 LeavesAsked (asks.Map paths) hex f cert old new result = ⊤
 LeavesAsked asks.Textconv hex f cert old new result = ⊤

@@ -6,9 +6,9 @@ ghost use Rattle.bplint.specs.ExitStatuses.{EndsWith};
 
 use crate::args::{Ask, Lint, Printed, Run};
 use crate::ending::{Ending, end};
-use crate::folders::{shown_name, shown_octets};
+use crate::folders::shown_name;
 use crate::output::{NoOut, OutFile, Replaces};
-use crate::reasons::{completed, prefix_of};
+use crate::reasons::{completed, prefix_of, unnamed_ending};
 use crate::run::answer;
 use crate::tally::Tally;
 use crate::unread::Unread;
@@ -75,6 +75,7 @@ impl<'a, R: Files<File = File> + Print + Eprint> Findings<'a, R> {
             replaces: Replaces::Certificates,
             hex: self.lint.choice.hex,
             prefix,
+            files_from: None,
             paths_from: None,
             most: None,
             explain: self.lint.explain,
@@ -201,19 +202,4 @@ impl<'a, R: Files<File = File> + Print + Eprint> Findings<'a, R> {
     fn prefix_of(&self, name: &str) -> Result<String, AllocError> {
         prefix_of(self.alloc, name, self.lint.named)
     }
-}
-
-/// The path is not UTF-8.
-fn unnamed_ending(
-    alloc: Global,
-    path: &[u8],
-    explain: bool,
-) -> Result<(String, Ending), AllocError> {
-    let shown = shown_octets(alloc, path)?;
-    let prefix = format!(in alloc; "{shown}: ")?;
-    let mut ending = Ending::with(alloc, RunFault::Open);
-    if explain {
-        ending.under.push_str("  file: its name is not UTF-8\n")?;
-    }
-    Ok((prefix, ending))
 }

@@ -5,7 +5,7 @@ ghost use Rattle.std.specs.Prelude.{◌≡◌};
 
 use crate::args::{Ask, Run};
 use crate::ending::Ending;
-use crate::folders::shown_name;
+use crate::folders::{shown_name, shown_octets};
 use crate::output::OutFault;
 use bplint_engine::Branch;
 use bplint_json::{Depth, Listed};
@@ -30,6 +30,21 @@ pub fn prefix_of(alloc: Global, name: &str, named: bool) -> Result<String, Alloc
     }
     let shown = shown_name(alloc, name)?;
     format!(in alloc; "{shown}: ")
+}
+
+/// Returns what begins the lines of a file whose name is not UTF-8, and how its run ends, since it cannot be opened.
+pub fn unnamed_ending(
+    alloc: Global,
+    name: &[u8],
+    explain: bool,
+) -> Result<(String, Ending), AllocError> {
+    let shown = shown_octets(alloc, name)?;
+    let prefix = format!(in alloc; "{shown}: ")?;
+    let mut ending = Ending::with(alloc, RunFault::Open);
+    if explain {
+        ending.under.push_str("  file: its name is not UTF-8\n")?;
+    }
+    Ok((prefix, ending))
 }
 
 /// Completes the end of a run whose answer went to OUT: a fault gets the name of its file, or why OUT could not be
@@ -192,7 +207,9 @@ pub fn most_line(alloc: Global, most: u64) -> Result<String, AllocError> {
 
 fn wrong_path<'a>(alloc: Global, ask: &'a Ask<'a>) -> Option<&'a str> {
     match ask {
-        Ask::Get { paths } | Ask::Show { paths, .. } => first_wrong(alloc, paths),
+        Ask::Get { paths } | Ask::Show { paths, .. } | Ask::Readable { paths } => {
+            first_wrong(alloc, paths)
+        }
         Ask::Print { path, .. }
         | Ask::Text { path, .. }
         | Ask::Raw { path }

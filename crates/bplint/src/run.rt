@@ -16,13 +16,34 @@ use bplint_engine::{
     certify_on, check_on, get_on, lint_on, list_all_on, list_on, print_on, show_on, show_raw_on,
     show_text_on,
 };
-use bplint_json::list_rows_on;
+use bplint_json::{list_rows_on, show_readable_on};
 use bplint_lines::{RawFault, RunFault, Said, explain};
 use bplint_map::map_on;
 use bplist_octets::Source;
 use std::alloc::{AllocError, Global};
 use std::fs::{File, Files};
 use std::io::Write;
+
+/// How the run for one FILE ended.
+#[derive(Clone, Copy, Drop)]
+pub struct Ended {
+    /// The exit status.
+    pub status: u8,
+    /// True if nobody reads standard output any more.
+    pub is_closed: bool,
+}
+
+impl Ended {
+    /// The end with this status, after which there may be another run.
+    pub fn with(status: u8) -> Ended
+        ensures { result.status ≡ status }
+    {
+        Ended {
+            status,
+            is_closed: false,
+        }
+    }
+}
 
 /// Opens FILE and CERT, and answers what is asked. Returns the exit status.
 pub fn run<R: Files<File = File> + Input + Print + Eprint>(
@@ -39,18 +60,19 @@ pub fn run<R: Files<File = File> + Input + Print + Eprint>(
         }
     };
     match with_listed_paths(rt, alloc, line) {
-        Ok(line) => run_opened(rt, alloc, &line, inputs),
+        Ok(line) => run_opened(rt, alloc, &line, inputs).status,
         Err(status) => status,
     }
 }
 
-fn run_opened<R: Files<File = File> + Print + Eprint>(
+/// Answers what is asked about inputs that are open.
+pub fn run_opened<R: Files<File = File> + Print + Eprint>(
     rt: &R,
     alloc: Global,
     line: &Run<'_>,
     inputs: Inputs,
-) -> u8
-    ensures { result ≤ 4 }
+) -> Ended
+    ensures { result.status ≤ 4 }
 {
     let Inputs { file, cert } = inputs;
     let mut out = OutFile::new(rt, line.out).replacing(line.replaces);
@@ -66,15 +88,14 @@ fn run_opened<R: Files<File = File> + Print + Eprint>(
         }
     };
     if let Some(OutFault::Kept) = out.fault() {
-        return keep_out(rt, alloc, line);
+        return Ended::with(keep_out(rt, alloc, line));
     }
     let ending = completed(alloc, line, ending, out.fault());
-    end(
-        rt,
-        alloc,
-        &line.prefix,
-        warned(alloc, line, ending, out.written()),
-    )
+    let ending = warned(alloc, line, ending, out.written());
+    Ended {
+        is_closed: ending.silent,
+        status: end(rt, alloc, &line.prefix, ending),
+    }
 }
 
 /// The answer has more bytes than may be written. If memory for the tip is refused, it is left out.
@@ -159,6 +180,7 @@ fn answer_on<S: Source + Drop, C: Source, W: Write>(
             of(alloc, print_on(alloc, file, decoded, path, *limit, out))
         }
         Ask::Show { paths, style } => of(alloc, show_on(alloc, file, paths, *style, out)),
+        Ask::Readable { paths } => of(alloc, show_readable_on(alloc, file, paths, out)),
         Ask::Text { path, limit } => {
             let (led, file) = show_text_on(alloc, file, path, *limit, out);
             (Ending::of_text(alloc, led), file)
@@ -169,7 +191,7 @@ fn answer_on<S: Source + Drop, C: Source, W: Write>(
         }
         Ask::List { path, style } => of(alloc, list_on(alloc, file, path, *style, out)),
         Ask::Tree(branch) => of(alloc, list_all_on(alloc, file, branch, out)),
-        Ask::Rows(listed) => of(alloc, list_rows_on(alloc, file, listed, out)),
+        Ask::Rows(listed) => { of(alloc, list_rows_on(alloc, file, listed, line.named(), out)) }
         Ask::Map { paths } => {
             let mut file = file;
             let answer = map_on(alloc, &mut file, *paths, out);

@@ -1,5 +1,5 @@
-//! The commands `ls --json` and `ls --objects`: list the members of a value, or the value and everything inside it,
-//! with the object of each value and its place.
+//! The forms of `ls` that are not proved: the members of a value, or the value and everything inside it, as JSON, with
+//! the object of each value and its place, as people read values, indented, or in the order of keys.
 
 ghost use Rattle.std.specs.Prelude.{◌≡◌, IfOk, None};
 ghost use Rattle.bplist_cursor.specs.Causes.{cursor_read};
@@ -8,9 +8,10 @@ ghost use Rattle.bplint_engine.specs.Names.{IsNameIn};
 ghost use Rattle.bplint_engine.specs.Walks.{IsReady};
 ghost use Rattle.bplint_lines.specs.Answers.{read_failed};
 
-use crate::columns::{columns_of, missing_columns};
+use crate::columns::{Values, add_site, indented, line_of, missing_line};
 use crate::rows::{Named, Site, missing_row, row_of, with_key};
-use bplint_engine::{Keys, Manner, Row, Start, Walk, checked_by_lint, count_within};
+use crate::sorted::linted;
+use bplint_engine::{Keys, Manner, Row, Start, Walk, count_within};
 use bplint_lines::{RunFault, Said, Style};
 use bplist_cert::Checked;
 use bplist_cursor::{CursorFault, Face, Found, Node, Path, Why, face, locate};
@@ -33,9 +34,27 @@ pub enum Depth {
 pub enum Form {
     /// A JSON object.
     Json,
-    /// The line of `ls` with texts in this style, and two more columns, each after a tab: the number of the object, and
-    /// its place from the beginning of the file.
-    Columns(Style),
+    /// The line of `ls`.
+    Lines(Values),
+    /// The line of `ls`, and two more columns, each after a tab: the number of the object, and its place from the
+    /// beginning of the file.
+    Columns(Values),
+    /// Two blanks for each container around the value, the name of the value in its container, a colon, and the value
+    /// as people read it.
+    Tree,
+}
+
+impl Form {
+    /// How names have keys.
+    fn keys(self) -> Keys {
+        match self {
+            Form::Json => Keys::Whole,
+            Form::Lines(Values::Exact(style)) | Form::Columns(Values::Exact(style)) => {
+                Keys::Shown(style)
+            }
+            _ => Keys::Shown(Style::Utf8),
+        }
+    }
 }
 
 /// What to list, and how.
@@ -47,11 +66,14 @@ pub struct Listed<'a> {
     pub depth: Depth,
     /// The form of a line.
     pub form: Form,
+    /// True if the pairs of a dictionary come in the order of their keys' units. Otherwise they come in the order of
+    /// the file.
+    pub sorted: bool,
 }
 
-/// Lists the value under a path: writes one line of the form for each value that `ls` has a line for, in the same
-/// order. Returns the source too. A path that leads nowhere gets a JSON object that says so, or in columns the line of
-/// `ls`.
+/// Lists the value under a path: writes one line of the form for each value that `ls` has a line for. Returns the
+/// source too. A path that leads nowhere gets a JSON object that says so, or in other forms the line of `ls`. If there
+/// is a name of the file, each JSON object has it.
 ///
 /// These errors come before anything is written, in this order: `Path` for a wrong path text; `Fault` or `Circle` as
 /// `lint` returns it; `TooLong` if the value has more nodes than [`Depth::All`] allows. Before `Read`, `Memory`,
@@ -60,15 +82,22 @@ pub fn list_rows_on<S: Source, W: Write>(
     alloc: Global,
     src: S,
     listed: &Listed<'_>,
+    file: Option<&str>,
     out: &mut W,
 ) -> (Result<Said, RunFault>, S) {
     let steps = match Path::parse(alloc, listed.path) {
         Ok(steps) => steps,
         Err(fault) => return (Err(RunFault::from(fault)), src),
     };
-    match checked_by_lint(alloc, src) {
+    match linted(alloc, src, listed.sorted) {
         Ok(mut checked) => {
-            let mut rows = RowLines::new(alloc, listed.form, out);
+            let mut rows = RowLines {
+                alloc,
+                form: listed.form,
+                file,
+                sink: Sink::new(),
+                out,
+            };
             let made = list_path(&mut checked, &steps, listed, &mut rows);
             (made, checked.into_parts().0)
         }
@@ -80,7 +109,7 @@ fn list_path<S: Source, W: Write>(
     checked: &mut Checked<S>,
     steps: &Path,
     listed: &Listed<'_>,
-    rows: &mut RowLines<'_, W>,
+    rows: &mut RowLines<'_, '_, W>,
 ) -> Result<Said, RunFault> {
     let said = match locate(checked, steps)? {
         Found::At(node) => {
@@ -106,18 +135,14 @@ fn walk_from<S: Source>(
 ) -> Result<Walk, RunFault>
     ensures { IfOk result (λ walk. IsReady checked.new.frame walk) }
 {
-    let keys = match listed.form {
-        Form::Json => Keys::Whole,
-        Form::Columns(style) => Keys::Shown(style),
-    };
     let (deep, room) = match listed.depth {
         Depth::Members => (false, 0),
         Depth::All(limit) => (true, count_within(alloc, checked, node, limit)?),
     };
     let manner = Manner {
-        keys,
+        keys: listed.form.keys(),
         deep,
-        sorted: false,
+        sorted: listed.sorted,
     };
     let start = Start {
         node,
@@ -132,7 +157,7 @@ fn walk_from<S: Source>(
 fn put_rows<S: Source, W: Write>(
     checked: &mut Checked<S>,
     walk: Walk,
-    rows: &mut RowLines<'_, W>,
+    rows: &mut RowLines<'_, '_, W>,
 ) -> Result<(), RunFault>
     requires { IsReady checked.old.frame walk }
 {
@@ -145,23 +170,16 @@ fn put_rows<S: Source, W: Write>(
 
 /// Lines that go through a sink to a writer.
 #[derive(Drop)]
-struct RowLines<'a, W> {
+struct RowLines<'f, 'o, W> {
     alloc: Global,
     form: Form,
+    /// The name of the file that JSON objects have.
+    file: Option<&'f str>,
     sink: Sink,
-    out: &'a mut W,
+    out: &'o mut W,
 }
 
-impl<'a, W: Write> RowLines<'a, W> {
-    fn new(alloc: Global, form: Form, out: &'a mut W) -> RowLines<'a, W> {
-        RowLines {
-            alloc,
-            form,
-            sink: Sink::new(),
-            out,
-        }
-    }
-
+impl<'f, 'o, W: Write> RowLines<'f, 'o, W> {
     /// Puts the line of a walk's last row.
     fn put<S: Source>(
         &mut self,
@@ -172,20 +190,56 @@ impl<'a, W: Write> RowLines<'a, W> {
         requires { IsNameIn walk.now.names row.now.name }
         ensures { OnlyReadsFile (read_failed result) checked.old checked.new }
     {
-        let site = site_of(checked, row.node)?;
-        let name = std::str::from_utf8(walk.name(row)).unwrap_or("");
+        let (alloc, name) = (
+            self.alloc,
+            std::str::from_utf8(walk.name(row)).unwrap_or(""),
+        );
         let line = match self.form {
-            Form::Json => json_row(self.alloc, checked, name, row, site)?,
-            Form::Columns(style) => columns_of(self.alloc, style, name, &row.shown, site)?,
+            Form::Json => self.json_row(checked, name, row)?,
+            Form::Lines(values) => line_of(alloc, values, name, &row.shown)?,
+            Form::Columns(values) => {
+                let site = site_of(checked, row.node)?;
+                let mut line = line_of(alloc, values, name, &row.shown)?;
+                add_site(alloc, site, &mut line)?;
+                line
+            }
+            Form::Tree => {
+                let own = std::str::from_utf8(walk.own_name(row)).unwrap_or("");
+                indented(alloc, row.depth, own, &row.shown)?
+            }
         };
         self.put_line(line)
+    }
+
+    /// Returns the JSON object of a row, without its line feed. A key that no path can have is read again.
+    fn json_row<S: Source>(
+        &self,
+        checked: &mut Checked<S>,
+        name: &str,
+        row: &Row,
+    ) -> Result<Vec<u8>, CursorFault>
+        ensures { OnlyReadsFile (cursor_read result) checked.old checked.new }
+    {
+        let site = site_of(checked, row.node)?;
+        let named = Named::new(self.file, Some(name), row.name.index);
+        let line = row_of(self.alloc, named, &row.shown, site)?;
+        let (Some(index), Some(key)) = (row.name.index, row.name.key) else {
+            return Ok(line);
+        };
+        match face(self.alloc, checked, key)? {
+            Face::Text(units) => {
+                let key = units.as_slice();
+                Ok(with_key(self.alloc, &line, self.file, index, key)?)
+            }
+            _ => Err(CursorFault::Changed),
+        }
     }
 
     /// Puts the line for a path that leads nowhere.
     fn put_missing(&mut self, path: &str, step: u64, why: Why) -> Result<(), RunFault> {
         let line = match self.form {
-            Form::Json => missing_row(self.alloc, path, step, why)?,
-            Form::Columns(_) => missing_columns(self.alloc, step, why)?,
+            Form::Json => missing_row(self.alloc, self.file, path, step, why)?,
+            _ => missing_line(self.alloc, step, why)?,
         };
         self.put_line(line)
     }
@@ -197,26 +251,6 @@ impl<'a, W: Write> RowLines<'a, W> {
         line.push(b'\n')?;
         self.sink.put(self.out, &line)?;
         Ok(())
-    }
-}
-
-/// Returns the JSON object of a row, without its line feed. A key that no path can have is read again.
-fn json_row<S: Source>(
-    alloc: Global,
-    checked: &mut Checked<S>,
-    name: &str,
-    row: &Row,
-    site: Site,
-) -> Result<Vec<u8>, CursorFault>
-    ensures { OnlyReadsFile (cursor_read result) checked.old checked.new }
-{
-    let line = row_of(alloc, Named::new(Some(name), row.name.index), &row.shown, site)?;
-    let (Some(index), Some(key)) = (row.name.index, row.name.key) else {
-        return Ok(line);
-    };
-    match face(alloc, checked, key)? {
-        Face::Text(units) => Ok(with_key(alloc, &line, index, units.as_slice())?),
-        _ => Err(CursorFault::Changed),
     }
 }
 

@@ -11,6 +11,9 @@ use std::alloc::{AllocError, Global};
 /// The name of a value in a line.
 #[derive(Clone, Copy, Drop, Serialize)]
 pub(crate) struct Named<'a> {
+    /// The name of the file, if the line has it.
+    #[serde(skip_serializing_if = "Option::is_none")]
+    pub file: Option<&'a str>,
     /// The path of the value, if it has one.
     pub path: Option<&'a str>,
     /// For a value without a path: the index of the innermost member around it that has no path.
@@ -23,23 +26,21 @@ pub(crate) struct Named<'a> {
 
 impl<'a> Named<'a> {
     /// The name with this text, which is a path, or the path from the member with this index on.
-    pub(crate) fn new(text: Option<&'a str>, index: Option<u64>) -> Named<'a> {
-        match (text, index) {
-            (Some(""), Some(_)) | (None, _) => Named {
-                path: None,
-                index,
-                below: None,
-            },
-            (_, Some(_)) => Named {
-                path: None,
-                index,
-                below: text,
-            },
-            (_, None) => Named {
-                path: text,
-                index,
-                below: None,
-            },
+    pub(crate) fn new(
+        file: Option<&'a str>,
+        text: Option<&'a str>,
+        index: Option<u64>,
+    ) -> Named<'a> {
+        let (path, below) = match (text, index) {
+            (Some(""), Some(_)) => (None, None),
+            (_, Some(_)) => (None, text),
+            (_, None) => (text, None),
+        };
+        Named {
+            file,
+            path,
+            index,
+            below,
         }
     }
 }
@@ -103,6 +104,8 @@ struct RowFront<'a> {
 /// The line for a path that leads nowhere.
 #[derive(Drop, Serialize)]
 struct MissingRow<'a> {
+    #[serde(skip_serializing_if = "Option::is_none")]
+    file: Option<&'a str>,
     path: &'a str,
     missing: &'a str,
     step: u64,
@@ -254,29 +257,26 @@ fn broken_text_row(
     Ok(row)
 }
 
-/// Adds the key of the innermost member that has no path to a line that begins with its index.
+/// Adds the key of the innermost member that has no path to a line of this file, which begins with the member's index.
 pub(crate) fn with_key(
     alloc: Global,
     row: &[u8],
+    file: Option<&str>,
     index: u64,
     key: &[u16],
 ) -> Result<Vec<u8>, AllocError> {
-    let front = format!(in alloc; "{{\"path\":null,\"index\":{index},")?;
-    let mut line = Vec::new(alloc);
-    line.extend_from_slice(front.as_bytes())?;
-    line.extend_from_slice(b"\"key\":\"")?;
+    let mut line = json_of(alloc, &Named::new(file, Some(""), Some(index)))?;
+    let front = line.len();
+    line.pop();
+    line.extend_from_slice(b",\"key\":\"")?;
     add_broken_text(alloc, key, &mut line)?;
     line.extend_from_slice(b"\",")?;
-    line.extend_from_slice(row.get(front.len()..).unwrap_or(&[]))?;
+    line.extend_from_slice(row.get(front..).unwrap_or(&[]))?;
     Ok(line)
 }
 
 /// Adds these units as they stand in a JSON text. A half of a surrogate pair becomes `\u` and its digits.
-fn add_broken_text(
-    alloc: Global,
-    units: &[u16],
-    row: &mut Vec<u8>,
-) -> Result<(), AllocError> {
+fn add_broken_text(alloc: Global, units: &[u16], row: &mut Vec<u8>) -> Result<(), AllocError> {
     let mut part = String::new(alloc);
     for found in char::decode_utf16(units.iter().copied()) {
         match found {
@@ -303,9 +303,10 @@ fn add_part(alloc: Global, part: &str, row: &mut Vec<u8>) -> Result<(), AllocErr
 }
 
 /// Returns the line for a path that leads nowhere, without its line feed.
-pub(crate) fn missing_row(
+pub(crate) fn missing_row<'a>(
     alloc: Global,
-    path: &str,
+    file: Option<&'a str>,
+    path: &'a str,
     step: u64,
     why: Why,
 ) -> Result<Vec<u8>, AllocError> {
@@ -313,6 +314,7 @@ pub(crate) fn missing_row(
     json_of(
         alloc,
         &MissingRow {
+            file,
             path,
             missing,
             step,
