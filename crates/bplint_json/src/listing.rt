@@ -190,25 +190,35 @@ impl<'f, 'o, W: Write> RowLines<'f, 'o, W> {
         requires { IsNameIn walk.now.names row.now.name }
         ensures { OnlyReadsFile (read_failed result) checked.old checked.new }
     {
-        let (alloc, name) = (
-            self.alloc,
-            std::str::from_utf8(walk.name(row)).unwrap_or(""),
-        );
-        let line = match self.form {
-            Form::Json => self.json_row(checked, name, row)?,
-            Form::Lines(values) => line_of(alloc, values, name, &row.shown)?,
+        let line = self.line_at(checked, walk, row)?;
+        self.put_line(line)
+    }
+
+    /// Returns the line of a walk's last row, without its line feed.
+    fn line_at<S: Source>(
+        &self,
+        checked: &mut Checked<S>,
+        walk: &Walk,
+        row: &Row,
+    ) -> Result<Vec<u8>, CursorFault>
+        requires { IsNameIn walk.now.names row.now.name }
+        ensures { OnlyReadsFile (cursor_read result) checked.old checked.new }
+    {
+        let name = std::str::from_utf8(walk.name(row)).unwrap_or("");
+        match self.form {
+            Form::Json => self.json_row(checked, name, row),
+            Form::Lines(values) => Ok(line_of(self.alloc, values, name, &row.shown)?),
             Form::Columns(values) => {
                 let site = site_of(checked, row.node)?;
-                let mut line = line_of(alloc, values, name, &row.shown)?;
-                add_site(alloc, site, &mut line)?;
-                line
+                let mut line = line_of(self.alloc, values, name, &row.shown)?;
+                add_site(self.alloc, site, &mut line)?;
+                Ok(line)
             }
             Form::Tree => {
                 let own = std::str::from_utf8(walk.own_name(row)).unwrap_or("");
-                indented(alloc, row.depth, own, &row.shown)?
+                Ok(indented(self.alloc, row.depth, own, &row.shown)?)
             }
-        };
-        self.put_line(line)
+        }
     }
 
     /// Returns the JSON object of a row, without its line feed. A key that no path can have is read again.
