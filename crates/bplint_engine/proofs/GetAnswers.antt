@@ -1,5 +1,5 @@
 -- What `get` and `ls` say, derived from the contracts of the cursor.
-use Rattle.std.proofs.Common.{◌≡◌, ◌∙◌, ◌++◌, ◌||◌, inr, ℕ, List, [], ◌∷◌, map, Bool, Result, Ok, Err, ap, append-nil, refl, sym, subst}
+use Rattle.std.proofs.Common.{◌≡◌, ◌∙◌, ◌++◌, ◌||◌, inr, ℕ, List, [], ◌∷◌, map, Bool, Result, Ok, Err, ap, refl, sym, subst}
 use Rattle.std.proofs.Math.Logic.{∥∥₁_map, ∥∥₁_elim}
 use Rattle.std.proofs.Props.{props}
 use Rattle.std.proofs.lemmas.Grind.{merely}
@@ -34,7 +34,6 @@ use Rattle.bplint_lines.specs.declared.texts.Style.{Style}
 use Rattle.bplint_lines.specs.declared.texts.Style.TheVariants.{OldStyle}
 use Rattle.bplint_engine.specs.Get.{LinesSay, answer_fault, found_line, is_missing, replies_said, reply_line, said_of}
 use Rattle.bplint_engine.specs.Check.{CheckSays}
-use Rattle.bplint_engine.specs.Ls.{listed}
 use Rattle.bplint_engine.proofs.EqualAnswers.{same_gives}
 use Rattle.bplint_engine.proofs.PathAnswers.{AreLines, IsThere, IsYes, check_yes, file_refused}
 use Rattle.bplint_engine.proofs.RefusedCertificates.{answer_refused}

@@ -1,7 +1,7 @@
 -- Values whose recursive listings have the same lines are the same.
-use Rattle.std.proofs.Common.{◌≡◌, ◌<◌, ◌+◌, ◌*◌, ◌^◌, ◌⊎◌, inl, inr, ℕ, suc, List, [], ◌∷◌, ◌++◌, Bool, true, false, cond, ◌||◌, nat_eq, slice_index, length, drop, refl, sym, ap, ◌∙◌, arith, append_assoc, append-nil}
+use Rattle.std.proofs.Common.{◌≡◌, ◌<◌, ◌+◌, ◌*◌, ◌⊎◌, inl, inr, ℕ, List, [], ◌∷◌, ◌++◌, Bool, true, false, cond, ◌||◌, nat_eq, slice_index, length, drop, refl, sym, ap, ◌∙◌, arith, append_assoc}
 use Rattle.std.specs.Prelude.{codes, if◌then◌else◌}
-use Rattle.std.specs.Char.Utf16.{has_unpaired_surrogate, utf16_chars}
+use Rattle.std.specs.Char.Utf16.{has_unpaired_surrogate}
 use Rattle.std.specs.List.{AllByRecursion, list_any}
 use Rattle.std.proofs.lemmas.List.{append_cancel_left, append_cancel_right}
 use Rattle.hex.specs.Hex.{IsBytes}
@@ -19,7 +19,6 @@ use Rattle.bplint_lines.specs.declared.texts.Style.TheVariants.{Utf8}
 use Rattle.bplint_engine.specs.Ls.{named_line}
 use Rattle.bplint_engine.specs.Told.{HasShownKeys, IsShownKey}
 use Rattle.bplint_engine.specs.Tree.{array_lines, dict_lines, set_lines, tree_lines}
-use Rattle.bplint_engine.proofs.ReadCharacters.{have_lone}
 use Rattle.bplint_engine.proofs.ToldTexts.{AreShown as AreUnitsShown, AreUnits, decimal_tells, hex_tells, key_bytes, key_tells, signed_tells, utf8_tells}
 use Rattle.bplint_engine.proofs.ToldValues.{ArePairsShown, AreShown, IsLeafOfFile, IsShown, held_shown}
 

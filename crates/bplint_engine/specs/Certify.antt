@@ -16,7 +16,6 @@ use Rattle.bplint_lines.specs.declared.fault.Said.{Said}
 use Rattle.bplint_lines.specs.declared.fault.Said.TheVariants.{All}
 use Rattle.bplint_lines.specs.Answers.{Answer, gives, refuses}
 use Rattle.bplint_engine.specs.Lint.{LintSays}
-use Rattle.bplint_engine.specs.Output.{IsRefusal}
 
 -- a certificate's bytes, or their hexadecimal text and a line feed
 abbrev pub written : Bool → List ℕ → List ℕ

@@ -1,6 +1,6 @@
 -- What `show --raw` says: bytes of data, UTF-8 of a text, digits of an integer or UID, `true` or `false`. Source:
 -- profile.
-use Rattle.std.specs.Prelude.{◌≡◌, ℕ, ◌∷◌, List, [], codes, Bool, true, false, if◌then◌else◌, Option, None, Some, Result, Ok, Err, MatchOption, MatchResult, encode_utf8_all, length, ⊤}
+use Rattle.std.specs.Prelude.{◌≡◌, ℕ, ◌∷◌, List, [], codes, false, if◌then◌else◌, Option, None, Some, Result, Ok, Err, MatchOption, MatchResult, encode_utf8_all, length, ⊤}
 use Rattle.std.specs.Char.Utf16.{has_unpaired_surrogate, utf16_lossy_chars}
 use Rattle.std.specs.Fmt.{decimal, signed_decimal}
 use Rattle.std.specs.Io.KnownBytes.{Keeps}

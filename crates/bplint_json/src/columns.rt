@@ -51,7 +51,7 @@ pub(crate) fn add_site(alloc: Global, site: Site, line: &mut Vec<u8>) -> Result<
 /// container.
 pub(crate) fn indented(
     alloc: Global,
-    depth: u64,
+    depth: usize,
     name: &str,
     shown: &Face,
 ) -> Result<Vec<u8>, AllocError> {

@@ -216,7 +216,7 @@ impl<'f, 'o, W: Write> RowLines<'f, 'o, W> {
             }
             Form::Tree => {
                 let own = std::str::from_utf8(walk.own_name(row)).unwrap_or("");
-                Ok(indented(self.alloc, row.depth, own, &row.shown)?)
+                Ok(indented(self.alloc, row.depth as usize, own, &row.shown)?)
             }
         }
     }

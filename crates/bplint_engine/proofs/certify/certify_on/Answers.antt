@@ -1,4 +1,4 @@
-use Rattle.std.proofs.Common.{◌≡◌, ℕ, List, Bool, None, Option, Result, Ok, Err, true, false, refl, subst}
+use Rattle.std.proofs.Common.{ℕ, List, Bool, None, Option, Result, Ok, Err, true, false, refl, subst}
 use Rattle.std.proofs.lemmas.Grind.{merely}
 use Rattle.bplist_objects.specs.declared.frame.Frame.{Frame}
 use Rattle.bplist_cert.specs.Encoding.{octets_of}

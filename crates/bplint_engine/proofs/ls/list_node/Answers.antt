@@ -1,8 +1,8 @@
-use Rattle.std.proofs.Common.{Ok, refl, subst, sym}
+use Rattle.std.proofs.Common.{Ok, refl}
 use Rattle.std.proofs.lemmas.Result.{err_from_is_err_and}
 use Rattle.bplint_engine.specs.Ls.{listed}
 use Rattle.bplint_engine.specs.Streams.{begun}
-use Rattle.bplint_engine.specs.Walks.{RowsLeftIn, walked_lines}
+use Rattle.bplint_engine.specs.Walks.{walked_lines}
 use Rattle.std.specs.Prelude.{false}
 use Rattle.bplint_engine.proofs.Puts.{cursor_stops}
 use Rattle.bplint_engine.proofs.RowSteps.{walked_listed}

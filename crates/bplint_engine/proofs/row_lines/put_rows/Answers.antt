@@ -1,4 +1,4 @@
-use Rattle.std.proofs.Common.{◌≡◌, ◌∙◌, None, ap, refl, rules, sym}
+use Rattle.std.proofs.Common.{◌≡◌, ◌∙◌, None, refl, rules}
 use Rattle.std.proofs.lemmas.Result.{err_from_is_err_and}
 use Rattle.bplist_cursor.proofs.SameFiles.{same_file}
 use Rattle.bplint_engine.specs.Walks.{row_line}

@@ -1,4 +1,3 @@
-use Rattle.std.proofs.Common.{◌≡◌, Err, arith, rules}
 use Rattle.std.proofs.lemmas.Result.{err_from_is_err_and}
 use Rattle.bplint_engine.proofs.LowerFaults.{cursor_excused}
 use Rattle.bplint_engine.proofs.SentAnswers.{excused_refuses}

@@ -13,7 +13,7 @@ pub returns-in_err-nodes-clause-exact : goal.returns-in_err-nodes-clause-exact
 returns-in_err-nodes-clause-exact g c = λ honest vouched w holds.
     let branch = c.args.branch.now in
     let p = err_from_is_err_and c.from_residual.result c.from_residual.ensures.1 in
-    rw (p.1, p.2) (uncounted branch.style branch.limit branch.path.now w (g.W.Write.contents c.args.out.now) c.in_err-nodes.field-0 (c.in_err-nodes.ensures.exact honest vouched w holds))
+    rw (p.1, p.2) (uncounted branch.style branch.limit branch.path.now w (g.W.Write.contents c.args.out.now) _ (c.in_err-nodes.ensures.exact honest vouched w holds))
 
 pub returns-in_err-walk-clause-exact : goal.returns-in_err-walk-clause-exact
 returns-in_err-walk-clause-exact g c = λ honest vouched w holds.

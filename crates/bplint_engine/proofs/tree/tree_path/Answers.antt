@@ -1,7 +1,6 @@
-use Rattle.std.proofs.Common.{arith, ◌∙◌, ◌≡◌, None, Err, subst, sym}
+use Rattle.std.proofs.Common.{◌≡◌, None, Err, subst, sym}
 use Rattle.std.specs.Prelude.{MatchResult}
 use Rattle.std.proofs.lemmas.Result.{err_from_is_err_and}
-use Rattle.bplist_objects.specs.Holds.{Holds}
 use Rattle.bplint_lines.specs.declared.fault.Said.TheVariants.{SomeMissing}
 use Rattle.bplint_lines.specs.Answers.{gives}
 use Rattle.bplint_engine.specs.Get.{found_line}

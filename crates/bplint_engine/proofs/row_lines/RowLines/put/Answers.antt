@@ -1,5 +1,5 @@
 use Rattle.std.proofs.Common.{◌≡◌, Err, rules}
-use Rattle.bplint_lines.specs.declared.fault.RunFault.TheVariants.{Memory, Write}
+use Rattle.bplint_lines.specs.declared.fault.RunFault.TheVariants.{Memory}
 use Rattle.bplint_engine.specs.Walks.{row_line}
 use Rattle.bplint_engine.proofs.Puts.{excused_stops}
 use Rattle.bplint_engine.proofs.row_lines.RowLines.put.Goals as goal
