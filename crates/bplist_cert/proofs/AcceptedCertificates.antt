@@ -37,6 +37,8 @@ use Rattle.bplist_cert.specs.DictKeys.{KeysAreTexts, KeysDiffer, AreInOrder}
 use Rattle.bplist_cert.specs.CheckRules.{is_of_refs, Asks, KeepsByRefs, BreaksByRefs, KeepsRule, BreaksRule, KeepBelow, IsLeastFault, KeepsCheck, HasOrder, BreaksOrder, KeepsLast, check_rules, key_rules}
 use Rattle.bplist_cert.specs.KeyRepeats.{HasGoodKeys}
 use Rattle.bplist_cert.specs.PairFault.{KeepsPairRules, IsVouchedFault, IsCountFault, IsPairFault}
+use Rattle.bplist_cert.specs.declared.walk.Pass.TheVariants.{Exact}
+use Rattle.bplist_cert.proofs.AskedBytes.{all_room}
 use Rattle.bplist_cert.proofs.CheckSteps.{vouched_inside, good_by_kept, good_keeps}
 use Rattle.bplist_cert.proofs.KeyRepeats.{rules_after}
 use Rattle.bplist_cert.proofs.KeyTies.{HaveKeys, keys_from_rules, rules_from_keys}
@@ -136,9 +138,7 @@ accepted f F certificate k =
         frame = k.framed;
         count = k.count;
         top = k.top;
-        room = λ ns r d a w.
-            let b = k.running.sums.most ns r d (all_weaker _ _ (λ m v. (v, inside m v)) ns a) w in
-            omega (arith, b, k.running.room);
+        room = all_room f F certificate Exact k.total k.count k.running;
         vouched = λ n v. vouched f F heights keys n k.framed (inside n v) (k.running.kept n (inside n v) v);
       };
       listed = listed f F heights keys k.framed k.count (λ n lt v. k.running.kept n lt v);

@@ -1,6 +1,7 @@
 -- References, block by block.
 use Rattle.std.proofs.Common.{◌≡◌, ◌≢◌, ℕ, ◌+◌, ◌-◌, ◌*◌, ◌<◌, ◌≤◌, ◌⊎◌, inl, inr, min, IsTrue, List, length, take, slice_index, Option, Some, None, refl, sym, ap, ◌∙◌, subst, arith}
 use Rattle.std.proofs.lemmas.Bool.{cases_lt}
+use Rattle.std.proofs.lemmas.Grind.{get_or_default_zero}
 use Rattle.std.proofs.lemmas.List.{get_or-take, length-take}
 use Rattle.bplist_objects.specs.declared.frame.Frame.{Frame}
 use Rattle.bplist_objects.specs.declared.head.Head.{Head}
@@ -8,6 +9,7 @@ use Rattle.bplist_objects.specs.Safe.{ref_count}
 use Rattle.bplist_objects.specs.Scan.{ref}
 use Rattle.bplist_objects.specs.KeyCounts.{key_count}
 use Rattle.bplist_objects.specs.declared.head.Kind.TheVariants.{Dict}
+use Rattle.bplist_keys.specs.Classes.{IsNamedBy}
 use Rattle.bplist_cert.specs.declared.key_names.KeyNames.{KeyNames}
 use Rattle.bplist_cert.specs.declared.heights.Wanted.{Wanted}
 use Rattle.bplist_cert.specs.Walks.{AreStamped, HasCollected, HasStamped, IfCollected}
@@ -103,6 +105,7 @@ pub record HasCollectedFirst (f : List ℕ) (F : Frame) (head : Head) (many stam
   pub all : length after.last.items ≡ length before.last.items
   pub keeps : (x : ℕ) → 0 < slice_index before.last.items x → 0 < slice_index after.last.items x
   pub stamped : head.kind ≡ Dict → (k : ℕ) → k < head.count → k < many → ref f F head k < length before.last.items → 0 < slice_index after.last.items (ref f F head k)
+  pub only : (x : ℕ) → 0 < slice_index after.last.items x → (0 < slice_index before.last.items x) ⊎ IsNamedBy f F head many x
   pub apart : IsTrue after.apart → IsTrue before.apart × (head.kind ≡ Dict → AreStampedKeys f F head many stamp after.last.items)
 
 module _ (f : List ℕ) (F : Frame) (head : Head) (stamp : ℕ) where
@@ -113,6 +116,7 @@ module _ (f : List ℕ) (F : Frame) (head : Head) (stamp : ℕ) where
     all = refl;
     keeps = λ x some. some;
     stamped = λ dict k low few. absurd (omega (arith, few));
+    only = λ x some. inl some;
     apart = λ apart. (apart, λ dict. (λ k low few. absurd (omega (arith, few)), λ j k less low few. absurd (omega (arith, few))));
   }
 
@@ -136,6 +140,12 @@ module _ (f : List ℕ) (F : Frame) (head : Head) (stamp : ℕ) where
       keeps = λ x some. new.keeps x (old.keeps x some);
       stamped = λ dict. stamps_more f F head done refs next (length first.last.items) before.last.items after.last.items new.keeps (old.stamped dict) keys (enough dict) few
           (λ j short below. new.stamped j short (omega (arith, below, old.all)));
+      only = λ x some. elim (new.only x some) [
+        | inl was ↦ elim (old.only x was) [ inl first ↦ inl first | inr (k, low, is) ↦ inr (k, omega (arith, low), is) ]
+        | inr (k, low, is) ↦
+            let short : k < keys = omega (arith, low, few, length-take keys refs) in
+            inr (done + k, omega (arith, short, few), sym is ∙ get_or_default_zero (take keys refs) k x low ∙ get_or-take keys refs k 0 short ∙ next k (omega (arith, short, few)))
+      ];
       apart = λ true.
           let now = new.apart true in
           let was = old.apart now.0 in
@@ -150,7 +160,7 @@ module _ (f : List ℕ) (F : Frame) (head : Head) (stamp : ℕ) where
     collected_more (Some first) (Some before) (Some after) old new = more first before after old new
 
   -- of all references
-  pub collected_all : (many : ℕ) → ref_count head.kind head.count ≤ many → (before after : Option KeyNames)
+  pub collected_all : (many : ℕ) → ref_count head.kind head.count ≡ many → (before after : Option KeyNames)
       → IfCollected before after (HasCollectedFirst f F head many stamp) → IfCollected before after (HasCollected f F head)
   collected_all many all before None told = tt
   collected_all many all None (Some after) told = absurd told
@@ -158,6 +168,7 @@ module _ (f : List ℕ) (F : Frame) (head : Head) (stamp : ℕ) where
     all = told.all;
     keeps = told.keeps;
     stamped = λ dict k low. told.stamped dict k low (omega (arith, low, all, keys_among dict));
+    only = subst (λ count. (x : ℕ) → 0 < slice_index after.last.items x → (0 < slice_index before.last.items x) ⊎ IsNamedBy f F head count x) (sym all) told.only;
     apart = λ true. let now = told.apart true in (now.0, λ dict j k less low. (now.1 dict).1 j k less low (omega (arith, low, all, keys_among dict)));
   }
     where

@@ -1,5 +1,5 @@
 -- The walk over the vouched objects, one after the other.
-use Rattle.std.proofs.Common.{◌≡◌, ℕ, suc, ◌<◌, ◌≤◌, ◌+◌, ◌-◌, ◌*◌, min, ◌⊎◌, inl, inr, List, [], ◌∷◌, length, slice_index, Option, Some, None, Result, Ok, Err, IfOk, sym, ap, subst, arith}
+use Rattle.std.proofs.Common.{◌≡◌, ℕ, suc, ◌<◌, ◌≤◌, ◌+◌, ◌-◌, ◌*◌, min, ◌⊎◌, inl, inr, List, [], ◌∷◌, length, slice_index, Option, Some, None, Result, Ok, Err, sym, ap, subst, arith}
 use Rattle.std.proofs.lemmas.Bool.{cases_lt}
 use Rattle.std.proofs.lemmas.List.{get_or_past}
 use Rattle.bplist_objects.specs.declared.rule.Rule.{Rule}
@@ -193,10 +193,10 @@ module _ (f : List ℕ) (F : Frame) (heights : List ℕ) (keys : Option Keyed) (
     held_more t run u h = record { sums = h.sums; room = h.room; kept = below_by run.kept (λ _. h.kept) }
 
   -- the fault of a vouched object is that of the walk
-  pub fault_met : IsVouchedBy heights n → (look : Pass) (t : ℕ) → AreCheckedBelow f F (lists heights keys) Quick n t → (fault : Fault)
+  pub fault_met : n < F.objects → IsVouchedBy heights n → (look : Pass) (t : ℕ) → AreCheckedBelow f F (lists heights keys) Quick n t → (fault : Fault)
       → IsShownFault f F (lists heights keys) look n fault → IsWalkFault f F (lists heights keys) look fault
-  fault_met v Quick t run fault h = tt
-  fault_met v Exact t run fault h = record { object = n; vouched = v; first = h; seen = run.kept }
+  fault_met within v Quick t run fault h = λ kept. h (kept n within v)
+  fault_met within v Exact t run fault h = record { object = n; vouched = v; first = h; seen = run.kept }
 
 -- what is vouched for is an object
 pub vouched_inside : (heights : List ℕ) (count n : ℕ) → length heights ≡ count → IsVouchedBy heights n → n < count
@@ -269,12 +269,6 @@ refused_weaker P Q refusals.Memory same h = tt
 pub given_weaker : (P Q : Fault → Type 0) (e : ObjectFault) → ((x : Fault) → P x → Q x) → GivesFault P e → GivesFault Q e
 given_weaker P Q (errors.Fault fault) same h = same fault h
 given_weaker P Q (errors.Read r) same h = tt
-
--- a quick check shows nothing of a fault
-pub any_shown : {X : Type 0} (P : X → Type 0) (result : Result X ObjectFault) → IfOk result P → Gives P (λ _. Unit {0}) result
-any_shown P (Ok x) h = h
-any_shown P (Err (errors.Fault fault)) h = tt
-any_shown P (Err (errors.Read r)) h = tt
 
 -- the references have heights, and this is the result of the check by rule 29
 pub heights_checked : (f : List ℕ) (F : Frame) (heights : List ℕ) (n : ℕ) (head : Head) (result : Result (Unit {0}) ObjectFault)

@@ -77,13 +77,13 @@ module _ (f : List ℕ) (F : Frame) where
 
   -- what an object keeps that keeps the rules before those of keys
   module _ (heights : List ℕ) (n : ℕ) (seen : KeepsBeforeKeys f F heights n) where
-    seen_parts : KeepsAll (KeepsByObject f F n) object_rules × KeepsAll (KeepsRule f F (IsVouchedBy heights) (lists heights None) n) (rules_after [])
+    pub seen_parts : KeepsAll (KeepsByObject f F n) object_rules × KeepsAll (KeepsRule f F (IsVouchedBy heights) (lists heights None) n) (rules_after [])
     seen_parts = kept_all_parts (KeepsRule f F (IsVouchedBy heights) (lists heights None) n) object_rules (rules_after []) seen
 
     pub seen_own : KeepsAll (KeepsByObject f F n) object_rules
     seen_own = seen_parts.0
 
-    seen_lower : (head : Head) → HasHead f F n head → (k : ℕ) → k < ref_count head.kind head.count → IsVouchedBy heights (ref f F head k) × (slice_index heights (ref f F head k) < slice_index heights n)
+    pub seen_lower : (head : Head) → HasHead f F n head → (k : ℕ) → k < ref_count head.kind head.count → IsVouchedBy heights (ref f F head k) × (slice_index heights (ref f F head k) < slice_index heights n)
     seen_lower head has k low = (seen_parts.1.1.0 head has k low, seen_parts.1.1.1.0 head has k low)
 
   -- the keys of a vouched dictionary are vouched for, and lower

@@ -1,6 +1,6 @@
 -- What a walk over the vouched objects finds out about the keys of dictionaries.
-use Rattle.std.proofs.Common.{◌≡◌, ℕ, suc, ◌+◌, ◌-◌, ◌*◌, ◌≤◌, ◌<◌, ◌∙◌, ap, sym, subst, inl, inr, List, length, slice_index, IsTrue, Bool, Option, Some, None, MatchOption, ◌↔◌, arith}
-use Rattle.std.proofs.lemmas.Bool.{cases_eq}
+use Rattle.std.proofs.Common.{◌≡◌, ℕ, suc, ◌+◌, ◌-◌, ◌*◌, ◌≤◌, ◌<◌, ◌∙◌, ap, sym, subst, inl, inr, List, length, slice_index, IsTrue, Bool, false, Option, Some, None, MatchOption, ◌↔◌, arith}
+use Rattle.std.proofs.lemmas.Bool.{cases_eq, cases_lt, false≢true}
 use Rattle.std.proofs.lemmas.List.{get_or_past}
 use Rattle.bplist_objects.specs.declared.frame.Frame.{Frame}
 use Rattle.bplist_objects.specs.declared.head.Head.{Head}
@@ -24,6 +24,13 @@ pub none_past : (numbers block : List ℕ) (from n m : ℕ) → ((k : ℕ) → k
     → from + length block ≤ m → m < from + n → slice_index numbers m ≡ 0
 none_past numbers block from n m at past low =
     ap (slice_index numbers) (omega (arith, past)) ∙ sym (at (m - from) (omega (arith, past, low))) ∙ get_or_past block (m - from) 0 (omega (arith, past))
+
+-- what is marked is in the list
+pub marked_within : (marks : List Bool) (m : ℕ) → IsMarked marks m → m < length marks
+marked_within marks m is = elim (cases_lt m (length marks)) [
+  | inl a ↦ a
+  | inr b ↦ absurd (false≢true (sym (get_or_past marks m false b) ∙ is))
+]
 
 -- about no objects nothing is said except what was learnt
 pub none_listed : (f : List ℕ) (F : Frame) (heights : List ℕ) (keyed : Keyed) (look : KeyListFindings) → AreLearnt f F look → HaveGoodLists f F heights keyed 0 look
@@ -51,11 +58,11 @@ no_refs_keys f F n head has none other h dict k low =
 
 module _ (f : List ℕ) (F : Frame) (heights : List ℕ) (n : ℕ) where
   -- with the keys of object n, those of the objects up to it are collected
-  pub collected_next : (head : Head) → HasHead f F n head → (head.kind ≡ Dict → (k : ℕ) → k < head.count → ref f F head k < F.objects)
+  pub collected_next : (head : Head) → HasHead f F n head → length heights ≡ F.objects → ((k : ℕ) → k < ref_count head.kind head.count → IsVouchedBy heights (ref f F head k))
       → (before after : Option KeyNames) → IfCollected before after (HasCollected f F head) → AreCollected f F heights n before → AreCollected f F heights (suc n) after
-  collected_next head has inside before None told h = tt
-  collected_next head has inside None (Some after) told h = absurd told
-  collected_next head has inside (Some before) (Some after) told (all, stamped, apart) = (
+  collected_next head has count vouched before None told h = tt
+  collected_next head has count vouched None (Some after) told h = absurd told
+  collected_next head has count vouched (Some before) (Some after) told (all, stamped, apart, only) = (
     told.all ∙ all,
     λ m low vouched. elim (cases_eq m n) [
       | inl e ↦ subst (HasStampedKeys f F after.last.items) (sym e) here
@@ -65,16 +72,19 @@ module _ (f : List ℕ) (F : Frame) (heights : List ℕ) (n : ℕ) where
       | inl e ↦ subst (HasKeysApart f F) (sym e) (λ other h. subst (λ (x : Head). x.kind ≡ Dict → AreApart f F x) (HasHead-unique f F n head other has h) (told.apart true).1)
       | inr d ↦ apart (told.apart true).0 m (omega (arith, low, d)) vouched
     ],
+    λ m some. elim (told.only m some) [ inl was ↦ only m was | inr (k, low, is) ↦ subst (IsVouchedBy heights) (sym is) (vouched k low) ],
   )
     where
       here : HasStampedKeys f F after.last.items n
       here other h = subst (λ (x : Head). x.kind ≡ Dict → (k : ℕ) → k < x.count → 0 < slice_index after.last.items (ref f F x k)) (HasHead-unique f F n head other has h)
-          (λ dict k low. told.stamped dict k low (omega (arith, inside dict k low, all)))
+          (λ dict k low.
+          let two : ref_count head.kind head.count ≡ 2 * head.count = ap (λ kind. ref_count kind head.count) dict in
+          told.stamped dict k low (subst (λ many. ref f F head k < many) (count ∙ sym all) (vouched_below heights (ref f F head k) (vouched k (omega (arith, low, two))))))
 
   -- object n has no keys, or is not vouched for
   pub none_collected : (IsVouchedBy heights n → HasNoKeys f F n) → (names : Option KeyNames) → AreCollected f F heights n names → AreCollected f F heights (suc n) names
   none_collected none None h = tt
-  none_collected none (Some names) (all, stamped, apart) = (
+  none_collected none (Some names) (all, stamped, apart, only) = (
     all,
     λ m low vouched. elim (cases_eq m n) [
       | inl e ↦ subst (HasStampedKeys f F names.last.items) (sym e) (λ head has dict k l. absurd (none (subst (IsVouchedBy heights) e vouched) head has dict k l))
@@ -84,6 +94,7 @@ module _ (f : List ℕ) (F : Frame) (heights : List ℕ) (n : ℕ) where
       | inl e ↦ subst (HasKeysApart f F) (sym e) (λ head has dict j k less l. absurd (none (subst (IsVouchedBy heights) e vouched) head has dict k l))
       | inr d ↦ apart true m (omega (arith, low, d)) vouched
     ],
+    only,
   )
 
 -- what is known of names and of lists is known of both
@@ -102,7 +113,7 @@ module _ (f : List ℕ) (F : Frame) (heights : List ℕ) (bound : ℕ) where
   -- objects with a mark for each stamp are named
   pub stamps_marked : (names : KeyNames) (marks : List Bool) → length marks ≡ length names.last.items
       → ((m : ℕ) → m < length names.last.items → IsMarked marks m ↔ (0 < slice_index names.last.items m)) → AreCollected f F heights bound (Some names) → HaveNamedKeys f F heights bound marks
-  stamps_marked names marks all marked (objects, stamped, apart) = (
+  stamps_marked names marks all marked (objects, stamped, apart, only) = (
     all ∙ objects,
     λ n low vouched head has dict k l.
         let some = stamped n low vouched head has dict k l in

@@ -4,6 +4,7 @@ pub mod Blocks
 pub mod TextObjects
 pub mod OrderedLists
 pub mod CheckSteps
+pub mod AskedBytes
 pub mod QuickLooks
 pub mod AllNumbers
 pub mod VouchedObjects

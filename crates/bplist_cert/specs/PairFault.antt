@@ -40,7 +40,7 @@ pub record IsSeenFault (f : List ℕ) (F : Frame) (certificate : Lists) (fault :
 -- the fault that ends a walk over the vouched objects, without the rules of keys: the first for an exact walk, any for
 -- a quick one
 abbrev pub IsWalkFault : List ℕ → Frame → Lists → Pass → Fault → Type 0
-IsWalkFault f F certificate Quick fault = Unit {0}
+IsWalkFault f F certificate Quick fault = KeepBeforeKeysBelow f F certificate.heights F.objects → ⊥
 IsWalkFault f F certificate Exact fault = IsSeenFault f F certificate fault
 
 -- there are as many heights as objects, the top has a height, and all vouched objects keep the rules

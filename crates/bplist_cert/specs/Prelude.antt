@@ -40,7 +40,7 @@ pub use Rattle.bplist_cert.specs.KeyPairs.{AreFewKeys, AreKnown, Ascends, Follow
 pub use Rattle.bplist_cert.specs.KeyRepeats.{BreaksKeys, HasGoodKeys, HaveGoodKeys, HaveNamedKeys, IsFirstKeysFault, IsKeyOf, IsVouchedKey}
 pub use Rattle.bplist_cert.specs.KeysLooks.{AreLearnt, AreListed, AreSeen, HaveGoodLists, IsListed}
 pub use Rattle.bplist_cert.specs.Lists.{AreWords, HasStarts, IsCertificate, IsCompleteList, Lists, list_of, lists}
-pub use Rattle.bplist_cert.specs.Looks.{ArePlaces, IsShownFault, KeepBeforeKeysBelow}
+pub use Rattle.bplist_cert.specs.Looks.{ArePlaces, IsShownFault, KeepBeforeKeysBelow, KeepsRest}
 pub use Rattle.bplist_cert.specs.LowBytes.{AreLowStretches, IsLow}
 pub use Rattle.bplist_cert.specs.PairFault.{AreCheckedBelow, IsCheckedObject, IsPairFault, IsSeenFault, IsVouchedFault, IsWalkFault, KeepsPairRules}
 pub use Rattle.bplist_cert.specs.Refusals.{GivesRefusal, Judges, MayRefuse, is_read, refusal_of, refusal_of_keys, refused_read}
@@ -48,7 +48,7 @@ pub use Rattle.bplist_cert.specs.Sorted.{IsAccepted, IsSorted}
 pub use Rattle.bplist_cert.specs.Sound.{IsSound}
 pub use Rattle.bplist_cert.specs.Valid.{HoldsOneValue, IsValid, IsVouchedBy, SpellsText}
 pub use Rattle.bplist_cert.specs.Versions.{header_octets, is_keyed}
-pub use Rattle.bplist_cert.specs.Walks.{AreCollected, AreCollectedNext, AreOwn, AreStamped, HasCollected, HasStamped, HaveKeysApart, IfCollected}
+pub use Rattle.bplist_cert.specs.Walks.{AreCollected, AreCollectedNext, AreOwn, AreStamped, AreWalked, HasCollected, HasStamped, HaveKeysApart, IfCollected}
 pub use Rattle.bplist_cert.specs.declared.walk.Pass.TheVariants.{Exact, Quick}
 pub use Rattle.bplist_cert.specs.declared.certificate.CertRefusal.TheVariants.{Memory as CertMemory}
 pub use Rattle.bplist_cert.specs.declared.heights.Wanted.TheVariants.{VouchedBelow}

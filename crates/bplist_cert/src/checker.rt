@@ -1,6 +1,6 @@
 //! The check of a certificate against a file: rules 26 and 27, the walk over the vouched objects, and then their keys.
 
-ghost use Rattle.std.specs.Prelude.{◌≡◌, length, IfOk, IfErr, MatchResult, Some};
+ghost use Rattle.std.specs.Prelude.{◌≡◌, ◌+◌, ◌*◌, ◌≤◌, length, IfOk, IfErr, OnOk, MatchResult, None, Some};
 ghost use Rattle.bplist_cert.specs.Prelude.{OnlyReads, Honestly, frame_in, HonestlyIn};
 ghost use Rattle.bplist_cert.specs.Prelude.{IsSafeFrame, ObjectNo as object_no, IsSound};
 ghost use Rattle.bplist_cert.specs.Prelude.{AreSeen, Exact as exact, AreCheckedBelow, IsVouchedFault};
@@ -35,6 +35,9 @@ fn check_found<P: Offsets>(
 ) -> Result<Extents, Refusal>
     requires { length cert.now.heights ≡ (frame_in (P.means src.old)).objects }
     ensures reads { OnlyReads (refused_read result) (P.means src.old) (P.means src.new) }
+    ensures asks { HonestlyIn (P.means src.old) (λ f F. cert.now.keys ≡ None → AreSeen f F cert.now 0 found.old
+        → (found.old.named ≡ None → ⊥)
+        → OnOk result (P.asked src.new ≤ P.asked src.old + (2 * length f + 2 * F.table + 436 * F.objects))) }
     ensures memory { IfErr result (MayRefuse cert.now.keys) }
     ensures exact { HonestlyIn (P.means src.old) (λ f F. AreSeen f F cert.now 0 found.old →
         Judges (λ used. AreCheckedBelow f F cert.now exact F.objects used.octets) (IsVouchedFault f F cert.now) result) }
@@ -73,6 +76,8 @@ fn check_objects<P: Offsets>(
 ) -> Result<Extents, Refusal>
     requires { length cert.now.heights ≡ (frame_in (P.means src.old)).objects }
     ensures reads { OnlyReads (refused_read result) (P.means src.old) (P.means src.new) }
+    ensures asks { HonestlyIn (P.means src.old) (λ f F. cert.now.keys ≡ None
+        → OnOk result (P.asked src.new ≤ P.asked src.old + (2 * length f + 2 * F.table + 436 * F.objects))) }
     ensures memory { IfErr result (MayRefuse cert.now.keys) }
     ensures exact { HonestlyIn (P.means src.old) (λ f F.
         Judges (λ used. AreCheckedBelow f F cert.now exact F.objects used.octets) (IsVouchedFault f F cert.now) result) }
@@ -83,6 +88,8 @@ fn check_objects<P: Offsets>(
 
 fn check_lists<S: Source>(alloc: Global, src: &mut S, cert: &Certificate) -> Result<Frame, Refusal>
     ensures reads { OnlyReads (refused_read result) (S.means src.old) (S.means src.new) }
+    ensures asks { Honestly (S.means src.old) (λ f. cert.now.keys ≡ None
+        → IfOk result (λ frame. S.asked src.new ≤ S.asked src.old + (40 + 5 * length f + 436 * frame.objects))) }
     ensures memory { IfErr result (MayRefuse cert.now.keys) }
     ensures exact { Honestly (S.means src.old) (λ f. Judges
         (λ frame. KeepsPairRules f frame cert.now) (IsPairFault f cert.now) result) }
@@ -131,6 +138,8 @@ pub fn check<S: Source>(
     ensures handed { MatchResult result
         (λ checked. (checked.certificate ≡ cert) × (checked.source ≡ S.means src))
         (λ refused. (refused.2 ≡ cert) × OnlyReads (is_read refused.0) (S.means src) (S.means refused.1)) }
+    ensures asks { Honestly (S.means src) (λ f. cert.keys ≡ None
+        → IfOk result (λ checked. checked.asked ≤ S.asked src + (40 + 5 * length f + 436 * checked.frame.objects))) }
     ensures sound { Honestly (S.means src) (λ f. IfOk result (λ _. ∥ IsSound f ∥₁)) }
     ensures yes { Honestly (S.means src) (λ f. IfOk result (λ checked. ∥ IsAccepted f checked.frame cert ∥₁)) }
     ensures accepts { Honestly (S.means src) (λ f. (F : frame) → IsAccepted f F cert

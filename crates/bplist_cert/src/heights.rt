@@ -1,6 +1,6 @@
 //! Checks the heights of references: rules 28 and 29.
 
-ghost use Rattle.std.specs.Prelude.{◌≡◌, ◌↔◌, ℕ, ◌+◌, ◌-◌, ◌^◌, ◌≤◌, ◌<◌, length, min, slice_index, take, IsTrue, MatchOption};
+ghost use Rattle.std.specs.Prelude.{◌≡◌, ◌↔◌, ℕ, ◌+◌, ◌-◌, ◌*◌, ◌^◌, ◌≤◌, ◌<◌, length, None, min, slice_index, take, IsTrue, MatchOption};
 ghost use Rattle.std.specs.Prelude.{OnOk};
 ghost use Rattle.bplist_cert.specs.Prelude.{OnlyReads, frame_in, HonestlyIn, IsSafeHead, ref_count, Gives, read_failed};
 ghost use Rattle.bplist_cert.specs.Prelude.{Meets, AreMet, AreMetBy, IsFirstUnmetBy, IsUnmetFault, rule_of};
@@ -81,7 +81,8 @@ pub(crate) struct Container<'a> {
 #[inline(always)]
 fn collect_keys(names: &mut Option<KeyNames>, container: Container, first: u64, refs: &[u64])
     requires { container.n.0 < 2 ^ 32 - 1 }
-    ensures { IfCollected names.old names.new (HasStamped (container.entry.n.0 + 1)
+    ensures stays { names.new ≡ None → names.old ≡ None }
+    ensures stamped { IfCollected names.old names.new (HasStamped (container.entry.n.0 + 1)
         (take (min (length refs.now) (key_count container.entry.head.now.kind container.entry.head.now.count - first)) refs.now)) }
 {
     if let Some(stamps) = names {
@@ -107,6 +108,9 @@ pub(crate) fn check_refs<P: Framed>(
     ensures exact { HonestlyIn (P.means src.old) (λ f F. Gives
         (λ _. AreMet f F heights.now container.entry.head.now wanted (ref_count container.entry.head.now.kind container.entry.head.now.count))
         (IsUnmetFault f F heights.now container.entry.n.0 container.entry.head.now wanted) result) }
+    ensures asks { OnOk result (P.asked src.new ≤ P.asked src.old
+        + ref_count container.entry.head.now.kind container.entry.head.now.count * (frame_in (P.means src.old)).ref_size) }
+    ensures stays { names.new ≡ None → names.old ≡ None }
     ensures names { HonestlyIn (P.means src.old) (λ f F. OnOk result
         (IfCollected names.old names.new (HasCollected f F container.entry.head.now))) }
 {

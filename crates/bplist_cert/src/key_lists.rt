@@ -4,12 +4,12 @@
 //! checks the key lists, rules 21 and 32. If it sees all objects and finds all lists good, nothing is left to check.
 //! Otherwise each dictionary is checked, in the order of their numbers, so that the fault is the first.
 
-ghost use Rattle.std.specs.Prelude.{◌≡◌, ◌+◌, ◌≤◌, ℕ, List, None, IfOk, IfErr, length, ◌<◌, Some, IsTrue, false};
+ghost use Rattle.std.specs.Prelude.{◌≡◌, ◌+◌, ◌≤◌, ℕ, List, None, IfOk, IfErr, length, ◌<◌, ◌*◌, OnOk, Some, IsTrue, false};
 ghost use Rattle.bplist_cert.specs.Prelude.{OnlyReads, Gives, Never, read_failed, frame_in, HonestlyIn, Frame as frame};
 ghost use Rattle.bplist_cert.specs.Prelude.{Lists, lists, ArePlaces, KeepBeforeKeysBelow, HaveGoodKeys};
 ghost use Rattle.bplist_cert.specs.Prelude.{IsFirstKeysFault, Judges, MayRefuse, refused_read, AreSeen, off, KeepsAll};
 ghost use Rattle.bplist_cert.specs.Prelude.{KeepsByObject, object_rules, Head as head, Dict, HasGoodKeys, BreaksKeys};
-ghost use Rattle.bplist_cert.specs.Prelude.{AreKnown, AreListed, IsListed, HaveGoodLists, AreLearnt, IsVouchedBy};
+ghost use Rattle.bplist_cert.specs.Prelude.{AreKnown, AreListed, IsListed, HaveGoodLists, AreLearnt, AreWalked, IsVouchedBy};
 
 use crate::caches::{LowBytesCache, OrderedPairsCache};
 use crate::certificate::KeyLists;
@@ -60,6 +60,7 @@ impl<'a> KeyListFindings<'a> {
     ) -> Result<(), ObjectFault>
         requires { seen.now.bound + length places.now ≤ (frame_in (P.means src.old)).objects }
         ensures reads { OnlyReads (read_failed result) (P.means src.old) (P.means src.new) }
+        ensures asks { seen.now.keys.now ≡ None → P.asked src.new ≡ P.asked src.old }
         ensures exact { HonestlyIn (P.means src.old) (λ f F. ArePlaces f F seen.now.bound places.now
             → KeepBeforeKeysBelow f F seen.now.heights.now (seen.now.bound + length places.now)
             → AreListed f F (lists seen.now.heights.now seen.now.keys.now) seen.now.bound self.old
@@ -100,6 +101,9 @@ impl<'a> KeyFindings<'a> {
     ) -> Result<(), Refusal>
         requires { length seen.now.heights.now ≡ (frame_in (P.means src.old)).objects }
         ensures reads { OnlyReads (refused_read result) (P.means src.old) (P.means src.new) }
+        ensures asks { HonestlyIn (P.means src.old) (λ f F. seen.now.keys.now ≡ None → seen.now.bound ≡ F.objects
+            → AreWalked f F seen.now.heights.now self.old.named
+            → OnOk result (P.asked src.new ≤ P.asked src.old + (2 * length f + F.table + 408 * F.objects))) }
         ensures memory { IfErr result (MayRefuse seen.now.keys.now) }
         ensures exact { HonestlyIn (P.means src.old) (λ f F. KeepBeforeKeysBelow f F seen.now.heights.now seen.now.bound
             → AreSeen f F (lists seen.now.heights.now seen.now.keys.now) seen.now.bound self.old
@@ -120,6 +124,7 @@ pub(crate) fn key_findings<'a, P: Framed>(
     keys: &Option<KeyLists>,
 ) -> Result<KeyFindings<'a>, AllocError>
     ensures none { HonestlyIn (P.means src.now) (λ f F. IfOk result (λ look. (heights : List ℕ) → AreSeen f F (lists heights keys.now) 0 look)) }
+    ensures some { keys.now ≡ None → IfOk result (λ look. look.named ≡ None → ⊥) }
     ensures memory { IfErr result (λ _. keys.now ≡ None) }
 {
     let objects = src.frame().objects;

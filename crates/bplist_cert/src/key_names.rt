@@ -1,10 +1,10 @@
 //! Collects the objects that vouched dictionaries name as keys.
 
-ghost use Rattle.std.specs.Prelude.{◌≡◌, ◌≢◌, ◌↔◌, ◌⊎◌, ◌+◌, ◌<◌, ◌≤◌, ℕ, None, IfOk, IsTrue, OnOk, length, ◌^◌, ◌-◌, slice_index, replicate};
+ghost use Rattle.std.specs.Prelude.{◌≡◌, ◌≢◌, ◌↔◌, ◌⊎◌, ◌+◌, ◌<◌, ◌≤◌, ℕ, None, IfOk, IsTrue, OnOk, length, ◌^◌, ◌-◌, slice_index, replicate, Contains};
 ghost use Rattle.bplist_cert.specs.Prelude.{OnlyReads, Gives, Never, read_failed, off, frame_in, HonestlyIn, KeepsAll};
 ghost use Rattle.bplist_cert.specs.Prelude.{KeepsByObject, object_rules, HasNamedKeys, HaveNamedKeys, IsKeyOf};
 ghost use Rattle.bplist_cert.specs.Prelude.{IsVouchedKey, ArePlaces, IsMarked, IsVouchedBy, KeepBeforeKeysBelow};
-ghost use Rattle.bplist_cert.specs.Prelude.{Judges, refused_read, AreCollected, AreStamped, HasStamped};
+ghost use Rattle.bplist_cert.specs.Prelude.{Judges, refused_read, AreCollected, AreStamped, AreWalked, HasStamped};
 
 use crate::heights::block_of;
 use crate::refusal::Refusal;
@@ -19,7 +19,7 @@ const BLOCK: usize = 512;
 fn stamp_one(last: &mut [u32], stamp: u32, m: u64) -> bool
     ensures all { length last.new ≡ length last.old }
     ensures stamped { m < length last.old → slice_index last.new m ≡ stamp }
-    ensures only { (x : ℕ) → (slice_index last.new x ≡ slice_index last.old x) ⊎ (slice_index last.new x ≡ stamp) }
+    ensures only { (x : ℕ) → (slice_index last.new x ≡ slice_index last.old x) ⊎ ((x ≡ m) × (slice_index last.new x ≡ stamp)) }
     ensures other { IsTrue result → (m < length last.old) × (slice_index last.old m ≢ stamp) }
 {
     if m >= last.len() as u64 {
@@ -37,6 +37,7 @@ fn stamp_all(last: &mut [u32], stamp: u32, numbers: &[u64]) -> bool
     ensures keeps { (x : ℕ) → 0 < slice_index last.old x → 0 < slice_index last.new x }
     ensures stamped { (k : ℕ) → k < length numbers.now → slice_index numbers.now k < length last.old
         → 0 < slice_index last.new (slice_index numbers.now k) }
+    ensures only { (x : ℕ) → 0 < slice_index last.new x → (0 < slice_index last.old x) ⊎ Contains numbers.now x }
     ensures apart { IsTrue result → AreStamped stamp numbers.now last.old last.new }
 {
     let mut apart = true;
@@ -137,29 +138,21 @@ pub(crate) fn name_key_block<P: Framed>(
     Ok(())
 }
 
-/// The keys are those collected, or else found by a walk.
-pub(crate) fn seen_keys<P: Framed>(
+fn find_keys<P: Framed>(
     alloc: Global,
     src: &mut P,
     heights: &[u32],
     bound: u32,
-    collected: Option<KeyNames>,
 ) -> Result<NamedKeys, Refusal>
     requires { bound ≤ (frame_in (P.means src.old)).objects }
     ensures reads { OnlyReads (refused_read result) (P.means src.old) (P.means src.new) }
     ensures all { IfOk result (λ named. length named.marks.items ≡ (frame_in (P.means src.old)).objects) }
     ensures exact { HonestlyIn (P.means src.old) (λ f F. KeepBeforeKeysBelow f F heights.now bound
-        → AreCollected f F heights.now bound collected
         → Judges (λ named. HaveNamedKeys f F heights.now bound named.marks.items) Never result) }
-    ensures only { HonestlyIn (P.means src.old) (λ f F. collected ≡ None → IfOk result (λ named. (m : ℕ)
+    ensures only { HonestlyIn (P.means src.old) (λ f F. IfOk result (λ named. (m : ℕ)
         → IsMarked named.marks.items m → IsVouchedKey f F heights.now m)) }
 {
     let objects = src.frame().objects;
-    if let Some(names) = collected {
-        if names.last.len() == objects as usize {
-            return Ok(marks_of(alloc, &names.last)?);
-        }
-    }
     let mut named = NamedKeys::new(alloc, objects)?;
     let mut buffer = [0u64; BLOCK];
     let mut done = 0u32;
@@ -171,6 +164,33 @@ pub(crate) fn seen_keys<P: Framed>(
         done += now;
     }
     Ok(named)
+}
+
+/// The keys are those collected, or else found by a walk.
+pub(crate) fn seen_keys<P: Framed>(
+    alloc: Global,
+    src: &mut P,
+    heights: &[u32],
+    bound: u32,
+    collected: Option<KeyNames>,
+) -> Result<NamedKeys, Refusal>
+    requires { bound ≤ (frame_in (P.means src.old)).objects }
+    ensures reads { OnlyReads (refused_read result) (P.means src.old) (P.means src.new) }
+    ensures asks { HonestlyIn (P.means src.old) (λ f F. AreWalked f F heights.now collected → P.asked src.new ≡ P.asked src.old) }
+    ensures all { IfOk result (λ named. length named.marks.items ≡ (frame_in (P.means src.old)).objects) }
+    ensures exact { HonestlyIn (P.means src.old) (λ f F. KeepBeforeKeysBelow f F heights.now bound
+        → AreCollected f F heights.now bound collected
+        → Judges (λ named. HaveNamedKeys f F heights.now bound named.marks.items) Never result) }
+    ensures vouched { HonestlyIn (P.means src.old) (λ f F. AreWalked f F heights.now collected → IfOk result (λ named. (m : ℕ)
+        → IsMarked named.marks.items m → IsVouchedBy heights.now m)) }
+{
+    let objects = src.frame().objects;
+    if let Some(names) = collected {
+        if names.last.len() == objects as usize {
+            return Ok(marks_of(alloc, &names.last)?);
+        }
+    }
+    find_keys(alloc, src, heights, bound)
 }
 
 /// Returns exactly the objects that the vouched dictionaries name as keys.
@@ -188,5 +208,5 @@ pub fn vouched_keys<P: Framed>(
         → IsMarked named.marks.items m → IsVouchedKey f F heights.now m)) }
 {
     let bound = src.frame().objects;
-    seen_keys(alloc, src, heights, bound, None)
+    find_keys(alloc, src, heights, bound)
 }

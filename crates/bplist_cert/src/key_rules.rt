@@ -6,12 +6,13 @@
 //! If a pair of file and certificate is accepted, the classes have decided both rules. [`check_texts`], which reads
 //! each key, runs only for pairs that are refused: after a fault of an earlier rule, of a class or of a key list.
 
-ghost use Rattle.std.specs.Prelude.{◌≡◌, ◌↔◌, IsTrue, ℕ, ◌+◌, ◌≤◌, ◌<◌, ◌^◌, length, slice_index, IfOk, IfSome, MatchOption};
+ghost use Rattle.std.specs.Prelude.{◌≡◌, ◌↔◌, IsTrue, ℕ, ◌+◌, ◌-◌, ◌*◌, ◌≤◌, ◌<◌, ◌^◌, length, slice_index, IfOk, OnOk, IfSome, MatchOption};
 ghost use Rattle.std.specs.Prelude.{None};
 ghost use Rattle.std.specs.Result.{result_err};
 ghost use Rattle.bplist_cert.specs.Prelude.{OnlyReads, frame_in, HonestlyIn, IsSafeHead, Gives, read_failed, KeyKind};
 ghost use Rattle.bplist_cert.specs.Prelude.{Dict, Head as head_record, IsText, KeysAreTexts, IsKeylessFault, AreLowStretches};
-ghost use Rattle.bplist_cert.specs.Prelude.{FailsAt, HasHead, ref, AreOwn, AreCollected, HaveKeysApart};
+ghost use Rattle.bplist_objects.specs.Extents.{HaveRoom};
+ghost use Rattle.bplist_cert.specs.Prelude.{FailsAt, HasHead, IsMarked, off, ref, AreOwn, AreCollected, AreWalked, HaveKeysApart};
 ghost use Rattle.bplist_cert.specs.Prelude.{Head as head, HaveNamedKeys, AreClassed, IsStamped, IsNew};
 ghost use Rattle.bplist_cert.specs.Prelude.{lists, KeepBeforeKeysBelow, IsVouchedBy, HasGoodKeys};
 ghost use Rattle.bplist_cert.specs.Prelude.{HaveGoodKeys, BreaksKeys, IsFirstKeysFault, Judges, refused_read};
@@ -121,6 +122,8 @@ fn check_dict_repeats<P: Offsets>(
 ) -> Result<(), Refusal>
     requires { n < (frame_in (P.means src.old)).objects }
     ensures reads { OnlyReads (refused_read result) (P.means src.old) (P.means src.new) }
+    ensures asks { HonestlyIn (P.means src.old) (λ f F. seen.now.bound ≡ F.objects → (head : head) → HasHead f F n head
+        → OnOk result (P.asked src.new + off f F n ≤ P.asked src.old + 36 + head.«end»)) }
     ensures same { look.new.table.classes.table.items ≡ look.old.table.classes.table.items }
     ensures stamped { IsStamped n look.old.table.seen.items look.new.table.seen.items }
     ensures exact { HonestlyIn (P.means src.old) (λ f F. n < seen.now.bound → IsVouchedBy seen.now.heights.now n
@@ -161,6 +164,10 @@ fn check_named<P: Offsets>(
     requires all { length seen.now.heights.now ≡ (frame_in (P.means src.old)).objects }
     requires all_named { length named.marks.items ≡ (frame_in (P.means src.old)).objects }
     ensures reads { OnlyReads (refused_read result) (P.means src.old) (P.means src.new) }
+    ensures asks { HonestlyIn (P.means src.old) (λ f F. seen.now.bound ≡ F.objects
+        → KeepBeforeKeysBelow f F seen.now.heights.now seen.now.bound → HaveRoom f F (IsVouchedBy seen.now.heights.now)
+        → ((m : ℕ) → IsMarked named.marks.items m → IsVouchedBy seen.now.heights.now m)
+        → OnOk result (P.asked src.new ≤ P.asked src.old + (2 * length f + F.table + 400 * F.objects))) }
     ensures exact { HonestlyIn (P.means src.old) (λ f F. KeepBeforeKeysBelow f F seen.now.heights.now seen.now.bound
         → HaveNamedKeys f F seen.now.heights.now seen.now.bound named.marks.items
         → (IsTrue apart → (F.objects ≤ seen.now.bound) × HaveKeysApart f F seen.now.heights.now seen.now.bound)
@@ -228,6 +235,8 @@ pub(crate) fn check_key_repeats<P: Offsets>(
 ) -> Result<(), Refusal>
     requires { length seen.now.heights.now ≡ (frame_in (P.means src.old)).objects }
     ensures reads { OnlyReads (refused_read result) (P.means src.old) (P.means src.new) }
+    ensures asks { HonestlyIn (P.means src.old) (λ f F. seen.now.bound ≡ F.objects → AreWalked f F seen.now.heights.now names
+        → OnOk result (P.asked src.new ≤ P.asked src.old + (2 * length f + F.table + 408 * F.objects))) }
     ensures exact { HonestlyIn (P.means src.old) (λ f F. KeepBeforeKeysBelow f F seen.now.heights.now seen.now.bound
         → AreCollected f F seen.now.heights.now seen.now.bound names
         → Judges (λ _. HaveGoodKeys f F seen.now.heights.now None seen.now.bound)

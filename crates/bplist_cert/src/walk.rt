@@ -1,12 +1,12 @@
 //! The walk over the vouched objects, which checks each of them by the rules before those of keys: 14 to 20, 31, 28 and
 //! 29.
 
-ghost use Rattle.std.specs.Prelude.{◌≡◌, ◌+◌, ◌≤◌, ◌<◌, length, IfOk};
+ghost use Rattle.std.specs.Prelude.{◌≡◌, ◌+◌, ◌*◌, ◌≤◌, ◌<◌, length, None, IfOk, OnOk};
 ghost use Rattle.bplist_cert.specs.Prelude.{OnlyReads, frame_in, HonestlyIn, off, Sums, IsVouchedBy};
 ghost use Rattle.bplist_cert.specs.Prelude.{IsShownFault, ArePlaces, AreSeen, Quick as quick};
 ghost use Rattle.bplist_cert.specs.Prelude.{IsCheckedObject, AreCheckedBelow, IsWalkFault, IsSeenFault};
 ghost use Rattle.bplist_cert.specs.Prelude.{Gives, read_failed, IsSafeHead, HasHead, IsCheckFault};
-ghost use Rattle.bplist_cert.specs.Prelude.{KeepsAll, KeepsByObject, body_rules, AreLower, AreCollected, AreCollectedNext};
+ghost use Rattle.bplist_cert.specs.Prelude.{KeepsRest, AreCollected, AreCollectedNext};
 
 use crate::certificate::Certificate;
 use crate::heights::{Container, Wanted, check_heights, check_refs};
@@ -66,9 +66,11 @@ fn check_rest<P: Framed>(
     requires within { at.n.0 < (frame_in (P.means src.old)).objects }
     requires head { IsSafeHead (frame_in (P.means src.old)) head.now }
     ensures reads { OnlyReads (read_failed result) (P.means src.old) (P.means src.new) }
+    ensures asks { OnOk result (P.asked src.new + head.now.body ≤ P.asked src.old + head.now.«end») }
+    ensures stays { named.new ≡ None → named.old ≡ None }
     ensures exact { HonestlyIn (P.means src.old) (λ f F. at.place ≡ off f F at.n.0 → HasHead f F at.n.0 head.now
-        → IfOk result (λ _. (KeepsAll (KeepsByObject f F at.n.0) body_rules × AreLower f F heights.now at.n.0 head.now)
-        × AreCollectedNext f F heights.now at.n.0 named.old named.new)) }
+        → Gives (λ _. KeepsRest f F heights.now at.n.0 head.now × AreCollectedNext f F heights.now at.n.0 named.old named.new)
+        (λ _. KeepsRest f F heights.now at.n.0 head.now → ⊥) result) }
 {
     let frame = src.frame();
     if refs_of(head) == 0 {
@@ -79,7 +81,7 @@ fn check_rest<P: Framed>(
     check_refs(src, heights, container, Wanted::VouchedBelow(own), named)
 }
 
-/// The fault need not be the first.
+/// The fault need not be the first, but there is one.
 #[inline(always)]
 fn check_quickly<P: Framed>(
     src: &mut P,
@@ -91,10 +93,13 @@ fn check_quickly<P: Framed>(
     requires all { length cert.now.heights ≡ (frame_in (P.means src.old)).objects }
     requires within { n.0 < (frame_in (P.means src.old)).objects }
     ensures reads { OnlyReads (read_failed result) (P.means src.old) (P.means src.new) }
+    ensures asks { OnOk result (P.asked src.new + walked.old.used.octets ≤ P.asked src.old + walked.new.used.octets + 20) }
+    ensures stays { walked.new.named ≡ None → walked.old.named ≡ None }
     ensures exact { HonestlyIn (P.means src.old) (λ f F. place ≡ off f F n.0
         → IsVouchedBy cert.now.heights n.0 → Sums f F (IsVouchedBy cert.now.heights) n.0 walked.old.used.octets
-        → IfOk result (λ _. IsCheckedObject f F cert.now quick n.0 walked.new.used.octets
-        × AreCollectedNext f F cert.now.heights n.0 walked.old.named walked.new.named)) }
+        → Gives (λ _. IsCheckedObject f F cert.now quick n.0 walked.new.used.octets
+        × AreCollectedNext f F cert.now.heights n.0 walked.old.named walked.new.named)
+        (IsShownFault f F cert.now quick n.0) result) }
 {
     let table = src.frame().table;
     match visit_in(src, n, place)? {
@@ -150,6 +155,9 @@ fn check_object<P: Framed>(
     requires all { length walk.certificate.now.heights ≡ (frame_in (P.means src.old)).objects }
     requires within { n.0 < (frame_in (P.means src.old)).objects }
     ensures reads { OnlyReads (read_failed result) (P.means src.old) (P.means src.new) }
+    ensures asks { walk.entry.look ≡ quick
+        → OnOk result (P.asked src.new + walked.old.used.octets ≤ P.asked src.old + walked.new.used.octets + 20) }
+    ensures stays { walk.entry.look ≡ quick → walked.new.named ≡ None → walked.old.named ≡ None }
     ensures exact { HonestlyIn (P.means src.old) (λ f F. place ≡ off f F n.0
         → IsVouchedBy walk.entry.certificate.now.heights n.0 → Sums f F (IsVouchedBy walk.entry.certificate.now.heights) n.0 walked.old.used.octets
         → Gives (λ _. IsCheckedObject f F walk.entry.certificate.now quick n.0 walked.new.used.octets
@@ -177,6 +185,9 @@ fn check_block<P: Framed>(
     requires all { length walk.certificate.now.heights ≡ (frame_in (P.means src.old)).objects }
     requires within { from + length places.now ≤ (frame_in (P.means src.old)).objects }
     ensures reads { OnlyReads (read_failed result) (P.means src.old) (P.means src.new) }
+    ensures asks { walk.entry.look ≡ quick → OnOk result (P.asked src.new + walked.old.used.octets
+        ≤ P.asked src.old + walked.new.used.octets + 20 * length places.now) }
+    ensures stays { walk.entry.look ≡ quick → walked.new.named ≡ None → walked.old.named ≡ None }
     ensures exact { HonestlyIn (P.means src.old) (λ f F. ArePlaces f F from places.now
         → AreCheckedBelow f F walk.entry.certificate.now quick from walked.old.used.octets
         → Gives (λ _. AreCheckedBelow f F walk.entry.certificate.now quick (from + length places.now) walked.new.used.octets
@@ -204,6 +215,9 @@ fn check_all<P: Offsets>(
 ) -> Result<Extents, ObjectFault>
     requires { length walk.certificate.now.heights ≡ (frame_in (P.means src.old)).objects }
     ensures reads { OnlyReads (read_failed result) (P.means src.old) (P.means src.new) }
+    ensures asks { walk.entry.look ≡ quick → walk.entry.certificate.now.keys ≡ None → IfOk result (λ used.
+        P.asked src.new ≤ P.asked src.old + used.octets + 28 * (frame_in (P.means src.old)).objects) }
+    ensures stays { walk.entry.look ≡ quick → OnOk result (found.new.named ≡ None → found.old.named ≡ None) }
     ensures exact { HonestlyIn (P.means src.old) (λ f F. AreSeen f F walk.entry.certificate.now 0 found.old → Gives
         (λ used. AreCheckedBelow f F walk.entry.certificate.now quick F.objects used.octets
         × AreSeen f F walk.entry.certificate.now F.objects found.new)
@@ -244,6 +258,9 @@ pub(crate) fn check_in_passes<P: Offsets>(
 ) -> Result<Extents, ObjectFault>
     requires { length cert.now.heights ≡ (frame_in (P.means src.old)).objects }
     ensures reads { OnlyReads (read_failed result) (P.means src.old) (P.means src.new) }
+    ensures asks { HonestlyIn (P.means src.old) (λ f F. AreSeen f F cert.now 0 found.old → cert.now.keys ≡ None → IfOk result (λ used.
+        (P.asked src.new ≤ P.asked src.old + used.octets + 28 * F.objects)
+        × (found.new.named ≡ None → found.old.named ≡ None))) }
     ensures exact { HonestlyIn (P.means src.old) (λ f F. AreSeen f F cert.now 0 found.old → Gives
         (λ used. AreCheckedBelow f F cert.now quick F.objects used.octets × AreSeen f F cert.now F.objects found.new)
         (λ fault. IsSeenFault f F cert.now fault × AreSeen f F cert.now 0 found.new) result) }

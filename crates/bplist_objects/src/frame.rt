@@ -187,6 +187,7 @@ pub fn trailer_of<S: Source>(src: &mut S) -> Result<Frame, ObjectFault>
 /// source: its sizes are 1 to 8, its table is inside, and its top is below its number of objects.
 pub fn frame_of<S: Source>(src: &mut S) -> Result<Frame, ObjectFault>
     ensures reads { OnlyReads (read_failed result) (S.means src.old) (S.means src.new) }
+    ensures asks { S.asked src.new ≤ S.asked src.old + (40 + length (S.means src.old).octets) }
     ensures exact { Honestly (S.means src.old) (λ f. Gives (IsFrame f) (IsFrameFault f) result) }
     ensures framed { Honestly (S.means src.old) (λ f. (x : frame) → IsFrame f x → Gives (λ y. y ≡ x) Never result) }
     ensures safe { IfOk result (IsSafeFrame (length (S.means src.old).octets)) }

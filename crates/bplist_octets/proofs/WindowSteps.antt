@@ -8,8 +8,8 @@ use Rattle.bplist_octets.specs.declared.pages.Page.{Page}
 use Rattle.bplist_octets.proofs.Parts.{part_joined, range_is_part, window_part}
 
 -- a part of a page's bytes is that part of the source's bytes
-pub page_part : (f : List ℕ) (honest : Bool) (page : Page) (at from n : ℕ) → IsPage f honest page → page.start + from ≡ at → from + n ≤ vec_len page.octets → IsTrue honest → part page.octets.items from n ≡ part f at n
-page_part f honest page at from n is same inside is_honest =
+pub page_part : (f : List ℕ) (honest : Bool) (page : Page) (k at from n : ℕ) → IsPage f honest k page → page.start + from ≡ at → from + n ≤ vec_len page.octets → IsTrue honest → part page.octets.items from n ≡ part f at n
+page_part f honest page k at from n is same inside is_honest =
     let filled = vec_len page.octets in
     let all : take filled page.octets.items ≡ part f page.start filled =
     ap (take filled) (is.holds is_honest) ∙ take-take filled filled (drop page.start f) (le_refl filled) in
@@ -25,8 +25,3 @@ joined_reads old mid xs ys at n j m k same is first second total honest =
     ∙ ap (λ l. part old.octets at n ++ l) (behind ∙ ap (λ i. part old.octets (at + i) m) is)
     ∙ part_joined old.octets at n m
     ∙ ap (part old.octets at) (sym total)
-
--- the same, if the first read begins with what `start` means
-pub joined_reads_from : (start old mid : Meaning) (xs ys : List ℕ) (at n j m k : ℕ) → old ≡ start → mid ≡ old → j ≡ n → (IsTrue old.honest → xs ≡ part old.octets at n) → (IsTrue mid.honest → ys ≡ part mid.octets (at + j) m) → k ≡ n + m → IsTrue start.honest → xs ++ ys ≡ part start.octets at k
-joined_reads_from start old mid xs ys at n j m k begins same is first second total =
-    subst (λ s. IsTrue s.honest → xs ++ ys ≡ part s.octets at k) begins (joined_reads old mid xs ys at n j m k same is first second total)

@@ -3,15 +3,16 @@
 //! A reader that goes on from where it was needs few of them. A reader that jumps, as in a file whose objects lie in no
 //! order, takes a page more with each jump, so that in the end it reads the file once.
 
-ghost use Rattle.std.specs.Prelude.{◌≡◌, ◌+◌, ◌*◌, ◌/◌, ◌%◌, ◌<◌, ◌≤◌, All, IfOk, IfSome, IsTrue, length, max, Ok, OnOk, false, vec_len};
+ghost use Rattle.std.specs.Prelude.{◌≡◌, ◌⊎◌, ◌+◌, ◌*◌, ◌/◌, ◌%◌, ◌<◌, ◌≤◌, IfOk, IsTrue, length, max, Ok, OnOk, false, vec_len};
 ghost use Rattle.std.specs.Result.{result_err};
 ghost use Rattle.bplist_octets.specs.Octets.{part};
 ghost use Rattle.bplist_octets.specs.Meaning.{OnlyReads};
-ghost use Rattle.bplist_octets.specs.Pages.{IsPage};
+ghost use Rattle.bplist_octets.specs.Pages.{ArePages, AreUnread, IsPage, IsUnread, past_pages, page_left, pages_left};
 
 use crate::source::{ReadFault, Source};
 use crate::window::{JUMP, Window, index_in};
 use std::alloc::Global;
+use std::mem;
 
 /// The number of bytes of a page. Pages begin at multiples of it.
 const PAGE: usize = 16_384;
@@ -29,14 +30,17 @@ const MOST: usize = 4096;
 /// How often a source is read over before each page that is read takes a page more.
 const TIMES: usize = 4;
 
-/// The longest source of which pages are kept. The table of pages takes an eighth of a thousandth of its length.
+/// The longest source of which pages are kept. The table of pages takes three thousandths of its length.
 const LONGEST_SOURCE: u64 = 1 << 32;
 
-/// Bytes of the source, all of one page: those that were read of it.
+/// A page of the source, and what is kept of it.
 #[derive(Drop)]
 struct Page {
+    /// Where the bytes that are kept begin.
     start: u64,
     octets: Vec<u8>,
+    /// How often it was read since it was given up last: at most for a part of it, and then for all of it.
+    reads: u8,
     /// The turn in which it was used last.
     taken: u64,
 }
@@ -48,9 +52,9 @@ fn copy_part(page: &Page, from: usize, into: &mut [u8])
     into.copy_from_slice(&page.octets[from..from + into.len()]);
 }
 
-/// If the page lacks one of the bytes, reads the whole page, or only the block of 1,024 bytes with that place, and more
-/// if the request ends after the block. Returns false if there is no memory for them. Then, and after a failed read,
-/// the page is empty.
+/// If the page lacks one of the bytes, reads all of it, or, the first time, only the block of 1,024 bytes with that
+/// place, and more if the request ends after the block. Returns false if there is no memory for them. Then, and after a
+/// failed read, the page has no bytes.
 fn hold<S: Source>(
     window: &mut Window<S>,
     page: &mut Page,
@@ -60,46 +64,60 @@ fn hold<S: Source>(
 ) -> Result<bool, ReadFault>
     requires inside { at + count ≤ length (S.means window.old.source).octets }
     requires fits { at % 16384 + count ≤ 16384 }
-    requires page { IsPage (S.means window.old.source).octets (S.means window.old.source).honest page.old }
+    requires page { IsPage (S.means window.old.source).octets (S.means window.old.source).honest (at / 16384) page.old }
     ensures reads { OnlyReads (result_err result) (S.means window.old.source) (S.means window.new.source) }
     ensures asks { S.asked window.new.source ≤ S.asked window.old.source + 16384 }
+    ensures left { IfOk result (λ has. IsTrue has
+        → S.asked window.new.source + page_left page.new ≤ S.asked window.old.source + page_left page.old) }
     ensures refused { result ≡ Ok false → S.asked window.new.source ≡ S.asked window.old.source }
-    ensures page { IsPage (S.means window.old.source).octets (S.means window.old.source).honest page.new }
+    ensures page { IsPage (S.means window.old.source).octets (S.means window.old.source).honest (at / 16384) page.new }
     ensures start { IfOk result (λ has. IsTrue has → page.new.start ≤ at) }
     ensures room { IfOk result (λ has. IsTrue has → at + count ≤ page.new.start + vec_len page.new.octets) }
 {
     if index_in(page.start, page.octets.len(), at, count).is_some() {
         return Ok(true);
     }
+    let whole = whole || page.reads > 0;
     let block = if whole { PAGE } else { JUMP };
     page.start = at - at % block as u64;
     let room = block.max((at - page.start) as usize + count);
     let held = (window.len() - page.start).min(room as u64) as usize;
     if page.octets.resize(held, 0).is_err() {
         page.octets.clear();
+        page.reads = 1;
         return Ok(false);
     }
-    let result = window.read_at(page.start, page.octets.as_mut_slice());
-    if result.is_err() {
+    page.reads += 1;
+    if let Err(fault) = window.read_at(page.start, page.octets.as_mut_slice()) {
         page.octets.clear();
+        page.reads = 1;
+        return Err(fault);
     }
-    result?;
     Ok(true)
 }
 
-/// Looks only at the eight pages from index `hand` on.
-fn oldest(pages: &[Page], hand: usize) -> usize
-    requires { 0 < length pages.now }
-    ensures { result < length pages.now }
+/// Returns the first `count` pages of a source, of which nothing is kept, or none if there is no memory for the table.
+fn pages_of(alloc: Global, count: usize) -> Vec<Page>
+    requires { count ≤ 262145 }
+    ensures count { vec_len result ≤ count }
+    ensures unread { AreUnread result.items }
+    ensures all { vec_len result ≡ count ⊎ vec_len result ≡ 0 }
 {
-    let mut oldest = hand % pages.len();
-    for step in 1..FEW {
-        let k = hand.wrapping_add(step) % pages.len();
-        if pages[k].taken < pages[oldest].taken {
-            oldest = k;
+    let Ok(mut pages) = Vec::with_capacity(alloc, count) else {
+        return Vec::new(alloc);
+    };
+    for number in 0..count {
+        let page = Page {
+            start: (number * PAGE) as u64,
+            octets: Vec::new(alloc),
+            reads: 0,
+            taken: 0,
+        };
+        if pages.push(page).is_err() {
+            return Vec::new(alloc);
         }
     }
-    oldest
+    pages
 }
 
 /// A source over a source, which it reads through a [`Window`], and of which it keeps pages of 16,384 bytes. It has the
@@ -112,7 +130,8 @@ fn oldest(pages: &[Page], hand: usize) -> usize
 /// one that was used long ago, if 8 pages are kept. A reader that does not go on jumps, and a jump takes a page more,
 /// up to 4,096 pages. If there is no memory for it, it takes the place of another too. So a source in order takes
 /// little memory, and one in no order is read about once. No reader can make it read again and again: after four times
-/// as many pages as the source has were given up, each reader takes a page more.
+/// as many pages as the source has were given up, each reader takes a page more. So a source of up to 64 MiB is read
+/// at most ten times, however many requests there are (`left`), but for requests of more than 8,192 bytes.
 ///
 /// After a jump the block of 1,024 bytes with that place is read, and if a request comes to the same page again, all of
 /// it. A reader that comes to the next page near its beginning, or to the one before near its end, reads all of it at
@@ -124,27 +143,33 @@ pub struct Pages<S: Source> {
     window: Window<S>,
     /// The number of bytes of the source.
     len: u64,
+    /// The pages of the source, by their numbers. None if the source is too long, or if there was no memory for them.
     pages: Vec<Page>,
-    /// For each page of the source: the index at which it is, if it is kept. The page there tells whether it is.
-    places: Vec<usize>,
-    /// The index of the page used last.
+    /// The numbers of the pages of which something is kept.
+    kept: Vec<usize>,
+    /// The number of the page used last.
     last: usize,
-    /// The index from which the next page to be read anew is looked for.
+    /// The index in `kept` from which a page to be given up is looked for.
     hand: usize,
     /// The number of turns: how often another page was used.
     turn: u64,
-    /// How many more pages are read anew before each takes a page more.
+    /// How many more pages are given up before each that is read takes a page more.
     spare: usize,
+    /// Whether all pages may be kept, and no memory for them was refused.
+    bounded: bool,
     alloc: Global,
     ghost whole: { len ≡ length (S.means window.source).octets },
-    ghost pages_hold: { All (IsPage (S.means window.source).octets (S.means window.source).honest) pages.items },
+    ghost all: { IsTrue bounded → len < 16384 * vec_len pages },
+    ghost pages_hold: { ArePages (S.means window.source).octets (S.means window.source).honest pages.items },
 }
 
 impl<S: Source> Pages<S> {
-    /// Returns a source over `source`. It takes memory for pages when it needs them.
+    /// Returns a source over `source`. It takes memory for the bytes of pages when it needs them.
     pub fn new(alloc: Global, source: S) -> Pages<S>
         ensures means { ⟦<Pages<S> as Source>⟧.means result ≡ S.means source }
         ensures asked { ⟦<Pages<S> as Source>⟧.asked result ≡ S.asked source / 16384 }
+        ensures left { pages_left result.spare result.pages.items
+            ≤ 163840 * (length (S.means source).octets / 16384 + 1) }
     {
         let len = source.len();
         let count = if len <= LONGEST_SOURCE {
@@ -152,11 +177,13 @@ impl<S: Source> Pages<S> {
         } else {
             0
         };
+        let pages = pages_of(alloc, count);
         Pages {
             window: Window::new(source),
             len,
-            pages: Vec::new(alloc),
-            places: places_of(alloc, count),
+            bounded: pages.len() > 0 && pages.len() <= MOST,
+            pages,
+            kept: Vec::new(alloc),
             last: 0,
             hand: 0,
             turn: 0,
@@ -165,96 +192,129 @@ impl<S: Source> Pages<S> {
         }
     }
 
-    fn index_of(&self, number: u64) -> Option<usize>
-        ensures { IfSome result (λ k. k < vec_len self.now.pages) }
+    fn taken(&self, slot: usize) -> u64
+        requires { slot < vec_len self.now.kept }
     {
-        let k = *self.places.get(number as usize)?;
-        let page = self.pages.get(k)?;
-        if page.start / PAGE as u64 == number {
-            Some(k)
-        } else {
-            None
+        match self.pages.get(self.kept[slot]) {
+            Some(page) => page.taken,
+            None => 0,
         }
     }
 
-    fn is_recent(&self, number: u64) -> bool {
-        match self.index_of(number) {
-            Some(k) => self.turn.wrapping_sub(self.pages[k].taken) < FEW as u64,
+    /// Returns an index in `kept`. Looks only at the eight pages from `hand` on.
+    fn oldest(&self) -> usize
+        requires { 0 < vec_len self.now.kept }
+        ensures { result < vec_len self.now.kept }
+    {
+        let count = self.kept.len();
+        let mut oldest = self.hand % count;
+        for step in 1..FEW {
+            let slot = self.hand.wrapping_add(step) % count;
+            if self.taken(slot) < self.taken(oldest) {
+                oldest = slot;
+            }
+        }
+        oldest
+    }
+
+    fn is_recent(&self, number: usize) -> bool {
+        match self.pages.get(number) {
+            Some(page) => page.reads > 0 && self.turn.wrapping_sub(page.taken) < FEW as u64,
             None => false,
         }
     }
 
-    /// Returns the index of a page to be read anew: a page more, if that is allowed and there is memory for it, or one
-    /// that was used long ago. None if there is no page. `goes_on` says that the reader was near that place lately.
-    fn room_for_page(&mut self, goes_on: bool) -> Option<usize>
+    /// Gives up the page at an index of `kept`, and gives its memory to page `number`.
+    fn hand_over(&mut self, slot: usize, number: usize)
+        requires slot { slot < vec_len self.old.kept }
+        requires number { number < vec_len self.old.pages }
+        requires unread { IsUnread self.old.pages.items number }
         ensures same { self.new.window ≡ self.old.window }
-        ensures inside { IfSome result (λ k. k < vec_len self.new.pages) }
+        ensures all { vec_len self.new.pages ≡ vec_len self.old.pages }
+        ensures bounded { self.new.bounded ≡ self.old.bounded }
+        ensures left { pages_left self.new.spare self.new.pages.items
+            ≤ 32768 + pages_left self.old.spare self.old.pages.items }
     {
-        let count = self.pages.len();
-        let most = if goes_on && self.spare > 0 { FEW } else { MOST };
-        if count < most {
-            let page = Page {
-                start: 0,
-                octets: Vec::new(self.alloc),
-                taken: 0,
-            };
-            if self.pages.push(page).is_ok() {
-                return Some(count);
-            }
+        let given_up = mem::replace(&mut self.kept[slot], number);
+        let Some(page) = self.pages.get_mut(given_up) else {
+            return;
+        };
+        page.reads = 0;
+        let mut octets = mem::replace(&mut page.octets, Vec::new(self.alloc));
+        octets.clear();
+        self.pages[number].octets = octets;
+    }
+
+    /// Nothing is kept of page `number`. It gets the memory of a page that was used long ago, if `goes_on` says that
+    /// the reader was near it lately, or if no page more can be kept.
+    fn make_room(&mut self, number: usize, goes_on: bool)
+        requires number { number < vec_len self.old.pages }
+        requires unread { IsUnread self.old.pages.items number }
+        ensures same { self.new.window ≡ self.old.window }
+        ensures all { vec_len self.new.pages ≡ vec_len self.old.pages }
+        ensures left { IsTrue self.new.bounded → IsTrue self.old.bounded
+            × (pages_left self.new.spare self.new.pages.items ≤ pages_left self.old.spare self.old.pages.items) }
+    {
+        let most = if goes_on && self.spare > 0 {
+            FEW
+        } else if self.bounded {
+            usize::MAX
+        } else {
+            MOST
+        };
+        if self.kept.len() < most && self.kept.push(number).is_ok() {
+            return;
         }
-        if count == 0 {
-            return None;
+        if self.spare == 0 {
+            self.bounded = false;
         }
         self.spare = self.spare.saturating_sub(1);
-        let k = oldest(&self.pages, self.hand);
-        self.hand = self.hand.wrapping_add(FEW) % count;
-        Some(k)
+        if !self.kept.is_empty() {
+            self.hand = self.hand.wrapping_add(FEW) % self.kept.len();
+            self.hand_over(self.oldest(), number);
+        }
     }
 
-    /// No page of these bytes is kept. Returns the index of the page taken, and whether all of it is to be read. None
-    /// if no page of this source can be kept, or if there is no memory for the first one.
-    fn take_page(&mut self, at: u64) -> Option<(usize, bool)>
+    fn mark_used(&mut self, number: usize)
         ensures same { self.new.window ≡ self.old.window }
-        ensures inside { IfSome result (λ taken. taken.0 < vec_len self.new.pages) }
+        ensures all { vec_len self.new.pages ≡ vec_len self.old.pages }
+        ensures bounded { self.new.bounded ≡ self.old.bounded }
+        ensures left { pages_left self.new.spare self.new.pages.items ≡ pages_left self.old.spare self.old.pages.items }
     {
-        let (number, index) = (at / PAGE as u64, (at % PAGE as u64) as usize);
-        if number >= self.places.len() as u64 {
-            return None;
+        if let Some(page) = self.pages.get_mut(number) {
+            page.taken = self.turn;
+            self.last = number;
         }
-        let forward = self.is_recent(number.wrapping_sub(1));
-        let backward = self.is_recent(number.wrapping_add(1));
-        let k = self.room_for_page(forward || backward)?;
-        if let Some(place) = self.places.get_mut(number as usize) {
-            *place = k;
-        }
-        let near = forward && index < JUMP || backward && index >= PAGE - JUMP;
-        Some((k, near || self.len <= PAGE as u64))
     }
 
-    /// Returns the index of the page, and whether all of it is to be read if it lacks some bytes.
-    fn choose(&mut self, at: u64) -> Option<(usize, bool)>
+    /// Page `number` is now the one used last. Returns whether the reader goes on to it from a page beside it, so that
+    /// all of it is to be read. `index` is the place of the request in the page.
+    fn turn_to(&mut self, number: usize, index: usize) -> bool
+        requires { number < vec_len self.old.pages }
         ensures same { self.new.window ≡ self.old.window }
-        ensures inside { IfSome result (λ chosen. chosen.0 < vec_len self.new.pages) }
+        ensures all { vec_len self.new.pages ≡ vec_len self.old.pages }
+        ensures left { IsTrue self.new.bounded → IsTrue self.old.bounded
+            × (pages_left self.new.spare self.new.pages.items ≤ pages_left self.old.spare self.old.pages.items) }
     {
         self.turn = self.turn.wrapping_add(1);
-        let (k, whole) = match self.index_of(at / PAGE as u64) {
-            Some(k) => (k, true),
-            None => self.take_page(at)?,
-        };
-        self.pages[k].taken = self.turn;
-        self.last = k;
-        Some((k, whole))
+        let forward = self.is_recent(number.wrapping_sub(1));
+        let backward = self.is_recent(number.wrapping_add(1));
+        if self.pages[number].reads == 0 {
+            self.make_room(number, forward || backward);
+        }
+        self.mark_used(number);
+        forward && index < JUMP || backward && index >= PAGE - JUMP || self.len <= PAGE as u64
     }
 
     #[inline(always)]
-    fn copy_from_last(&self, at: u64, into: &mut [u8]) -> bool
+    fn copy_from(&self, number: usize, at: u64, into: &mut [u8]) -> bool
         ensures { IsTrue result → IsTrue (S.means self.now.window.source).honest
             → into.new ≡ part (S.means self.now.window.source).octets at (length into.old) }
     {
-        if self.last >= self.pages.len() {
+        if number >= self.pages.len() {
             return false;
         }
-        let page = &self.pages[self.last];
+        let page = &self.pages[number];
         let Some(from) = index_in(page.start, page.octets.len(), at, into.len()) else {
             return false;
         };
@@ -269,39 +329,27 @@ impl<S: Source> Pages<S> {
         ensures reads { OnlyReads (result_err result) (S.means self.old.window.source) (S.means self.new.window.source) }
         ensures asks { S.asked self.new.window.source ≤ S.asked self.old.window.source + 16384 * length into.old }
         ensures most { S.asked self.new.window.source ≤ S.asked self.old.window.source + 16384 }
+        ensures left { OnOk result (IsTrue self.new.bounded → IsTrue self.old.bounded
+            × (S.asked self.new.window.source + pages_left self.new.spare self.new.pages.items
+            ≤ S.asked self.old.window.source + pages_left self.old.spare self.old.pages.items)) }
         ensures filled { OnOk result (IsTrue (S.means self.old.window.source).honest
             → into.new ≡ part (S.means self.old.window.source).octets at (length into.old)) }
     {
         if into.is_empty() {
             return Ok(());
         }
-        let Some((k, whole)) = self.choose(at) else {
+        let number = (at / PAGE as u64) as usize;
+        if number >= self.pages.len() {
             return self.window.read_at(at, into);
-        };
-        let page = &mut self.pages[k];
+        }
+        let whole = self.turn_to(number, (at % PAGE as u64) as usize);
+        let page = &mut self.pages[number];
         if !hold(&mut self.window, page, at, into.len(), whole)? {
+            self.bounded = false;
             return self.window.read_at(at, into);
         }
         copy_part(page, (at - page.start) as usize, into);
         Ok(())
-    }
-
-    /// Turns to the page that has all of the `count` bytes from place `at` on, if one has: it is now the one used last.
-    /// Returns whether one has.
-    fn turn_to(&mut self, at: u64, count: usize) -> bool
-        ensures same { self.new.window ≡ self.old.window }
-    {
-        let Some(k) = self.index_of(at / PAGE as u64) else {
-            return false;
-        };
-        let page = &self.pages[k];
-        if index_in(page.start, page.octets.len(), at, count).is_none() {
-            return false;
-        }
-        self.turn = self.turn.wrapping_add(1);
-        self.pages[k].taken = self.turn;
-        self.last = k;
-        true
     }
 
     /// Reads bytes that the page used last lacks. They are in one page or in two.
@@ -310,15 +358,21 @@ impl<S: Source> Pages<S> {
         ensures reads { OnlyReads (result_err result) (S.means self.old.window.source) (S.means self.new.window.source) }
         ensures asks { S.asked self.new.window.source ≤ S.asked self.old.window.source + 16384 * length into.old }
         ensures below { S.asked self.new.window.source ≤ S.asked self.old.window.source + max (length into.old) 32768 }
+        ensures left { OnOk result (IsTrue self.new.bounded → IsTrue self.old.bounded
+            × (S.asked self.new.window.source + pages_left self.new.spare self.new.pages.items
+            ≤ S.asked self.old.window.source + pages_left self.old.spare self.old.pages.items + past_pages (length into.old))) }
         ensures filled { OnOk result (IsTrue (S.means self.old.window.source).honest
             → into.new ≡ part (S.means self.old.window.source).octets at (length into.old)) }
     {
+        let number = (at / PAGE as u64) as usize;
+        // A reader of a file in no order mostly finds another page that is kept, for which nothing is chosen or read.
+        if self.copy_from(number, at, into) {
+            self.turn = self.turn.wrapping_add(1);
+            self.mark_used(number);
+            return Ok(());
+        }
         if into.len() > LONGEST {
             return self.window.read_at(at, into);
-        }
-        // A reader of a file in no order mostly finds another page that is kept, for which nothing is chosen or read.
-        if self.turn_to(at, into.len()) && self.copy_from_last(at, into) {
-            return Ok(());
         }
         let room = PAGE - (at % PAGE as u64) as usize;
         let count = room.min(into.len());
@@ -326,14 +380,6 @@ impl<S: Source> Pages<S> {
         self.read_page(at, front)?;
         self.read_page(at + count as u64, rest)?;
         Ok(())
-    }
-}
-
-/// Returns an empty table if there is no memory for it.
-fn places_of(alloc: Global, count: usize) -> Vec<usize> {
-    match vec![in alloc; 0usize; count] {
-        Ok(places) => places,
-        Err(_) => Vec::new(alloc),
     }
 }
 
@@ -356,8 +402,11 @@ impl<S: Source> Source for Pages<S> {
             → into.new ≡ part (S.means self.old.window.source).octets at (length into.old)) }
         ensures asks { S.asked self.new.window.source / 16384 ≤ S.asked self.old.window.source / 16384 + length into.old }
         ensures below { S.asked self.new.window.source ≤ S.asked self.old.window.source + max (length into.old) 32768 }
+        ensures left { OnOk result (IsTrue self.new.bounded → IsTrue self.old.bounded
+            × (S.asked self.new.window.source + pages_left self.new.spare self.new.pages.items
+            ≤ S.asked self.old.window.source + pages_left self.old.spare self.old.pages.items + past_pages (length into.old))) }
     {
-        if self.copy_from_last(at, into) {
+        if self.copy_from(self.last, at, into) {
             return Ok(());
         }
         self.read_pages(at, into)

@@ -1,9 +1,11 @@
-use Rattle.std.proofs.Common.{◌≡◌, ◌∙◌, ap, sym, subst, arith}
+use Rattle.std.proofs.Common.{◌≡◌, ◌∙◌, ap, refl, sym, subst, arith}
 use Rattle.std.proofs.lemmas.Result.{err_from_is_err_and}
 use Rattle.bplist_objects.specs.declared.frame.Frame.{Frame}
 use Rattle.bplist_objects.specs.Framed.{frame_in}
 use Rattle.bplist_cert.specs.Lists.{Lists}
 use Rattle.bplist_cert.specs.Looks.{KeepBeforeKeysBelow}
+use Rattle.bplist_cert.specs.declared.walk.Pass.TheVariants.{Quick}
+use Rattle.bplist_cert.proofs.AskedBytes.{all_room}
 use Rattle.bplist_cert.proofs.CheckSteps.{all_good, seen_first, seen_object, vouched_inside, keys_first, refused_weaker}
 use Rattle.bplist_cert.proofs.checker.check_found.Goals as goal
 
@@ -73,3 +75,20 @@ returns-in_ok-check-in-Err-Fault-clause-exact g c = λ honest none.
     let keyed = rw (reads, same, shown) at c.in_ok-check-in-Err-Fault.ensures.exact in
     let good = keyed honest seen (c.forget.ensures f F c.args.cert.now c.min.result found) in
     seen_first f F heights keys _ s (λ n lt v. good n (omega (arith, lt, bound)) v)
+
+pub returns-in_ok-check-in-Ok-clause-asks : goal.returns-in_ok-check-in-Ok-clause-asks
+returns-in_ok-check-in-Ok-clause-asks g c = λ honest none seen some.
+    let f = (g.P.Source.means c.args.src.now).octets in
+    let F : Frame = frame_in (g.P.Source.means c.args.src.now) in
+    let same = ap (λ (x : Lists). x.keys) c.cert.view_is in
+    let run = c.in-Ok.ensures.exact honest seen in
+    let passes = c.in-Ok.ensures.asks honest seen none in
+    let shown = c.deref-heights.ensures.value ∙ ap (λ (x : Lists). x.heights) c.cert.view_is in
+    let keyed = rw (c.in-Ok.ensures.reads, c.frame-objects.ensures.frame, same, shown) at c.in_ok-check-in-Ok.ensures.asks in
+    let told = keyed honest none refl (record {
+      kept = run.0.kept;
+      room = all_room f F c.args.cert.now Quick c.in-Ok.used.octets c.requires run.0;
+      collected = rw none at run.1;
+      some = λ e. some (passes.1 e);
+    }) in
+    omega (arith, passes.0, told, run.0.room)

@@ -1,4 +1,4 @@
-use Rattle.std.proofs.Common.{◌≡◌, ap, length, slice_index, inr, arith}
+use Rattle.std.proofs.Common.{◌≡◌, ap, length, slice_index, inr, arith, rules}
 use Rattle.std.proofs.lemmas.Grind.{common_steps, get_or_default_zero}
 use Rattle.std.proofs.lemmas.Result.{err_from_is_err_and}
 use Rattle.bplist_cert.specs.Lists.{Lists}
@@ -24,3 +24,11 @@ returns-in_err-check_objects-clause-exact g c = λ honest.
 
 pub returns-clause-exact : goal.returns-clause-exact
 returns-clause-exact g c = grind (arith, common_steps)
+
+pub returns-clause-asks : goal.returns-clause-asks
+returns-clause-asks g c = λ honest none.
+    let frame = c.in_ok-frame.frame in
+    let made = c.new-file.ensures in
+    let told = (rw (made.frame, made.means, c.in_ok-frame.ensures.reads) at c.in_ok-check_objects.ensures.asks) honest none in
+    let after : g.S.Source.asked c.src-1.given.0 ≡ g.S.Source.asked c.check_objects.new.src.source.now = search rules in
+    rw after (omega (arith, c.in_ok-frame.ensures.asks, made.asked, told, c.in_ok-frame.ensures.safe.safe.room))

@@ -2,7 +2,9 @@ use Rattle.std.proofs.Common.{◌≡◌, ◌+◌, ◌∙◌, length, refl, subst
 use Rattle.std.proofs.lemmas.List.{length-take-le}
 use Rattle.bplist_objects.specs.declared.frame.Frame.{Frame}
 use Rattle.bplist_objects.specs.Framed.{frame_in}
+use Rattle.bplist_objects.specs.Safe.{ref_count}
 use Rattle.bplist_objects.proofs.BodyLaws.{refs_fit}
+use Rattle.bplist_objects.proofs.ScanLaws.{asked_on}
 use Rattle.bplist_cert.specs.Heights.{AreMet}
 use Rattle.bplist_cert.proofs.Blocks.{HasCollectedFirst, met_more, unmet_there, collected_none, collected_more, collected_all}
 use Rattle.bplist_cert.specs.Walks.{IfCollected}
@@ -33,6 +35,10 @@ loop-done-preserved g c =
     record {
       same = c.in_ok-read_refs_in.ensures.reads ∙ v.same;
       reached = omega arith;
+      asked =
+          let read = rw (v.same, length-take-le c.min-now.result c.loop-done.buffer (omega arith)) at c.in_ok-read_refs_in.ensures.asks in
+          asked_on (g.P.Source.asked c.args.src.now) _ _ c.loop-done.done c.min-now.result F.ref_size v.asked read;
+      stays = λ none. v.stays (c.collect_keys.ensures.stays none);
       met = λ honest.
           let next = (rw v.same at c.in_ok-read_refs_in.ensures.numbers) honest in
           subst (λ k. AreMet m.octets F c.args.heights.now c.args.container.head.now c.args.wanted (c.loop-done.done + k)) all
@@ -41,13 +47,15 @@ loop-done-preserved g c =
           let next = (rw v.same at c.in_ok-read_refs_in.ensures.numbers) honest in
           subst (λ k. IfCollected c.args.names.now c.collect_keys.new.names (HasCollectedFirst m.octets F c.args.container.head.now (c.loop-done.done + k) (c.args.container.n.0 + 1))) all
           (collected_more m.octets F c.args.container.head.now (c.args.container.n.0 + 1) c.loop-done.done c.read_refs_in.new.into next c.args.names.now c.loop-done.names c.collect_keys.new.names
-          (v.collected honest) c.collect_keys.ensures);
+          (v.collected honest) c.collect_keys.ensures.stamped);
     }
 
 pub loop-done-init : goal.loop-done-init
 loop-done-init g c = record {
   same = refl;
   reached = omega arith;
+  asked = omega arith;
+  stays = λ none. none;
   met = λ honest k low. absurd (omega (arith, low));
   collected = λ honest. collected_none (g.P.Source.means c.args.src.now).octets (frame_in (g.P.Source.means c.args.src.now)) c.args.container.head.now (c.args.container.n.0 + 1) c.args.names.now;
 }
@@ -55,5 +63,11 @@ loop-done-init g c = record {
 pub returns-clause-names : goal.returns-clause-names
 returns-clause-names g c = λ honest.
     let m = g.P.Source.means c.args.src.now in
-    collected_all m.octets (frame_in m) c.args.container.head.now (c.args.container.n.0 + 1) c.loop-done.done (omega (arith, c.refs_of-refs.ensures, c.loop-done-test.false)) c.args.names.now c.loop-done.names
+    collected_all m.octets (frame_in m) c.args.container.head.now (c.args.container.n.0 + 1) c.loop-done.done (omega (arith, c.refs_of-refs.ensures, c.loop-done.invariant.reached, c.loop-done-test.false)) c.args.names.now c.loop-done.names
     (c.loop-done.invariant.collected honest)
+
+pub returns-clause-asks : goal.returns-clause-asks
+returns-clause-asks g c =
+    let head = c.args.container.head.now in
+    let all : c.loop-done.done ≡ ref_count head.kind head.count = omega (arith, c.refs_of-refs.ensures, c.loop-done.invariant.reached, c.loop-done-test.false) in
+    rw all at c.loop-done.invariant.asked

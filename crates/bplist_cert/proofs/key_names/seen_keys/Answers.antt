@@ -1,51 +1,16 @@
-use Rattle.std.proofs.Common.{◌≡◌, ◌∙◌, inl, inr, length, arith}
-use Rattle.std.proofs.lemmas.Grind.{common_steps}
-use Rattle.std.proofs.lemmas.List.{length-take-le}
-use Rattle.std.proofs.lemmas.Result.{err_from_is_err_and}
-use Rattle.bplist_objects.specs.Answers.{Never}
+use Rattle.std.proofs.Common.{arith}
 use Rattle.bplist_objects.specs.Framed.{frame_in}
-use Rattle.bplist_cert.proofs.CheckSteps.{never_refused}
-use Rattle.bplist_cert.proofs.KeysLooks.{stamps_marked}
+use Rattle.bplist_cert.proofs.KeysLooks.{marked_within, stamps_marked}
 use Rattle.bplist_cert.proofs.key_names.seen_keys.Goals as goal
-
-pub returns-in_err-name_key_block-clause-exact : goal.returns-in_err-name_key_block-clause-exact
-returns-in_err-name_key_block-clause-exact g c = λ honest seen given.
-    let v = c.loop-done.invariant in
-    let all : length c.read_offsets_in.new.into ≡ c.min-now.result = omega (arith, length-take-le c.min-now.result c.loop-done.buffer (omega arith)) in
-    let p = err_from_is_err_and c.from_residual-in_err-name_key_block.result c.from_residual-in_err-name_key_block.ensures.1 in
-    let places = (rw v.same at c.in_ok-read_offsets_in.ensures.offsets) honest in
-    let exact = (rw (c.in_ok-read_offsets_in.ensures.reads, v.same) at c.in_err-name_key_block.ensures.exact) honest places in
-    rw (p.1, p.2) (never_refused Never c.in_err-name_key_block.field-0.0 (exact (λ m low vouched. seen m (omega (arith, low, all)) vouched) (v.named honest seen)))
-
-pub loop-done-preserved : goal.loop-done-preserved
-loop-done-preserved g c =
-    let v = c.loop-done.invariant in
-    let all : length c.read_offsets_in.new.into ≡ c.min-now.result = omega (arith, length-take-le c.min-now.result c.loop-done.buffer (omega arith)) in
-    record {
-      same = c.in_ok-name_key_block.ensures.reads ∙ c.in_ok-read_offsets_in.ensures.reads ∙ v.same;
-      reached = omega arith;
-      all = c.in_ok-name_key_block.ensures.all ∙ v.all;
-      named = λ honest seen.
-          let places = (rw v.same at c.in_ok-read_offsets_in.ensures.offsets) honest in
-          let exact = (rw (c.in_ok-read_offsets_in.ensures.reads, v.same) at c.in_ok-name_key_block.ensures.exact) honest places in
-          let named = exact (λ k below is. seen k (omega (arith, below, all)) is) (v.named honest seen) in
-          (named.0, λ m low vouched. named.1 m (omega (arith, low, all)) vouched);
-      only = λ honest m marked.
-          let places = (rw v.same at c.in_ok-read_offsets_in.ensures.offsets) honest in
-          let told = (rw (c.in_ok-read_offsets_in.ensures.reads, v.same) at c.in_ok-name_key_block.ensures.only) honest places in
-          elim (told m marked) [ inl before ↦ v.only honest m before | inr key ↦ key ];
-    }
-
-pub returns-clause-exact : goal.returns-clause-exact
-returns-clause-exact g c = λ honest seen given.
-    let named = c.loop-done.invariant.named honest seen in
-    (named.0, λ n low vouched. named.1 n (omega (arith, low, c.loop-done-test.false)) vouched)
-
-pub loop-done-init : goal.loop-done-init
-loop-done-init g c = grind (arith, common_steps)
 
 pub returns-then-len-objects-clause-exact : goal.returns-then-len-objects-clause-exact
 returns-then-len-objects-clause-exact g c = λ honest seen given.
     let m = g.P.Source.means c.args.src.now in
     stamps_marked m.octets (frame_in m) c.args.heights.now c.args.bound c.in-Some.names c.in_ok-marks_of.field-0.marks.items
     (rw c.deref.ensures.value at c.in_ok-marks_of.ensures.all) (rw c.deref.ensures.value at c.in_ok-marks_of.ensures.exact) (rw c.in-Some.is at given)
+
+pub returns-then-len-objects-clause-vouched : goal.returns-then-len-objects-clause-vouched
+returns-then-len-objects-clause-vouched g c = λ honest walked m marked.
+    let within = marked_within c.in_ok-marks_of.field-0.marks.items m marked in
+    let stamped = (rw c.deref.ensures.value at c.in_ok-marks_of.ensures.exact) m (omega (arith, within, rw c.deref.ensures.value at c.in_ok-marks_of.ensures.all)) in
+    (rw c.in-Some.is at walked.collected).3 m (stamped.0 marked)

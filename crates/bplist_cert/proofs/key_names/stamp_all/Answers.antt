@@ -1,5 +1,6 @@
 use Rattle.std.proofs.Common.{◌≡◌, ◌≢◌, ◌&&◌, Bool, true, false, ◌<◌, ◌∙◌, IsTrue, inl, inr, length, slice_index, refl, sym, ap, subst, arith}
 use Rattle.std.proofs.lemmas.Bool.{cases_eq, false≢true}
+use Rattle.std.proofs.lemmas.Grind.{get_or_default_zero}
 use Rattle.bplist_cert.proofs.key_names.stamp_all.Goals as goal
 
 both : (a b : Bool) → IsTrue (a && b) → IsTrue a × IsTrue b
@@ -20,11 +21,11 @@ loop-m-preserved c =
       stamped = λ k low inside. elim (cases_eq k i) [
         | inl is ↦ subst (λ x. slice_index c.stamp_one-apart.new.last (slice_index numbers x) ≡ stamp) (sym is)
             (one.stamped (let here = subst (λ x. slice_index numbers x < length before) is inside in omega (arith, here, v.all)))
-        | inr d ↦ elim (one.only (slice_index numbers k)) [ inl same ↦ same ∙ v.stamped k (omega (arith, low, d)) inside | inr new ↦ new ]
+        | inr d ↦ elim (one.only (slice_index numbers k)) [ inl same ↦ same ∙ v.stamped k (omega (arith, low, d)) inside | inr new ↦ new.1 ]
       ];
       only = λ x. elim (one.only x) [
-        | inl same ↦ elim (v.only x) [ inl old ↦ inl (same ∙ old) | inr new ↦ inr (same ∙ new) ]
-        | inr new ↦ inr new
+        | inl same ↦ elim (v.only x) [ inl old ↦ inl (same ∙ old) | inr new ↦ inr (same ∙ new.0, new.1) ]
+        | inr new ↦ inr (new.1, (i, c.loop-m-test.true, get_or_default_zero numbers i x c.loop-m-test.true ∙ sym new.0))
       ];
       new = λ apart k low.
           let t = both c.loop-m.apart c.stamp_one-apart.result apart in
@@ -33,7 +34,7 @@ loop-m-preserved c =
                 let other = one.other t.1 in (
                   subst (λ x. slice_index numbers x < length before) (sym is) (omega (arith, other.0, v.all)),
                   subst (λ x. slice_index before (slice_index numbers x) ≢ stamp) (sym is)
-                      (λ was. elim (v.only (slice_index numbers i)) [ inl same ↦ other.1 (same ∙ was) | inr new ↦ other.1 new ]),
+                      (λ was. elim (v.only (slice_index numbers i)) [ inl same ↦ other.1 (same ∙ was) | inr new ↦ other.1 new.0 ]),
                 )
             | inr d ↦ v.new t.0 k (omega (arith, low, d))
           ];

@@ -23,4 +23,4 @@ returns-clause-exact g c = λ honest seen.
     let m = g.P.Source.means c.args.src.now in
     let F : Frame = frame_in m in
     all_named m.octets F c.args.heights.now (λ n vouched. vouched_inside c.args.heights.now F.objects n c.requires vouched)
-    c.seen_keys.result ((rw c.frame-bound.ensures.frame at c.seen_keys.ensures.exact) honest seen tt)
+    c.find_keys.result ((rw c.frame-bound.ensures.frame at c.find_keys.ensures.exact) honest seen)

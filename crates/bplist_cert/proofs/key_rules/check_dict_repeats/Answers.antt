@@ -1,11 +1,16 @@
-use Rattle.std.proofs.Common.{◌≡◌, None, refl, inl, inr, ap, subst, ◌∙◌, arith}
+use Rattle.std.proofs.Common.{◌≡◌, None, refl, inl, inr, sym, ap, subst, ◌∙◌, arith}
+use Rattle.std.proofs.lemmas.Bool.{false≢true}
 use Rattle.std.proofs.lemmas.Result.{err_from_is_err_and}
 use Rattle.bplist_objects.specs.declared.frame.Frame.{Frame}
+use Rattle.bplist_objects.specs.declared.head.Head.{Head}
 use Rattle.bplist_objects.specs.Framed.{frame_in}
+use Rattle.bplist_objects.proofs.BodyLaws.{HasHead-unique}
+use Rattle.bplist_cert.proofs.AskedBytes.{keys_within}
 use Rattle.bplist_cert.specs.Looks.{KeepBeforeKeysBelow}
 use Rattle.bplist_cert.proofs.TextObjects.{shape_kept}
 use Rattle.bplist_cert.proofs.CheckSteps.{object_refused}
 use Rattle.bplist_cert.proofs.KeyRepeats.{none_there, keys_inside, seen_own, sound_keys, good_at, classed_texts, apart_differ, twice_fault}
+use Rattle.bplist_cert.proofs.key_rules.check_dict_repeats.Goals.{else-is_none-via-then-is_none+else-seen-frame, else-is_none-via-else-is_none}
 use Rattle.bplist_cert.proofs.key_rules.check_dict_repeats.Goals as goal
 
 pub returns-in_err-head-clause-exact : goal.returns-in_err-head-clause-exact
@@ -64,7 +69,24 @@ pub returns-in_default : goal.returns-in_default
 returns-in_default g c = record {
   reads = c.in_ok-head.ensures.reads;
   same = refl;
+  asks = λ honest whole head has. omega (arith, c.in_ok-head.ensures.asks, has.body, has.ends);
   stamped = λ x. inr refl;
   exact = λ honest low vouched seen classed stamps learnt.
       (learnt, good_at (g.P.Source.means c.args.src.now).octets (frame_in (g.P.Source.means c.args.src.now)) None c.args.n c.in_ok-head.head (c.in_ok-head.ensures.rules honest).0 (λ dict. absurd (c.in_default.not-Dict dict)));
 }
+
+pub returns-then-seen-frame-clause-asks : goal.returns-then-seen-frame-clause-asks
+returns-then-seen-frame-clause-asks g c = λ honest whole head has.
+    let f = (g.P.Source.means c.args.src.now).octets in
+    let F : Frame = frame_in (g.P.Source.means c.args.src.now) in
+    let here = c.in_ok-head.head in
+    let own = (c.in_ok-head.ensures.rules honest).0 in
+    let same = ap (λ (x : Head). x.«end») (HasHead-unique f F c.args.n here head own has) in
+    let read = rw c.in_ok-head.ensures.reads at c.in_ok-found.ensures.asks in
+    omega (arith, c.in_ok-head.ensures.asks, read, keys_within f F c.args.n here c.frame-frame.ensures.framed.safe.safe.ref_low c.in-Dict.is own, same)
+
+pub returns-in-None-clause-asks : goal.returns-in-None-clause-asks
+returns-in-None-clause-asks g c = λ honest whole head has. absurd (elim c.else-is_none.branch [
+  | else-is_none-via-then-is_none+else-seen-frame w ↦ w.if-seen-frame.false (whole ∙ sym (ap (λ (x : Frame). x.objects) c.frame-frame.ensures.frame))
+  | else-is_none-via-else-is_none w ↦ false≢true (rw (c.in-None.is, w.if-is_none.false) at c.is_none.ensures)
+])

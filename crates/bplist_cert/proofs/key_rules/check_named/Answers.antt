@@ -1,11 +1,15 @@
 use Rattle.std.proofs.Common.{◌≡◌, None, sym, subst, ◌∙◌, inl, inr, arith}
 use Rattle.std.proofs.lemmas.Bool.{cases_eq}
+use Rattle.std.proofs.lemmas.List.Sums.{count_by-le-length}
 use Rattle.std.proofs.lemmas.Result.{err_from_is_err_and}
 use Rattle.bplist_objects.specs.declared.frame.Frame.{Frame}
 use Rattle.bplist_objects.specs.Framed.{frame_in}
+use Rattle.bplist_objects.proofs.ExtentSums.{room_weaker}
+use Rattle.bplist_keys.specs.Texts.{IsMarkedText}
 use Rattle.bplist_keys.proofs.LookUps.{new_low, stamped_low}
 use Rattle.bplist_cert.specs.Valid.{IsVouchedBy}
 use Rattle.bplist_cert.specs.KeyRepeats.{HasGoodKeys, BreaksKeys}
+use Rattle.bplist_cert.proofs.AskedBytes.{head_taken, paid_all, paid_more, paid_over}
 use Rattle.bplist_cert.proofs.KeyRepeats.{keys_classed, good_low, good_apart}
 use Rattle.bplist_cert.proofs.CheckSteps.{refused_weaker, vouched_inside}
 use Rattle.bplist_cert.proofs.key_rules.check_named.Goals as goal
@@ -45,6 +49,10 @@ loop-n-preserved g c =
           record {
             reads = rw w.src-is (w.in_ok-check_dict_repeats.ensures.reads ∙ v.reads);
             same = rw w.look-is (w.in_ok-check_dict_repeats.ensures.same ∙ v.same);
+            paid = λ honest seen whole.
+                let here_taken = head_taken f F heights n (c.frame-frame.ensures.framed.framed honest) (omega (arith, c.loop-n-test.true, whole)) (seen n c.loop-n-test.true here) in
+                let asked = (rw v.reads at w.in_ok-check_dict_repeats.ensures.asks) honest whole here_taken.0 here_taken.1 in
+                rw w.src-is (paid_more f F _ n _ _ (v.paid honest seen whole) _ _ here here_taken.2 (omega (arith, asked, here_taken.1.body, here_taken.1.ends)));
             stamps = λ honest. rw w.look-is (stamped_low n _ _ w.check_dict_repeats.ensures.stamped (v.stamps honest));
             exact = λ honest seen named.
                 let before = v.exact honest seen named in
@@ -60,6 +68,7 @@ loop-n-preserved g c =
       | else-entry_or-gt1 w ↦ record {
         reads = rw w.src-is v.reads;
         same = rw w.look-is v.same;
+        paid = λ honest seen whole. rw w.src-is (paid_over f F _ n _ _ (v.paid honest seen whole));
         stamps = λ honest x. rw w.look-is (let l = v.stamps honest x in omega (arith, l));
         exact = λ honest seen named.
             let before = v.exact honest seen named in (
@@ -84,3 +93,20 @@ returns-then-branch-clause-exact g c = λ honest seen named apart n low vouched.
     let told = apart c.if-apart.true in
     good_apart f F heights (c.frame-frame.ensures.framed.framed honest) (λ m under v. seen m (omega (arith, under, told.0)) v) c.args.named.marks.items c.in_ok-classes.classes.table.items
     named.0 c.in_ok-classes.ensures.all (c.in_ok-classes.ensures.exact honest) ((rw c.count-keys.ensures at c.in_ok-are_own.ensures) c.if-branch.true) n (vouched_inside heights F.objects n c.requires.all vouched) vouched (named.1 n low vouched) (told.1 n low vouched)
+
+pub returns-clause-asks : goal.returns-clause-asks
+returns-clause-asks g c = λ honest whole seen room only.
+    let f = (g.P.Source.means c.args.src.now).octets in
+    let F : Frame = frame_in (g.P.Source.means c.args.src.now) in
+    let read = c.in_ok-classes.ensures.asks honest (room_weaker f F _ (IsMarkedText f F c.args.named.marks.items) (λ m is. only m is.0) room) in
+    let few = count_by-le-length (λ marked. marked) c.args.named.marks.items in
+    let paid = paid_all f F _ c.loop-n.n _ _ (c.loop-n.invariant.paid honest seen whole) room in
+    omega (arith, read, few, paid, c.requires.all_named, c.loop-n.auto.n-end, whole)
+
+pub returns-then-branch-clause-asks : goal.returns-then-branch-clause-asks
+returns-then-branch-clause-asks g c = λ honest whole seen room only.
+    let f = (g.P.Source.means c.args.src.now).octets in
+    let F : Frame = frame_in (g.P.Source.means c.args.src.now) in
+    let read = c.in_ok-classes.ensures.asks honest (room_weaker f F _ (IsMarkedText f F c.args.named.marks.items) (λ m is. only m is.0) room) in
+    let few = count_by-le-length (λ marked. marked) c.args.named.marks.items in
+    omega (arith, read, few, c.requires.all_named)

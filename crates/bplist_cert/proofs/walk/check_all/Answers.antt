@@ -1,4 +1,5 @@
-use Rattle.std.proofs.Common.{◌≡◌, ◌+◌, ◌∙◌, ap, length, refl, subst, arith}
+use Rattle.std.proofs.Common.{◌≡◌, ◌+◌, ◌*◌, ◌≤◌, ◌∙◌, ap, length, refl, subst, arith}
+use Rattle.std.proofs.Math.Nat.{mul-le-mul_left}
 use Rattle.std.proofs.lemmas.List.{length-take-le}
 use Rattle.std.proofs.lemmas.Result.{err_from_is_err_and}
 use Rattle.bplist_objects.specs.declared.frame.Frame.{Frame}
@@ -17,6 +18,8 @@ loop-done-init g c =
     record {
       same = refl;
       taken = c.take.ensures.after;
+      asked = λ quick none. omega arith;
+      stays = λ quick none. rw c.take.ensures.value at none;
       reached = omega arith;
       keys = λ honest seen. rw c.take.ensures.value seen;
       running = λ honest. rw c.new.ensures (start m.octets (frame_in m) c.args.walk.certificate.now Quick (c.frame-objects.ensures.framed.framed honest));
@@ -58,6 +61,11 @@ loop-done-preserved g c =
     record {
       same = c.in_ok-look.ensures.reads ∙ c.in_ok-check_block.ensures.reads ∙ c.in_ok-read_offsets_in.ensures.reads ∙ v.same;
       taken = v.taken;
+      asked = λ quick none.
+          let read = rw (v.same, length-take-le c.min-now.result c.loop-done.buffer (omega arith)) at c.in_ok-read_offsets_in.ensures.asks in
+          let most : c.min-now.result * (frame_in m).offset_size ≤ c.min-now.result * 8 = mul-le-mul_left c.min-now.result c.frame-objects.ensures.framed.safe.safe.offset_high in
+          omega (arith, v.asked quick none, read, most, c.in_ok-check_block.ensures.asks quick, c.in_ok-look.ensures.asks (keyed ∙ none), all);
+      stays = λ quick none. v.stays quick (c.in_ok-check_block.ensures.stays quick none);
       reached = omega (arith, objects);
       keys = λ honest seen.
           let places = (rw v.same at c.in_ok-read_offsets_in.ensures.offsets) honest in

@@ -23,6 +23,8 @@ loop-i-preserved g c =
     elim c.if-heights-n-gt0.branch [
       | then-heights-n-gt0+in_ok-check_object w ↦ rw (w.src-is, w.walked-is) record {
         same = w.in_ok-check_object.ensures.reads ∙ c.loop-i.invariant.same;
+        asked = λ quick. omega (arith, c.loop-i.invariant.asked quick, w.in_ok-check_object.ensures.asks quick);
+        stays = λ quick none. c.loop-i.invariant.stays quick (w.in_ok-check_object.ensures.stays quick none);
         running = λ honest places run.
             let exact = rw c.loop-i.invariant.same at w.in_ok-check_object.ensures.exact in
             let v : IsVouchedBy heights n = omega (arith, height, w.if-heights-n-gt0.true) in
@@ -35,6 +37,8 @@ loop-i-preserved g c =
       }
       | else-heights-n-gt0 w ↦ rw (w.src-is, w.walked-is) record {
         same = c.loop-i.invariant.same;
+        asked = λ quick. omega (arith, c.loop-i.invariant.asked quick);
+        stays = c.loop-i.invariant.stays;
         running = λ honest places run.
             let none : slice_index heights n ≡ 0 = omega (arith, height, w.if-heights-n-gt0.false) in
             let before = c.loop-i.invariant.running honest places run in (
@@ -57,7 +61,7 @@ returns-in_err-check_object-clause-exact g c = λ honest places run.
     let before = (c.loop-i.invariant.running honest places run).0 in
     let p = err_from_is_err_and c.from_residual.result c.from_residual.ensures.1 in
     rw (p.1, p.2) (given_weaker _ _ c.in_err-check_object.field-0.0
-    (λ fault h. fault_met m.octets (frame_in m) heights keys (c.args.from + c.loop-i.i) v c.args.walk.look c.loop-i.walked.used.octets before fault h)
+    (λ fault h. fault_met m.octets (frame_in m) heights keys (c.args.from + c.loop-i.i) (omega (arith, c.loop-i-test.true, c.requires.within)) v c.args.walk.look c.loop-i.walked.used.octets before fault h)
     (exact honest (places c.loop-i.i c.loop-i-test.true) v before.sums))
 
 pub returns-clause-exact : goal.returns-clause-exact
@@ -75,6 +79,8 @@ loop-i-init g c =
     let e : c.args.from ≡ c.args.from + 0 = omega arith in
     record {
       same = refl;
+      asked = λ quick. omega arith;
+      stays = λ quick none. none;
       running = λ honest places run. (
         subst (λ k. AreCheckedBelow m.octets (frame_in m) c.args.walk.certificate.now Quick k c.args.walked.now.used.octets) e run,
         subst (λ k. AreCollected m.octets (frame_in m) c.args.walk.certificate.now.heights k c.args.walked.now.named) e,

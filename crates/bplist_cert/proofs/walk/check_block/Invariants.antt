@@ -1,4 +1,4 @@
-use Rattle.std.proofs.Common.{◌≡◌, ◌+◌}
+use Rattle.std.proofs.Common.{◌≡◌, ◌+◌, ◌*◌, ◌≤◌, None}
 use Rattle.bplist_objects.specs.Framed.{HonestlyIn}
 use Rattle.bplist_cert.specs.declared.walk.Pass.TheVariants.{Quick}
 use Rattle.bplist_cert.specs.Looks.{ArePlaces}
@@ -12,6 +12,8 @@ invariant-loop-i g l =
     let means = g.P.Source.means in
     record {
       same : means l.src ≡ means l.fn.src;
+      asked : l.walk.look ≡ Quick → g.P.Source.asked l.src + l.fn.walked.used.octets ≤ g.P.Source.asked l.fn.src + l.walked.used.octets + 20 * l.i;
+      stays : l.walk.look ≡ Quick → l.walked.named ≡ None → l.fn.walked.named ≡ None;
       running : HonestlyIn (means l.fn.src) (λ f F. ArePlaces f F l.from l.places
           → AreCheckedBelow f F l.walk.certificate.now Quick l.from l.fn.walked.used.octets
           → AreCheckedBelow f F l.walk.certificate.now Quick (l.from + l.i) l.walked.used.octets

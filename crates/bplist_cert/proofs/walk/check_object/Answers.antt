@@ -1,10 +1,9 @@
 use Rattle.std.proofs.lemmas.Result.{err_from_is_err_and}
-use Rattle.bplist_cert.proofs.CheckSteps.{any_shown}
 use Rattle.bplist_cert.proofs.walk.check_object.Goals as goal
 
 pub returns-in-Quick-clause-exact : goal.returns-in-Quick-clause-exact
 returns-in-Quick-clause-exact g c = λ honest place vouched sums.
-    rw c.in-Quick.is (any_shown _ c.check_quickly.result (c.check_quickly.ensures.exact honest place vouched sums))
+    rw c.in-Quick.is (c.check_quickly.ensures.exact honest place vouched sums)
 
 pub returns-in_ok-walked-in-Exact-clause-exact : goal.returns-in_ok-walked-in-Exact-clause-exact
 returns-in_ok-walked-in-Exact-clause-exact g c = λ honest place vouched sums. (c.in_ok-walked-in-Exact.ensures.exact honest place vouched sums, λ named. tt)

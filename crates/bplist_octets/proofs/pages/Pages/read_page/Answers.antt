@@ -1,4 +1,4 @@
-use Rattle.std.proofs.Common.{◌∙◌, arith, subst}
+use Rattle.std.proofs.Common.{◌/◌, ◌∙◌, arith, subst}
 use Rattle.bplist_octets.proofs.WindowSteps.{page_part}
 use Rattle.bplist_octets.specs.Pages.{IsPage}
 use Rattle.bplist_octets.proofs.pages.Pages.read_page.Goals as goal
@@ -7,6 +7,6 @@ pub returns-clause-filled : goal.returns-clause-filled
 returns-clause-filled g c = λ honest.
     let m = g.S.Source.means c.args.self.now.window.source in
     let has = c.in_ok-hold.ensures in
-    let page = subst (λ w. IsPage (g.S.Source.means w.source).octets (g.S.Source.means w.source).honest c.hold.new.page) c.choose.ensures.same has.page in
+    let page = subst (λ w. IsPage (g.S.Source.means w.source).octets (g.S.Source.means w.source).honest (c.args.at / 16384) c.hold.new.page) c.turn_to-whole.ensures.same has.page in
     c.copy_part.ensures
-    ∙ page_part m.octets m.honest _ _ _ _ page (omega (arith, has.start)) (omega (arith, has.room, has.start)) honest
+    ∙ page_part m.octets m.honest _ _ _ _ _ page (omega (arith, has.start)) (omega (arith, has.room, has.start)) honest

@@ -1,8 +1,8 @@
-use Rattle.std.proofs.Common.{ap, arith}
-use Rattle.bplist_octets.proofs.WindowSteps.{joined_reads_from}
+use Rattle.std.proofs.Common.{arith}
+use Rattle.bplist_octets.proofs.WindowSteps.{joined_reads}
 use Rattle.bplist_octets.proofs.pages.Pages.read_pages.Goals as goal
 
 pub returns-clause-filled : goal.returns-clause-filled
 returns-clause-filled g c =
     let parts = c.split_at_mut-front.ensures in
-    joined_reads_from _ _ _ _ _ _ _ _ _ _ (ap (λ w. g.S.Source.means w.source) c.turn_to.ensures.same) c.in_ok-read_page.ensures.reads (omega (arith, parts.front_len)) c.in_ok-read_page.ensures.filled c.in_ok-read_page-2.ensures.filled (omega (arith, parts.front_len, parts.back_len))
+    joined_reads _ _ _ _ _ _ _ _ _ c.in_ok-read_page.ensures.reads (omega (arith, parts.front_len)) c.in_ok-read_page.ensures.filled c.in_ok-read_page-2.ensures.filled (omega (arith, parts.front_len, parts.back_len))

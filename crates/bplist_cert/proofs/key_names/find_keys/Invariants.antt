@@ -3,7 +3,7 @@ use Rattle.bplist_objects.specs.Framed.{frame_in, HonestlyIn}
 use Rattle.bplist_keys.specs.Marks.{IsMarked}
 use Rattle.bplist_cert.specs.Looks.{KeepBeforeKeysBelow}
 use Rattle.bplist_cert.specs.KeyRepeats.{HaveNamedKeys, IsVouchedKey}
-use Rattle.bplist_cert.proofs.key_names.seen_keys.Given as goal
+use Rattle.bplist_cert.proofs.key_names.find_keys.Given as goal
 
 -- exactly the keys of the vouched dictionaries so far are named
 abbrev pub invariant-loop-done : goal.invariant-loop-done
