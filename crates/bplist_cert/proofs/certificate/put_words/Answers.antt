@@ -1,9 +1,8 @@
-use Rattle.std.proofs.Common.{◌≡◌, ◌++◌, ◌∙◌, ◌<◌, ℕ, List, sym, ap, arith, append_assoc}
+use Rattle.std.proofs.Common.{◌≡◌, ◌++◌, ◌∙◌, ℕ, List, sym, ap, arith, append_assoc}
 use Rattle.std.proofs.lemmas.Result.{err_from_is_err_and}
 use Rattle.std.proofs.lemmas.List.Concat.{flat_map-append}
 use Rattle.std.specs.Int.{bytes_high_first}
 use Rattle.std.specs.Slice.Iter.{chunks_rest}
-use Rattle.bplist_octets.specs.Sending.{Takes}
 use Rattle.bplist_octets.proofs.SinkSteps.{takes_more, takes_then_part, part_of_more}
 use Rattle.bplist_cert.specs.Encoding.{words}
 use Rattle.bplist_cert.proofs.certificate.put_words.Goals as goal
