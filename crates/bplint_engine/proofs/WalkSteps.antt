@@ -36,12 +36,6 @@ open_in_all F n names (o ∷ os) (first, rest) =
       subst (λ t. AreOpen F t os) (front o.at.name.«end» n names within) rest,
     )
 
--- a container whose name ends these bytes was pushed on the others
-pub open_pushed : (F : Frame) (names : List ℕ) (o : Opened) (old new : List Opened) → new ≡ old ++ o ∷ [] → o.at.name.«end» ≡ length names → IsOpen F names o
-    → AreOpen F names (reverse old) → AreOpen F names (reverse new)
-open_pushed F names o old new is last first rest =
-    subst (AreOpen F names) (sym (ap reverse is ∙ reverse-append old (o ∷ []))) (first, subst (λ t. AreOpen F t (reverse old)) (sym (take_all o.at.name.«end» names (omega (arith, last)))) rest)
-
 -- the next member of a container has its name behind that of the container
 pub open_behind : (F : Frame) (names names' : List ℕ) (o : Opened) (old new : List Opened) → take o.at.name.«end» names' ≡ take o.at.name.«end» names
     → o.at.name.«end» ≤ length names' → AreOpen F names (o ∷ reverse old) → IsPutBack o old new → AreOpen F names' (reverse new)
@@ -142,15 +136,10 @@ module _ (style : Style) where
         omega (arith, some, length-append (lines_of style deep m.0 m.1) (lines_of_all style deep ms))
     lines_some (m ∷ ms) (suc i) within = lines_some ms i (omega (arith, within))
 
-    -- a leaf and an empty container have no lines inside
+    -- a leaf has no lines inside
     pub none_in_leaf : (name : List ℕ) (w : Value) → IsLeaf w → lines_inside style deep name w ≡ []
     none_in_leaf name (leaf l) is = refl
     none_in_leaf name _ is = absurd is
-
-    pub none_inside : (kind : Members) (n : ℕ) (name : List ℕ) (w : Value) → HasMembers kind n w → n ≡ 0 → lines_inside style deep name w ≡ []
-    none_inside kind n name w has none =
-        let count = length-named style kind n name w has in
-        lines_end (named_members style name w) 0 (omega (arith, count, none))
 
     module _ (checked : CheckedFile) where
       left_same : (names names' : List ℕ) (o : Opened) (os : List Opened) (left : List (List ℕ)) → take o.at.name.«end» names' ≡ take o.at.name.«end» names
