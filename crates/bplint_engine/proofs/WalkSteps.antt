@@ -10,7 +10,6 @@ use Rattle.bplist_cursor.specs.Causes.{GivesCursor}
 use Rattle.bplist_cursor.specs.Replies.{face}
 use Rattle.bplint_lines.specs.declared.texts.Style.{Style}
 use Rattle.bplint_lines.specs.OutputLines.{face_line}
-use Rattle.bplint_engine.specs.declared.members.Members.{Members}
 use Rattle.bplint_engine.specs.declared.walk.Opened.{Opened}
 use Rattle.bplint_engine.specs.declared.walk.Manner.{Manner}
 use Rattle.bplint_engine.specs.declared.walk.Row.{Row}
@@ -18,7 +17,7 @@ use Rattle.bplint_engine.specs.declared.walk.Walk.{Walk}
 use Rattle.bplint_engine.specs.Ls.{HasCount, HasMembers, IsHeadFor, IsLeaf, named_line}
 use Rattle.bplint_engine.specs.Names.{IsNameIn, name_in}
 use Rattle.bplint_engine.specs.Tree.{named_members, tree_lines}
-use Rattle.bplint_engine.specs.Walks.{AreOpen, IsOpen, IsInOrder, IsPutBack, IsReady, LinesLeftIn, OwnLinesLeftIn, RowsLeftIn, behind_next, first_rows, lines_inside, lines_of, lines_of_all, most_rows, row_line, row_lines, walked_lines}
+use Rattle.bplint_engine.specs.Walks.{AreOpen, IsInOrder, IsPutBack, IsReady, LinesLeftIn, OwnLinesLeftIn, RowsLeftIn, behind_next, first_rows, lines_inside, lines_of, lines_of_all, most_rows, row_line, row_lines, walked_lines}
 use Rattle.bplint_engine.proofs.TreeLines.{drop_at, length-counted, length-named, tree_by_members}
 
 -- a first part of a first part
