@@ -195,7 +195,7 @@ module _ (style : Style) where
           let only = lines_next ms o.next name m there ∙ ap (λ l. lines_of style deep name m ++ l) (lines_end ms (o.next + 1) (omega (arith, count, last))) ∙ append-nil (lines_of style deep name m) in (
             outer,
             subst (λ os. LinesLeftIn style deep checked names' os outer) (sym (ap reverse is)) (left_in_all F o.at.name.«end» names' (reverse old) outer
-            (subst (λ t. AreOpen F t (reverse old)) (sym same) are.1) (subst (λ t. LinesLeftIn style deep checked t (reverse old) outer) (sym same) stack)),
+                (subst (λ t. AreOpen F t (reverse old)) (sym same) are.1) (subst (λ t. LinesLeftIn style deep checked t (reverse old) outer) (sym same) stack)),
             all ∙ ap (λ l. l ++ outer) (own_is ∙ only),
           )
       left_behind F names names' o old new own outer left w name m are head has own_is stack all there same (inr (more, is)) =
@@ -203,7 +203,7 @@ module _ (style : Style) where
           let behind = lines_of_all style deep (drop (o.next + 1) ms) in (
             behind ++ outer,
             subst (λ os. LinesLeftIn style deep checked names' os (behind ++ outer)) (sym (ap reverse is ∙ reverse-append old (behind_next o ∷ [])))
-            (left_same names names' (behind_next o) (reverse old) (behind ++ outer) same (behind, outer, (w, head, has, refl), stack, refl)),
+                (left_same names names' (behind_next o) (reverse old) (behind ++ outer) same (behind, outer, (w, head, has, refl), stack, refl)),
             all ∙ ap (λ l. l ++ outer) (own_is ∙ lines_next ms o.next name m there) ∙ append_assoc (lines_of style deep name m) behind outer,
           )
 

@@ -229,11 +229,7 @@ impl Walk {
     }
 
     /// Returns the row of a node.
-    fn row_at<S: Source>(
-        &self,
-        checked: &mut Checked<S>,
-        at: Named,
-    ) -> Result<Row, CursorFault>
+    fn row_at<S: Source>(&self, checked: &mut Checked<S>, at: Named) -> Result<Row, CursorFault>
         ensures reads { OnlyReadsFile (cursor_read result) checked.old checked.new }
         ensures name { IfOk result (λ row. row.name ≡ at.name) }
         ensures room { IfOk result (λ row. HasRoom (length checked.old.source.octets) row.shown) }
@@ -250,11 +246,7 @@ impl Walk {
     }
 
     /// Returns the row of a node. If it has members, puts it on the stack.
-    fn enter<S: Source>(
-        &mut self,
-        checked: &mut Checked<S>,
-        at: Named,
-    ) -> Result<Row, CursorFault>
+    fn enter<S: Source>(&mut self, checked: &mut Checked<S>, at: Named) -> Result<Row, CursorFault>
         requires stack { AreOpen checked.old.frame self.old.names (reverse self.old.stack.items) }
         requires name { IsNameIn self.old.names at.name × (at.name.«end» ≡ length self.old.names) }
         ensures reads { OnlyReadsFile (cursor_read result) checked.old checked.new }

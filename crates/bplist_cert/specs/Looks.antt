@@ -35,8 +35,8 @@ module _ (f : List ℕ) (F : Frame) (certificate : Lists) where
   IsShown Quick n = KeepsBeforeKeys f F certificate.heights n
   IsShown Exact n = KeepsCheck f F certificate n
 
-  -- a check of vouched object n finds this fault: an exact check the first, a quick one any of the rules before those of
-  -- keys
+  -- a check of vouched object n finds this fault: an exact check the first, a quick one any of the rules before
+  -- those of keys
   abbrev pub IsShownFault : Pass → ℕ → Fault → Type 0
   IsShownFault Quick n fault = KeepsBeforeKeys f F certificate.heights n → ⊥
   IsShownFault Exact n fault = IsCheckFault f F certificate n fault

@@ -4,8 +4,8 @@ use Rattle.bplint_engine.specs.Walks.{IsReady, RowsLeftIn, most_rows}
 use Rattle.bplint_engine.proofs.RowSteps.{PutsOn}
 use Rattle.bplint_engine.proofs.row_lines.put_rows.Given as goal
 
--- the file is unchanged and the walk can go on; over an honest source a first part of the lines was put in, and the walk
--- still gives the rest
+-- the file is unchanged and the walk can go on; over an honest source a first part of the lines was put in, and
+-- the walk still gives the rest
 abbrev pub invariant-loop-row : goal.invariant-loop-row
 invariant-loop-row g l = record {
   same : IsSameFile l.fn.checked l.checked;
