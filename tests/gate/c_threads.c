@@ -1,6 +1,7 @@
 /*
  * c_threads FILE: threads that call the library at the same time, each with a handle of its own over the same file,
- * and on one handle that they share under a lock. All must answer alike; a call that does not ends the run with status 3.
+ * and on one handle that they share under a lock. All must answer alike; a call that does not ends the run with
+ * status 3.
  */
 #include "bplist.h"
 

@@ -44,8 +44,8 @@ impl KeyTexts {
         Ok(self.starts.push(end)?)
     }
 
-    /// Reads the texts of the items in turn, and gives each item its index and its front. Returns None if the texts have
-    /// more units than the file has bytes: texts of a faulty file may overlap.
+    /// Reads the texts of the items in turn, and gives each item its index and its front. Returns None if the texts
+    /// have more units than the file has bytes: texts of a faulty file may overlap.
     pub fn read<P: Offsets>(
         alloc: Global,
         src: &mut P,
