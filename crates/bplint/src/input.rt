@@ -101,6 +101,8 @@ impl Source for Operand {
         }
     }
 
+    // Inlined as in `Pages`.
+    #[inline(always)]
     fn read_at(&mut self, at: u64, into: &mut [u8]) -> Result<(), ReadFault> {
         match self {
             Operand::Memory(bytes) => {

@@ -1,5 +1,5 @@
 -- What is kept of pages, and for how many bytes they may be read.
-use Rattle.std.proofs.Common.{◌≡◌, ℕ, ◌+◌, ◌*◌, ◌/◌, ◌%◌, ◌<◌, ◌≤◌, inl, inr, Bool, false, List, Option, Some, None, [], ap, is_some, is_err, is_ok, if◌then◌else◌, Result, Ok, Err, get_or, length, set, sum_by, vec_len, refl, sym, ◌∙◌, subst, arith}
+use Rattle.std.proofs.Common.{◌≡◌, ℕ, ◌+◌, ◌*◌, ◌/◌, ◌%◌, ◌<◌, ◌≤◌, inl, inr, Bool, false, List, Option, Some, None, ap, is_some, get_or, length, set, sum_by, take, refl, sym, ◌∙◌, subst, arith}
 use Rattle.std.proofs.lemmas.Bool.{cases_eq, cases_lt}
 use Rattle.std.proofs.lemmas.List.{get_or-set_same, get_or-set_other, length-set}
 use Rattle.std.proofs.lemmas.List.Sums.{sum_by-le, sum_by-set}
@@ -9,14 +9,14 @@ use Rattle.bplist_octets.specs.declared.pages.Page.{Page}
 
 -- a page that was read twice has all bytes of a request in it
 pub kept_whole : (f : List ℕ) (honest : Bool) (at count : ℕ) (page : Page) → IsPage f honest (at / 16384) page → 2 ≤ page.reads
-    → at % 16384 + count ≤ 16384 → at + count ≤ length f → (page.start ≤ at) × (at + count ≤ page.start + vec_len page.octets)
+    → at % 16384 + count ≤ 16384 → at + count ≤ length f → (page.start ≤ at) × (at + count ≤ page.start + page.held)
 kept_whole f honest at count page is two fits inside =
     let all = is.whole two in
     (omega (arith, all.0), omega (arith, all.1, fits, inside))
 
 -- so a page that lacks some of them was read at most once
 pub read_once : (f : List ℕ) (honest : Bool) (at count : ℕ) (page : Page) → IsPage f honest (at / 16384) page
-    → (page.start ≤ at → at + count ≤ page.start + vec_len page.octets → ⊥) → at % 16384 + count ≤ 16384 → at + count ≤ length f → page.reads < 2
+    → (page.start ≤ at → at + count ≤ page.start + page.held → ⊥) → at % 16384 + count ≤ 16384 → at + count ≤ length f → page.reads < 2
 read_once f honest at count page is lacks fits inside = elim (cases_lt page.reads 2) [
   | inl few ↦ few
   | inr two ↦ let all = kept_whole f honest at count page is (omega (arith, two)) fits inside in absurd (lacks all.0 all.1)
@@ -26,11 +26,6 @@ read_once f honest at count page is lacks fits inside = elim (cases_lt page.read
 pub is_none : (found : Option ℕ) → false ≡ is_some found → found ≡ None
 is_none None none = refl
 is_none (Some k) none = cc none
-
--- the length of a list that was given so many items, without a refusal
-pub resized : {E : Type 0} (given : Result Unit E) (n m long : ℕ) → false ≡ is_err given → long ≡ if is_ok given then n else m → long ≡ n
-resized (Ok x) n m long ok is = is
-resized (Err e) n m long ok is = cc ok
 
 -- one page changes
 pub pages_set : (f : List ℕ) (honest : Bool) (pages : List Page) (number : ℕ) (page : Page) → ArePages f honest pages → IsPage f honest number page → ArePages f honest (set pages number page)
@@ -54,11 +49,13 @@ pub all_left : (pages : List Page) → sum_by page_left pages ≤ length pages *
 all_left pages = sum_by-le page_left 32768 pages (λ k d low. omega arith)
 
 -- a page that gave its bytes up, or that has been given memory
-pub emptied : (f : List ℕ) (honest : Bool) (number : ℕ) (page new : Page) → IsPage f honest number page → new.start ≡ page.start → new.octets.items ≡ [] → vec_len new.octets ≡ 0 → new.reads ≡ 0 → IsPage f honest number new
-emptied f honest number page new is start none empty unread = record {
+pub emptied : (f : List ℕ) (honest : Bool) (number : ℕ) (page new : Page) → IsPage f honest number page → new.start ≡ page.start → new.held ≡ 0 → new.reads ≡ 0 → IsPage f honest number new
+emptied f honest number page new is start none unread = record {
   place = ap (λ k. k / 16384) start ∙ is.place;
-  inside = let inside = is.inside in omega (arith, start, empty, inside);
-  holds = λ _. none ∙ sym (ap (part f new.start) empty);
+  room = omega (arith, none);
+  inside = let inside = is.inside in omega (arith, start, none, inside);
+  none = λ _. none;
+  holds = λ _. ap (λ n. take n new.octets.items) none ∙ sym (ap (part f new.start) none);
   whole = λ two. absurd (omega (arith, two, unread));
 }
 

@@ -1,6 +1,5 @@
 -- The bytes in a page.
-use Rattle.std.proofs.Common.{◌≡◌, ℕ, ◌+◌, ◌≤◌, Bool, List, ◌++◌, vec_len, take, drop, le_refl, sym, ap, ◌∙◌, subst, IsTrue}
-use Rattle.std.proofs.lemmas.List.{take-take}
+use Rattle.std.proofs.Common.{◌≡◌, ℕ, ◌+◌, ◌≤◌, Bool, List, ◌++◌, sym, ap, ◌∙◌, subst, IsTrue}
 use Rattle.bplist_octets.specs.Octets.{part}
 use Rattle.bplist_octets.specs.Meaning.{Meaning}
 use Rattle.bplist_octets.specs.Pages.{IsPage}
@@ -8,13 +7,10 @@ use Rattle.bplist_octets.specs.declared.pages.Page.{Page}
 use Rattle.bplist_octets.proofs.Parts.{part_joined, range_is_part, window_part}
 
 -- a part of a page's bytes is that part of the source's bytes
-pub page_part : (f : List ℕ) (honest : Bool) (page : Page) (k at from n : ℕ) → IsPage f honest k page → page.start + from ≡ at → from + n ≤ vec_len page.octets → IsTrue honest → part page.octets.items from n ≡ part f at n
+pub page_part : (f : List ℕ) (honest : Bool) (page : Page) (k at from n : ℕ) → IsPage f honest k page → page.start + from ≡ at → from + n ≤ page.held → IsTrue honest → part page.octets.items from n ≡ part f at n
 page_part f honest page k at from n is same inside is_honest =
-    let filled = vec_len page.octets in
-    let all : take filled page.octets.items ≡ part f page.start filled =
-    ap (take filled) (is.holds is_honest) ∙ take-take filled filled (drop page.start f) (le_refl filled) in
     sym (range_is_part page.octets.items from n)
-    ∙ window_part page.octets.items f page.start filled from n all inside
+    ∙ window_part page.octets.items f page.start page.held from n (is.holds is_honest) inside
     ∙ ap (λ k. part f k n) same
 
 -- two reads, one behind the other

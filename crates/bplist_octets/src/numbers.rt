@@ -72,6 +72,8 @@ fn is_rest_low(l: &[u8]) -> bool
 }
 
 /// Returns the index of the first byte of 0x80 or more, or None if there is none.
+// Inlined, since most texts are so short that a call would cost more than the search.
+#[inline(always)]
 pub fn first_high(l: &[u8]) -> Option<usize>
     ensures { MatchOption result (AreLow l.now) (IsFirstHigh l.now) }
 {

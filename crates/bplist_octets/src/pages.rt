@@ -3,7 +3,7 @@
 //! A reader that goes on from where it was needs few of them. A reader that jumps, as in a file whose objects lie in no
 //! order, takes a page more with each jump, so that in the end it reads the file once.
 
-ghost use Rattle.std.specs.Prelude.{◌≡◌, ◌⊎◌, ◌+◌, ◌*◌, ◌/◌, ◌%◌, ◌<◌, ◌≤◌, IfOk, IsTrue, length, max, Ok, OnOk, false, vec_len};
+ghost use Rattle.std.specs.Prelude.{◌≡◌, ◌⊎◌, ◌+◌, ◌*◌, ◌/◌, ◌%◌, ◌<◌, ◌≤◌, IfOk, IsTrue, length, max, Ok, OnOk, false, take, vec_len};
 ghost use Rattle.std.specs.Result.{result_err};
 ghost use Rattle.bplist_octets.specs.Octets.{part};
 ghost use Rattle.bplist_octets.specs.Meaning.{OnlyReads};
@@ -38,6 +38,9 @@ const LONGEST_SOURCE: u64 = 1 << 32;
 struct Page {
     /// Where the bytes that are kept begin.
     start: u64,
+    /// How many bytes are kept.
+    held: usize,
+    /// The bytes that are kept, and room behind them that keeps what was there before.
     octets: Vec<u8>,
     /// How often it was read since it was given up last: at most for a part of it, and then for all of it.
     reads: u8,
@@ -50,6 +53,28 @@ fn copy_part(page: &Page, from: usize, into: &mut [u8])
     ensures { into.new ≡ part page.now.octets.items from (length into.old) }
 {
     into.copy_from_slice(&page.octets[from..from + into.len()]);
+}
+
+fn has_room(octets: &mut Vec<u8>, count: usize) -> bool
+    ensures { IsTrue result → count ≤ vec_len octets.new }
+{
+    octets.len() >= count || octets.resize(count, 0).is_ok()
+}
+
+fn fill<S: Source>(
+    window: &mut Window<S>,
+    at: u64,
+    into: &mut [u8],
+    count: usize,
+) -> Result<(), ReadFault>
+    requires room { count ≤ length into.old }
+    requires inside { at + count ≤ length (S.means window.old.source).octets }
+    ensures reads { OnlyReads (result_err result) (S.means window.old.source) (S.means window.new.source) }
+    ensures asks { S.asked window.new.source ≤ S.asked window.old.source + max count 4096 }
+    ensures filled { OnOk result (IsTrue (S.means window.old.source).honest
+        → take count into.new ≡ part (S.means window.old.source).octets at count) }
+{
+    window.read_at(at, &mut into[..count])
 }
 
 /// If the page lacks one of the bytes, reads all of it, or, the first time, only the block of 1,024 bytes with that
@@ -72,9 +97,9 @@ fn hold<S: Source>(
     ensures refused { result ≡ Ok false → S.asked window.new.source ≡ S.asked window.old.source }
     ensures page { IsPage (S.means window.old.source).octets (S.means window.old.source).honest (at / 16384) page.new }
     ensures start { IfOk result (λ has. IsTrue has → page.new.start ≤ at) }
-    ensures room { IfOk result (λ has. IsTrue has → at + count ≤ page.new.start + vec_len page.new.octets) }
+    ensures room { IfOk result (λ has. IsTrue has → at + count ≤ page.new.start + page.new.held) }
 {
-    if index_in(page.start, page.octets.len(), at, count).is_some() {
+    if index_in(page.start, page.held, at, count).is_some() {
         return Ok(true);
     }
     let whole = whole || page.reads > 0;
@@ -82,17 +107,17 @@ fn hold<S: Source>(
     page.start = at - at % block as u64;
     let room = block.max((at - page.start) as usize + count);
     let held = (window.len() - page.start).min(room as u64) as usize;
-    if page.octets.resize(held, 0).is_err() {
-        page.octets.clear();
+    page.held = 0;
+    if !has_room(&mut page.octets, held) {
         page.reads = 1;
         return Ok(false);
     }
     page.reads += 1;
-    if let Err(fault) = window.read_at(page.start, page.octets.as_mut_slice()) {
-        page.octets.clear();
+    if let Err(fault) = fill(window, page.start, page.octets.as_mut_slice(), held) {
         page.reads = 1;
         return Err(fault);
     }
+    page.held = held;
     Ok(true)
 }
 
@@ -109,6 +134,7 @@ fn pages_of(alloc: Global, count: usize) -> Vec<Page>
     for number in 0..count {
         let page = Page {
             start: (number * PAGE) as u64,
+            held: 0,
             octets: Vec::new(alloc),
             reads: 0,
             taken: 0,
@@ -240,9 +266,8 @@ impl<S: Source> Pages<S> {
             return;
         };
         page.reads = 0;
-        let mut octets = mem::replace(&mut page.octets, Vec::new(self.alloc));
-        octets.clear();
-        self.pages[number].octets = octets;
+        page.held = 0;
+        self.pages[number].octets = mem::replace(&mut page.octets, Vec::new(self.alloc));
     }
 
     /// Nothing is kept of page `number`. It gets the memory of a page that was used long ago, if `goes_on` says that
@@ -315,7 +340,7 @@ impl<S: Source> Pages<S> {
             return false;
         }
         let page = &self.pages[number];
-        let Some(from) = index_in(page.start, page.octets.len(), at, into.len()) else {
+        let Some(from) = index_in(page.start, page.held, at, into.len()) else {
             return false;
         };
         copy_part(page, from, into);
