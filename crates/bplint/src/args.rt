@@ -2,8 +2,7 @@
 
 use crate::labels::Labels;
 use crate::output::Replaces;
-use bplint_engine::Branch;
-use bplint_json::{Form, Listed};
+use bplint_engine::{Branch, Form, Listed};
 use bplint_lines::Style;
 use bplist_objects::Rule;
 

@@ -13,7 +13,7 @@ use crate::run::answer;
 use crate::tally::Tally;
 use crate::unread::Unread;
 use crate::words::name_behind;
-use bplint_json::{Finding, find_in};
+use bplint_engine::{Finding, find_in};
 use bplint_lines::RunFault;
 use bplist_octets::{SliceSource, Source};
 use std::alloc::{AllocError, Global};

@@ -1,6 +1,5 @@
 //! The program bplint: lints, checks and reads binary property lists. This crate has the command line, the inputs and
-//! the outputs. What is written is proved in `bplint_engine` and `bplint_lines`, and tested for `bplint_map` and
-//! `bplint_json`; the functions here pass it on.
+//! the outputs. What is written is proved or tested in `bplint_engine` and `bplint_lines`; the functions here pass it on.
 //!
 //! ```
 //! $ bplint lint Info.plist

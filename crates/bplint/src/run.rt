@@ -13,12 +13,10 @@ use crate::output::{OutFault, OutFile};
 use crate::reasons::{completed, form_lines, keeps_line, most_line, path_lines, too_long_line};
 use crate::textconv::show_any;
 use bplint_engine::{
-    certify_on, check_on, get_on, lint_on, list_all_on, list_on, print_on, show_on, show_raw_on,
-    show_text_on,
+    certify_on, check_on, explain, get_on, lint_on, list_all_on, list_on, list_rows_on, map_on,
+    print_on, show_on, show_raw_on, show_readable_on, show_text_on,
 };
-use bplint_json::{list_rows_on, show_readable_on};
-use bplint_lines::{RawFault, RunFault, Said, explain};
-use bplint_map::map_on;
+use bplint_lines::{RawFault, RunFault, Said};
 use bplist_octets::Source;
 use std::alloc::{AllocError, Global};
 use std::fs::{File, Files};

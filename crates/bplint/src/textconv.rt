@@ -4,7 +4,7 @@
 use crate::first_lines::{FirstLines, Full};
 use crate::input::HEADER;
 use crate::labels::{Labelled, Labels};
-use bplint_json::{Depth, Form, Listed, Values, list_rows_on};
+use bplint_engine::{Depth, Form, Listed, Values, list_rows_on};
 use bplint_lines::{RunFault, Said};
 use bplist_octets::{Sink, Source};
 use std::alloc::{AllocError, Global};

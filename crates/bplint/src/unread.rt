@@ -4,7 +4,7 @@ use crate::ending::Ending;
 use crate::folders::shown_octets;
 use crate::input_fault::InputFault;
 use crate::reasons::file_line;
-use bplint_json::Finding;
+use bplint_engine::Finding;
 use bplint_lines::{RawFault, RunFault};
 use std::alloc::{AllocError, Global};
 use std::io::ErrorKind;

@@ -36,7 +36,7 @@ pub(crate) fn check_decoded<S: Source>(
 
 /// Lints the file. Returns the file with the certificate of its least heights if it holds a value, or else the fault
 /// and the source. The linter's certificate is proved valid, so no check is needed.
-pub fn checked_by_lint<S: Source>(alloc: Global, src: S) -> Result<Checked<S>, (RunFault, S)>
+pub(crate) fn checked_by_lint<S: Source>(alloc: Global, src: S) -> Result<Checked<S>, (RunFault, S)>
     ensures handed { MatchResult result
         (λ checked. checked.source ≡ S.means src)
         (λ refused. OnlyReads (read_fault_of refused.0) (S.means src) (S.means refused.1)) }
@@ -46,6 +46,18 @@ pub fn checked_by_lint<S: Source>(alloc: Global, src: S) -> Result<Checked<S>, (
 {
     match lint_checked(alloc, src, Keys::Classes) {
         Ok((checked, _tally)) => Ok(checked),
+        Err((refusal, src)) => Err((RunFault::from(refusal), src)),
+    }
+}
+
+/// Lints the file, as [`checked_by_lint`] does. With `sorted` the certificate has key lists, for the order of keys.
+pub(crate) fn linted<S: Source>(
+    alloc: Global,
+    src: S,
+    sorted: bool,
+) -> Result<Checked<S>, (RunFault, S)> {
+    match lint_checked(alloc, src, Keys::for_certificate(sorted)) {
+        Ok(linted) => Ok(linted.0),
         Err((refusal, src)) => Err((RunFault::from(refusal), src)),
     }
 }

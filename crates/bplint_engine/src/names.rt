@@ -11,7 +11,7 @@ use std::marker::Model;
 
 /// The name of a node: a path, or the path from the innermost member around the node that has none.
 #[derive(Clone, Copy, Drop)]
-pub struct Name {
+pub(crate) struct Name {
     /// The place of its first byte in the buffer.
     start: usize,
     /// The place of the first byte of the part that names the node in its container.

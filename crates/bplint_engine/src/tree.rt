@@ -122,7 +122,7 @@ fn tree_node<S: Source, W: Write>(
 
 /// Returns how many nodes a node's value has. The error `TooLong` means more than `limit`, or 18446744073709551615 or
 /// more.
-pub fn count_within<S: Source>(
+pub(crate) fn count_within<S: Source>(
     alloc: Global,
     checked: &mut Checked<S>,
     node: Node,

@@ -23,7 +23,7 @@ use std::alloc::{AllocError, Global};
 
 /// How the names of rows have keys.
 #[derive(Clone, Copy, Drop)]
-pub enum Keys {
+pub(crate) enum Keys {
     /// As a line shows them. In place of a key that it cannot show, and for a member of a set, the name begins with an
     /// index in brackets.
     Shown(Style),
@@ -33,7 +33,7 @@ pub enum Keys {
 
 /// Which rows a walk gives, how they are named, and in which order they come.
 #[derive(Clone, Copy, Drop)]
-pub struct Manner {
+pub(crate) struct Manner {
     /// How names have keys.
     pub keys: Keys,
     /// True if the value has a row, and everything inside it; otherwise only its members have, or the value if it is a
@@ -46,7 +46,7 @@ pub struct Manner {
 
 /// A value of a walk.
 #[derive(Drop)]
-pub struct Row {
+pub(crate) struct Row {
     /// Its node.
     pub node: Node,
     /// Its name.
@@ -78,7 +78,7 @@ struct Opened {
 
 /// Where a walk begins, and how it goes on.
 #[derive(Clone, Copy, Drop)]
-pub struct Start<'a> {
+pub(crate) struct Start<'a> {
     /// The node of the value.
     pub node: Node,
     /// The path text of the value.
@@ -92,7 +92,7 @@ pub struct Start<'a> {
 
 /// A walk over a value in a checked file.
 #[derive(Drop)]
-pub struct Walk {
+pub(crate) struct Walk {
     alloc: Global,
     manner: Manner,
     /// The containers around the last row that have more members, the outermost first.
@@ -107,7 +107,7 @@ pub struct Walk {
 
 impl Walk {
     /// Begins a walk.
-    pub fn begin<S: Source>(
+    pub(crate) fn begin<S: Source>(
         alloc: Global,
         checked: &mut Checked<S>,
         start: Start<'_>,
@@ -149,7 +149,7 @@ impl Walk {
     }
 
     /// Returns the text of the last row's name.
-    pub fn name(&self, row: &Row) -> &[u8]
+    pub(crate) fn name(&self, row: &Row) -> &[u8]
         requires { IsNameIn self.now.names row.now.name }
         ensures { result.now ≡ name_in self.now.names row.now.name }
     {
@@ -157,13 +157,16 @@ impl Walk {
     }
 
     /// Returns the part of the last row's name that names it in its container.
-    pub fn own_name(&self, row: &Row) -> &[u8] {
+    pub(crate) fn own_name(&self, row: &Row) -> &[u8] {
         self.names.own(row.name)
     }
 
     /// Returns the next row, or `None` after the last one. `Changed` also means that there are more rows than there
     /// was room for.
-    pub fn next<S: Source>(&mut self, checked: &mut Checked<S>) -> Result<Option<Row>, CursorFault>
+    pub(crate) fn next<S: Source>(
+        &mut self,
+        checked: &mut Checked<S>,
+    ) -> Result<Option<Row>, CursorFault>
         requires { IsReady checked.old.frame self.old }
         ensures reads { OnlyReadsFile (cursor_read result) checked.old checked.new }
         ensures ready { OnOk result (IsReady checked.old.frame self.new) }

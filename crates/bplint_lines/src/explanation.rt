@@ -1,208 +1,54 @@
-//! Explains rules in plain words. Below the line of a fault there are the rule, the numbers of the file, the path to
-//! the object, and the bytes around the place. The page of a rule says what the rule requires, with an example that
-//! breaks it, and who asks for it.
+//! The rules in plain words, and the lines under the line of a fault: the rule, the file, the object and its path, and
+//! the bytes around a place. Each of these lines is indented by two blanks and ends with a line feed.
 
-ghost use Rattle.std.specs.Prelude.{◌≡◌, ℕ, List, [], ◌<◌, ◌++◌, IfOk, IfSome, MatchOption, length, string_bytes};
-ghost use Rattle.std.specs.Prelude.{codes};
-ghost use Rattle.bplist_octets.specs.Meaning.{OnlyReads};
-ghost use Rattle.bplist_objects.specs.Failures.{failed_to_read};
-ghost use Rattle.bplist_objects.specs.Safe.{IsSafeFrame};
-ghost use Rattle.bplint_lines.specs.Answers.{read_failed};
-ghost use Rattle.bplint_lines.specs.Explanation.{basis_words, is_about_certificates, is_profile, rule_line, rule_of_fault};
+ghost use Rattle.std.specs.Prelude.{◌≡◌, ◌++◌, IfOk, codes, string_bytes};
+ghost use Rattle.bplint_lines.specs.Explanation.{basis_words, is_about_certificates, is_profile, rule_line};
 ghost use Rattle.std.specs.Fmt.{decimal};
 ghost use Rattle.bplist_objects.specs.Words.{number_of, word_of};
 ghost use Rattle.bplist_objects.specs.RuleTexts.{text_of};
 
-use crate::fault::RunFault;
-use crate::file_lines::file_lines;
-use crate::object_path::{KeyFront, Naming, ObjectPath, WrittenPath, head_in, key_front, path_to};
+use crate::written_path::{KeyFront, ObjectPath, WrittenPath};
 use bplist_ascii::text_of_units;
-use bplist_objects::{
-    Failure, Fault, Frame, Head, Kind, ObjectFault, ObjectNo, Rule, offset_of, rule_name,
-    rule_number, texts_of, trailer_of,
-};
-use bplist_octets::{SliceSource, Source};
+use bplist_hints::Hint;
+use bplist_objects::{Head, ObjectNo, Rule, rule_name, rule_number, texts_of};
+use bplist_octets::sized;
 use std::alloc::{AllocError, Global};
 
-/// The number of bytes that are shown before a place, and from it on.
-const CONTEXT: u64 = 8;
-
-/// Returns the lines that explain a fault. Each is indented by two blanks and ends with a line feed. If the fault is
-/// not about a rule, there are none.
-///
-/// The first line gives the number of the rule and what the rule requires. The others describe this file:
-///
-/// - its length and trailer, or what a file without the header looks like;
-/// - number, kind, count and place of the object;
-/// - number and text of a wrong key;
-/// - the path that leads to the object, or to the first object of a circle: at most 256 steps of it, and how many more
-///   there are;
-/// - the bytes around the place, with the place in brackets. These are bytes of the certificate `cert` if the rule
-///   counts places there.
-pub fn explain<S: Source>(
-    alloc: Global,
-    src: &mut S,
-    cert: &[u8],
-    fault: &RunFault,
-) -> Result<String, RunFault>
-    ensures reads { OnlyReads (read_failed result) (S.means src.old) (S.means src.new) }
-    ensures rule { IfOk result (λ text. MatchOption (rule_of_fault fault.now) (string_bytes text ≡ [])
-        (λ rule. (rest : List ℕ) × (string_bytes text ≡ rule_line rule ++ rest))) }
-{
-    match fault {
-        RunFault::Fault(fault) => {
-            let lines = fault_lines(alloc, src, cert, fault)?;
-            Ok(behind_rule(alloc, fault.rule, &lines)?)
-        }
-        RunFault::Circle(objects) => {
-            let lines = match objects.as_slice() {
-                [first, ..] => circle_lines(alloc, src, *first)?,
-                [] => String::new(alloc),
-            };
-            Ok(behind_rule(alloc, Rule::Circle, &lines)?)
-        }
-        RunFault::Path { .. } => Ok(rule_line_of(alloc, Rule::PathText)?),
-        _ => Ok(String::new(alloc)),
-    }
-}
-
-fn behind_rule(alloc: Global, rule: Rule, lines: &str) -> Result<String, AllocError>
-    ensures { IfOk result (λ text. string_bytes text ≡ rule_line rule ++ lines.now) }
-{
-    let mut text = rule_line_of(alloc, rule)?;
-    text.push_str(lines)?;
-    Ok(text)
-}
-
-pub(crate) fn rule_line_of(alloc: Global, rule: Rule) -> Result<String, AllocError>
+/// Returns the line with the number of a rule and what the rule requires.
+pub fn rule_line_of(alloc: Global, rule: Rule) -> Result<String, AllocError>
     ensures { IfOk result (λ text. string_bytes text ≡ rule_line rule) }
 {
     let (number, (demand, _)) = (rule_number(rule), texts_of(rule));
     format!(in alloc; "  rule {number}: {demand}\n")
 }
 
-fn fault_lines<S: Source>(
+/// Returns the line with the length of a file, and with the numbers of its trailer if there is one.
+pub fn file_line_of(
     alloc: Global,
-    src: &mut S,
-    cert: &[u8],
-    fault: &Fault,
-) -> Result<String, Failure>
-    ensures reads { OnlyReads (failed_to_read result) (S.means src.old) (S.means src.new) }
-{
-    let mut text = file_lines(alloc, src)?;
-    if let Some(object) = fault.object {
-        if let Some(frame) = frame_in(src)? {
-            text.push_str(&object_lines(alloc, src, &frame, object, fault)?)?;
-        }
-    }
-    text.push_str(&place_line(alloc, src, cert, fault)?)?;
-    Ok(text)
+    length: u64,
+    trailer: Option<&[u8; 32]>,
+) -> Result<String, AllocError> {
+    let Some(trailer) = trailer else {
+        let ending = if length == 1 { "" } else { "s" };
+        return format!(in alloc; "  file: {length} byte{ending}\n");
+    };
+    let (offset_size, ref_size) = (trailer[6], trailer[7]);
+    let objects = sized(&trailer[8..16]);
+    let top = sized(&trailer[16..24]);
+    let table = sized(&trailer[24..32]);
+    format!(in alloc;
+        "  file: {length} bytes, offset size {offset_size}, reference size {ref_size}, objects {objects}, top {top}, table at {table}\n"
+    )
 }
 
-/// For some rules the place is in the certificate.
-fn place_line<S: Source>(
-    alloc: Global,
-    src: &mut S,
-    cert: &[u8],
-    fault: &Fault,
-) -> Result<String, Failure>
-    ensures reads { OnlyReads (failed_to_read result) (S.means src.old) (S.means src.new) }
-{
-    if is_about_certificates(fault.rule) {
-        bytes_line(alloc, &mut SliceSource::new(cert), fault.place)
-    } else {
-        bytes_line(alloc, src, fault.place)
-    }
+/// Returns the line that says what a file looks like.
+pub fn hint_line_of(alloc: Global, hint: Hint) -> Result<String, AllocError> {
+    let words = hint.words(alloc)?;
+    format!(in alloc; "  looks like: {words}\n")
 }
 
-/// Returns true if the place of this rule is in the certificate, and false if it is in the file or in a path text.
-pub fn is_about_certificates(rule: Rule) -> bool
-    ensures { result ≡ is_about_certificates rule }
-{
-    match rule {
-        Rule::CertMagic
-        | Rule::CertLength
-        | Rule::CertCount
-        | Rule::TopNotVouched
-        | Rule::KeyOrder => true,
-        _ => false,
-    }
-}
-
-fn circle_lines<S: Source>(alloc: Global, src: &mut S, first: ObjectNo) -> Result<String, Failure>
-    ensures reads { OnlyReads (failed_to_read result) (S.means src.old) (S.means src.new) }
-{
-    match frame_in(src)? {
-        Some(frame) => path_line(alloc, src, &frame, first),
-        None => Ok(String::new(alloc)),
-    }
-}
-
-/// Returns the lines about an object: what it is, and the path to it. There are none if the file has no such object.
-pub fn describe<S: Source>(alloc: Global, src: &mut S, object: ObjectNo) -> Result<String, Failure>
-    ensures reads { OnlyReads (failed_to_read result) (S.means src.old) (S.means src.new) }
-{
-    match frame_in(src)? {
-        Some(frame) if object.0 < frame.objects => {
-            let mut text = object_line(alloc, src, &frame, object)?;
-            text.push_str(&path_line(alloc, src, &frame, object)?)?;
-            Ok(text)
-        }
-        _ => Ok(String::new(alloc)),
-    }
-}
-
-/// Returns None if the file breaks a rule of frames.
-fn frame_in<S: Source>(src: &mut S) -> Result<Option<Frame>, Failure>
-    ensures reads { OnlyReads (failed_to_read result) (S.means src.old) (S.means src.new) }
-    ensures safe { IfOk result (λ found. IfSome found (IsSafeFrame (length (S.means src.old).octets))) }
-{
-    match trailer_of(src) {
-        Ok(frame) => Ok(Some(frame)),
-        Err(ObjectFault::Fault(_)) => Ok(None),
-        Err(ObjectFault::Read(fault)) => Err(Failure::Read(fault)),
-    }
-}
-
-/// The lines say what the object is, which key is wrong, and the path to it.
-fn object_lines<S: Source>(
-    alloc: Global,
-    src: &mut S,
-    frame: &Frame,
-    object: ObjectNo,
-    fault: &Fault,
-) -> Result<String, Failure>
-    requires { IsSafeFrame (length (S.means src.old).octets) frame.now }
-    ensures reads { OnlyReads (failed_to_read result) (S.means src.old) (S.means src.new) }
-{
-    if object.0 >= frame.objects {
-        return Ok(String::new(alloc));
-    }
-    let mut text = object_line(alloc, src, frame, object)?;
-    if fault.rule == Rule::KeyKind || fault.rule == Rule::KeyTwice {
-        text.push_str(&key_line(alloc, src, frame, object, fault.place)?)?;
-    }
-    text.push_str(&path_line(alloc, src, frame, object)?)?;
-    Ok(text)
-}
-
-/// The line has number, kind, count and place, as far as they are known.
-fn object_line<S: Source>(
-    alloc: Global,
-    src: &mut S,
-    frame: &Frame,
-    object: ObjectNo,
-) -> Result<String, Failure>
-    requires safe { IsSafeFrame (length (S.means src.old).octets) frame.now }
-    requires within { object.0 < frame.now.objects }
-    ensures reads { OnlyReads (failed_to_read result) (S.means src.old) (S.means src.new) }
-{
-    let place = offset_of(src, frame, object)?;
-    let head = head_in(src, frame, object)?;
-    Ok(head_line(alloc, object, place, head)?)
-}
-
-fn head_line(
+/// Returns the line with number, kind, count and place of an object, as far as they are known.
+pub fn object_line_of(
     alloc: Global,
     object: ObjectNo,
     place: u64,
@@ -218,31 +64,13 @@ fn head_line(
     }
 }
 
-/// `place` is that of the reference to the key.
-fn key_line<S: Source>(
+/// Returns the line with the number and the text of a wrong key. ` ..` marks a text that is cut. No whole text ends so,
+/// because a text with a blank is in quotes.
+pub fn key_line_of(
     alloc: Global,
-    src: &mut S,
-    frame: &Frame,
-    object: ObjectNo,
-    place: u64,
-) -> Result<String, Failure>
-    requires safe { IsSafeFrame (length (S.means src.old).octets) frame.now }
-    requires within { object.0 < frame.now.objects }
-    ensures reads { OnlyReads (failed_to_read result) (S.means src.old) (S.means src.new) }
-{
-    let Some(head) = head_in(src, frame, object)? else {
-        return Ok(String::new(alloc));
-    };
-    let index = place.saturating_sub(head.body) / frame.ref_size as u64;
-    if head.kind != Kind::Dict || index >= head.count {
-        return Ok(String::new(alloc));
-    }
-    let key = key_front(alloc, src, frame, &head, index)?;
-    Ok(key_text(alloc, index, key.as_ref())?)
-}
-
-/// ` ..` marks a text that is cut. No whole text ends so, because a text with a blank is in quotes.
-fn key_text(alloc: Global, index: u64, key: Option<&KeyFront>) -> Result<String, AllocError> {
+    index: u64,
+    key: Option<&KeyFront>,
+) -> Result<String, AllocError> {
     let Some(key) = key else {
         return format!(in alloc; "  key {index}: no text\n");
     };
@@ -254,33 +82,18 @@ fn key_text(alloc: Global, index: u64, key: Option<&KeyFront>) -> Result<String,
     Ok(line)
 }
 
-/// Finding the path takes more memory than `lint`: if memory is refused, the line says so.
-fn path_line<S: Source>(
-    alloc: Global,
-    src: &mut S,
-    frame: &Frame,
-    object: ObjectNo,
-) -> Result<String, Failure>
-    requires { IsSafeFrame (length (S.means src.old).octets) frame.now }
-    ensures reads { OnlyReads (failed_to_read result) (S.means src.old) (S.means src.new) }
-{
-    match path_to(alloc, src, frame, object, Naming::Shown) {
-        Ok(path) => Ok(path_text(alloc, &path)?),
-        Err(Failure::Memory) => {
-            Ok(String::from_str(alloc, "  path: not found, memory was refused\n")?)
-        }
-        Err(fault) => Err(fault),
-    }
-}
-
-fn path_text(alloc: Global, path: &ObjectPath) -> Result<String, AllocError> {
+/// Returns the line with the path to an object. `None` says that memory for the search was refused.
+pub fn path_line_of(alloc: Global, path: Option<&ObjectPath>) -> Result<String, AllocError> {
     match path {
-        ObjectPath::Path(path) if path.text.is_empty() => {
+        Some(ObjectPath::Path(path)) if path.text.is_empty() => {
             String::from_str(alloc, "  path: the top\n")
         }
-        ObjectPath::Path(path) => written_path(alloc, path),
-        ObjectPath::None => String::from_str(alloc, "  path: none\n"),
-        ObjectPath::Unknown => String::from_str(alloc, "  path: not found, objects overlap\n"),
+        Some(ObjectPath::Path(path)) => written_path(alloc, path),
+        Some(ObjectPath::None) => String::from_str(alloc, "  path: none\n"),
+        Some(ObjectPath::Unknown) => {
+            String::from_str(alloc, "  path: not found, objects overlap\n")
+        }
+        None => String::from_str(alloc, "  path: not found, memory was refused\n"),
     }
 }
 
@@ -293,23 +106,14 @@ fn written_path(alloc: Global, path: &WrittenPath) -> Result<String, AllocError>
     }
 }
 
-/// The byte at the place is in brackets; at the end of the file the brackets are empty.
-fn bytes_line<S: Source>(alloc: Global, src: &mut S, place: u64) -> Result<String, Failure>
-    ensures reads { OnlyReads (failed_to_read result) (S.means src.old) (S.means src.new) }
-{
-    let length = src.len();
-    let place = place.min(length);
-    let start = place - place.min(CONTEXT);
-    let stop = length.min(place.saturating_add(CONTEXT));
-    let mut octets = [0u8; 16];
-    let count = (stop - start) as usize;
-    let shown = &mut octets[..count];
-    src.read_at(start, shown)?;
-    Ok(dump(alloc, start, shown, (place - start) as usize)?)
-}
-
-/// `marked` is the index of the byte in brackets.
-fn dump(alloc: Global, start: u64, octets: &[u8], marked: usize) -> Result<String, AllocError> {
+/// Returns the line with the bytes from the place `start` on. The byte with the index `marked` is in brackets; if there
+/// is none, the brackets are empty.
+pub fn bytes_line_of(
+    alloc: Global,
+    start: u64,
+    octets: &[u8],
+    marked: usize,
+) -> Result<String, AllocError> {
     let mut line = format!(in alloc; "  bytes at {start}:")?;
     for (k, octet) in octets.iter().enumerate() {
         add_octet(*octet, k == marked, &mut line)?;
@@ -365,5 +169,19 @@ pub fn is_profile(rule: Rule) -> bool
         | Rule::ChildNotVouched
         | Rule::HeightNotLess => true,
         _ => is_about_certificates(rule),
+    }
+}
+
+/// Returns true if the place of this rule is in the certificate, and false if it is in the file or in a path text.
+pub fn is_about_certificates(rule: Rule) -> bool
+    ensures { result ≡ is_about_certificates rule }
+{
+    match rule {
+        Rule::CertMagic
+        | Rule::CertLength
+        | Rule::CertCount
+        | Rule::TopNotVouched
+        | Rule::KeyOrder => true,
+        _ => false,
     }
 }

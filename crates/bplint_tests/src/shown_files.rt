@@ -3,9 +3,10 @@
 
 use crate::failing_calls::MOST_READS;
 use crate::runs::{line_of_read, outcome};
-use bplint_engine::{Branch, Led, list_all_on, list_on, show_on, show_raw_on, show_text_on};
+use bplint_engine::{
+    Branch, Led, list_all_on, list_on, map_on, show_on, show_raw_on, show_text_on,
+};
 use bplint_lines::{RawFault, RunFault, Said, Style};
-use bplint_map::map_on;
 use bplist_lint::{Keys, lint_checked};
 use bplist_octets::{CountingSource, ReadFault, ShiftingSource, SliceSource, Source};
 use bplist_samples::{
