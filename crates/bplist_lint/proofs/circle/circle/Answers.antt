@@ -1,6 +1,5 @@
 use Rattle.std.proofs.Common.{◌≡◌, ◌<◌, ◌≤◌, ◌+◌, ℕ, Bool, List, IsTrue, arith, rules, inl, inr, length, replicate, false, sym, ◌∙◌}
 use Rattle.std.proofs.lemmas.List.{get_or_read}
-use Rattle.std.proofs.lemmas.List.Elements.{Contains-push}
 use Rattle.bplist_lint.proofs.TrailSteps.{fewer_left, numbers_named, trail_none, trail_more, leading_more, leading_start, is_circle, is_next, founded_all}
 use Rattle.bplist_lint.proofs.HeightCosts.{trail_on, trail_marked, trail_step, trail_zero}
 use Rattle.bplist_lint.proofs.MarkSteps.{fresh-set, none_marked}
@@ -64,19 +63,6 @@ pub walk-smaller : goal.walk-smaller
 walk-smaller g c =
     let within : c.walk.x < length c.walk.met.items = omega (arith, c.walk.invariant.placed.all_met, c.walk.invariant.inside) in
     fewer_left _ _ within (sym (get_or_read c.walk.met.items c.walk.x c.index.result.now within c.index.ensures false) ∙ c.walk-test.true)
-
-pub index_in-index-requires : goal.index_in-index-requires
-index_in-index-requires g c =
-    let p = c.walk.invariant.placed in
-    let within : c.walk.x < length c.walk.met.items = omega (arith, p.all_met, c.walk.invariant.inside) in
-    let read = get_or_read c.walk.met.items c.walk.x c.index.result.now within c.index.ensures false in
-    elim c.walk-test.branch [
-      | else-walk-test w ↦ rw (c.deref.ensures.value, w.trail-is) (p.on_trail c.walk.x (sym read ∙ w.walk-test.false))
-      | then-walk-test+in_ok-push+in_ok-m+in-None w ↦ rw (c.deref.ensures.value, w.trail-is, w.in_ok-push.ensures.items) (Contains-push c.walk.trail.items c.walk.x)
-    ]
-
-pub tail-requires : goal.tail-requires
-tail-requires g c = omega (arith, c.index_in-index.ensures.within, c.deref.ensures.len, c.deref-2.ensures.len)
 
 pub returns-in_err-push-clause-asks : goal.returns-in_err-push-clause-asks
 returns-in_err-push-clause-asks g c = λ honest whole marks are.

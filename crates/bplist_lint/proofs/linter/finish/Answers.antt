@@ -15,6 +15,3 @@ returns-in-Some-clause-exact g c = λ honest.
     let all = rw c.in-Some.is at c.requires.all in
     let count : length heights ≡ F.objects = grind (arith, all, common_steps) in
     (linted_yes f F framed c.args.reached sifted.0 (let roomy = c.requires.fits.roomy in omega (arith, roomy.room, roomy.references)) heights count sifted.1.0 (omega (arith, sifted.1.1)))
-
-pub heights_or_circle-requires-clause-sifted : goal.heights_or_circle-requires-clause-sifted
-heights_or_circle-requires-clause-sifted g c = λ honest. (c.requires.sifted honest).0

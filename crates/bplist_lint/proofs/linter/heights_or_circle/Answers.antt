@@ -62,12 +62,6 @@ circle-requires-clause-heights g c = rw (c.new-objects.ensures.means, c.new-obje
     let s = c.requires.sifted honest in
     (rw c.deref.ensures.value at c.in_ok-heights.ensures.exact) honest s.walked.tallied.kept s.keys s.walked.marked)
 
-pub returns-in_err-heights-clause-asks : goal.returns-in_err-heights-clause-asks
-returns-in_err-heights-clause-asks g c = λ honest.
-    let s = c.requires.sifted honest in
-    let first = (rw c.deref.ensures.value at c.in_err-heights.ensures.asks) honest s.walked.tallied.kept s.walked.marked in
-    omega (arith, first)
-
 -- what was asked for with the circle
 asked : (g : Over) (c : After-circle g) → HonestlyIn (g.P.Source.means c.args.src.now) (λ f F.
     g.P.Source.asked c.circle.new.graph.source.now ≤ g.P.Source.asked c.args.src.now + (292 + 1160 * F.objects + 12 * extents_below f F (is_marked c.args.reached.marks.items) F.objects))
@@ -91,9 +85,3 @@ pub returns-then-index-eq0-clause-asks : goal.returns-then-index-eq0-clause-asks
 returns-then-index-eq0-clause-asks g c = λ honest.
     let after : g.P.Source.asked c.src-1.given.0 ≡ g.P.Source.asked c.circle.new.graph.source.now = search rules in
     rw after (asked g (goal.at.returns-then-index-eq0-clause-asks g c).After-circle honest)
-
-pub returns-clause-asks : goal.returns-clause-asks
-returns-clause-asks g c = λ honest.
-    let s = c.requires.sifted honest in
-    let first = (rw c.deref.ensures.value at c.in_ok-heights.ensures.asks) honest s.walked.tallied.kept s.walked.marked in
-    omega (arith, first)

@@ -23,16 +23,6 @@ returns-clause-exact g c = λ honest.
           ((rw c.in_ok-reached.ensures.reads at w.in_ok-certificate-in-Ranks.ensures.exact) honest))
     ]
 
-pub returns-in_err-certificate-in-Classes-clause-asks : goal.returns-in_err-certificate-in-Classes-clause-asks
-returns-in_err-certificate-in-Classes-clause-asks g c = λ honest.
-    let first = c.in_ok-reached.ensures in
-    omega (arith, first.asks, (rw first.reads at c.in_err-certificate-in-Classes.ensures.asks) honest first.only)
-
-pub returns-in_err-certificate-in-Ranks-clause-asks : goal.returns-in_err-certificate-in-Ranks-clause-asks
-returns-in_err-certificate-in-Ranks-clause-asks g c = λ honest.
-    let first = c.in_ok-reached.ensures in
-    omega (arith, first.asks, (rw first.reads at c.in_err-certificate-in-Ranks.ensures.asks) honest first.only)
-
 pub returns-clause-asks : goal.returns-clause-asks
 returns-clause-asks g c = λ honest.
     let first = c.in_ok-reached.ensures in

@@ -1,5 +1,4 @@
 use Rattle.std.proofs.Common.{◌≡◌, ◌+◌, ◌-◌, ◌<◌, false, length, arith, inl, inr, ap, sym, subst, ◌∙◌}
-use Rattle.std.proofs.lemmas.Grind.{common_steps}
 use Rattle.std.proofs.lemmas.Bool.{cases_lt, cases_eq}
 use Rattle.std.proofs.lemmas.List.{get_or_read}
 use Rattle.bplist_objects.specs.declared.frame.Frame.{Frame}
@@ -102,6 +101,3 @@ returns-clause-exact g c = λ honest below all.
       all_marked f F h c.frame-frame.ensures.framed.safe.safe.ref_low c.requires.head c.loop-number.search.followed.words.items c.loop-number.search.marks.items followed (λ k low. i.known _ (omega (arith, c.ref_numbers-first.ensures.first)) (omega (arith, low, c.loop-number-test.false, c.ref_numbers-first.ensures.first, c.ref_numbers-first.ensures.end))),
       followed,
     )
-
-pub overflow_add-number : goal.overflow_add-number
-overflow_add-number g c = grind (arith, common_steps)

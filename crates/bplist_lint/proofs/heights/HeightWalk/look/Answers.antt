@@ -1,40 +1,13 @@
-use Rattle.std.proofs.Common.{◌≡◌, ◌≢◌, ◌+◌, ◌-◌, ◌*◌, ◌^◌, ◌<◌, max, length, take, refl, arith, ◌∙◌}
-use Rattle.std.proofs.lemmas.Bool.{cond_both, eqb-true, eqb-false}
+use Rattle.std.proofs.Common.{◌≡◌, ◌≢◌, ◌+◌, max, length, take, refl, arith, ◌∙◌}
+use Rattle.std.proofs.lemmas.Bool.{eqb-true, eqb-false}
 use Rattle.std.proofs.lemmas.Grind.{common_steps}
-use Rattle.std.proofs.lemmas.List.{length-take, get_or-take}
+use Rattle.std.proofs.lemmas.List.{length-take}
 use Rattle.bplist_lint.specs.HeightWalks.{state_at}
 use Rattle.bplist_lint.specs.declared.heights.State.TheVariants.{Founded}
 use Rattle.bplist_lint.proofs.ReferenceParts.{contains_part, item_at, part_all, part_on}
 use Rattle.bplist_lint.proofs.HeightSteps.{greatest_part}
 use Rattle.bplist_lint.proofs.HeightCosts.{scan_more, scan_within, scan_block}
 use Rattle.bplist_lint.proofs.heights.HeightWalk.look.Goals as goal
-
-pub loop-more-init : goal.loop-more-init
-loop-more-init g c = record {
-  same = refl;
-  reads = refl;
-  behind = omega arith;
-  counted = let none : c.args.from - c.args.from ≡ 0 = omega arith in rw none (omega (arith, c.requires.some));
-  counted_more = λ _. let none : c.args.from - c.args.from ≡ 0 = omega arith in rw none (omega (arith, c.requires.some));
-  room = refl;
-  some = c.requires.some;
-  few = c.requires.few;
-  low = λ bound all. omega arith;
-  looked = λ honest whole start. rw start (omega arith, λ k low. absurd (omega (arith, low)), refl, λ less. absurd (cc less));
-  passed = λ honest whole within. (within, λ k on low. absurd (omega (arith, on, low)), λ less. absurd (cc less));
-}
-
-pub slice_bounds-buffer-end : goal.slice_bounds-buffer-end
-slice_bounds-buffer-end g c = let i = c.loop-more.invariant in omega (arith, i.few, i.room)
-
-pub read-requires-clause-few : goal.read-requires-clause-few
-read-requires-clause-few g c = let i = c.loop-more.invariant in omega (arith, i.few, length-take c.loop-more.portion c.loop-more.buffer)
-
-pub look_at-requires-clause-inside : goal.look_at-requires-clause-inside
-look_at-requires-clause-inside g c = λ k low.
-    let under : k < c.in_ok-count.count = omega (arith, low, length-take c.in_ok-count.count c.read.new.block) in
-    let inside = c.in_ok-count.ensures.inside k under in
-    rw (get_or-take c.in_ok-count.count c.read.new.block k 0 under, c.requires.all_states) (rw c.loop-more.invariant.same at inside)
 
 pub returns-in-New-clause-shows : goal.returns-in-New-clause-shows
 returns-in-New-clause-shows g c = λ honest whole.
@@ -49,15 +22,6 @@ returns-in-Circular-clause-shows g c = λ honest whole.
     let part = (rw (i.same, i.reads) at c.in_ok-count.ensures.value) honest whole in
     let shows = rw c.in-Circular.is at c.look_at.ensures.shows in
     (shows.0, contains_part _ _ _ _ part shows.0 shows.1, shows.2)
-
-pub loop-more-smaller : goal.loop-more-smaller
-loop-more-smaller g c =
-    let done = c.loop-more.done in
-    let count = c.in_ok-count.count in
-    let bounded = c.in_ok-count.ensures.bounded in
-    rw c.loop-more-test.true (cond_both _ 1 0 (λ x. 2 * (2 ^ 64 - (done + count)) + x < 2 * (2 ^ 64 - done) + 1)
-    (λ full. let all = eqb-true count c.loop-more.portion full in omega (arith, all, bounded, c.loop-more.invariant.some))
-    (λ less. omega (arith, bounded)))
 
 pub loop-more-preserved : goal.loop-more-preserved
 loop-more-preserved g c =
@@ -137,11 +101,6 @@ returns-in-Circular-clause-asks_any g c = λ honest whole within.
     let i = c.loop-more.invariant in
     let o = i.passed honest whole within in
     scan_within _ _ c.args.from c.loop-more.done _ 496 (g.R.References.graph c.args.graph.now).width (omega (arith, i.counted_more c.loop-more-test.true, i.few, c.read.ensures.asks_any)) o.0 (omega arith)
-
-pub returns-clause-passes : goal.returns-clause-passes
-returns-clause-passes g c = λ honest whole within k on low.
-    let o = c.loop-more.invariant.passed honest whole within in
-    o.1 k on (omega (arith, low, o.2 c.loop-more-test.false))
 
 pub returns-clause-asks : goal.returns-clause-asks
 returns-clause-asks g c = λ honest whole within.

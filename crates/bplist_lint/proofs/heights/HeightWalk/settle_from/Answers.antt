@@ -202,12 +202,3 @@ returns-in_err-push-in-New-2-clause-asks g c = scanned g (goal.at.returns-in_err
 
 pub returns-in_err-open-in-New-2-clause-asks : goal.returns-in_err-open-in-New-2-clause-asks
 returns-in_err-open-in-New-2-clause-asks g c = scanned g (goal.at.returns-in_err-open-in-New-2-clause-asks g c).After-look_on
-
-pub returns-clause-walks : goal.returns-clause-walks
-returns-clause-walks g c = λ honest marks closed marked w0.
-    let b = c.loop-m.invariant.walking honest marks closed marked w0 in
-    let empty : c.loop-m.self.stack.items ≡ [] = grind (arith, common_steps) in
-    (rw empty at b.0, b.1)
-
-pub returns-clause-asks : goal.returns-clause-asks
-returns-clause-asks g c = λ honest marks closed marked w0. omega (arith, (c.loop-m.invariant.walking honest marks closed marked w0).1)
