@@ -12,29 +12,24 @@ use Rattle.bplist_objects.specs.Reach.{Reach}
 use Rattle.bplist_objects.specs.Safe.{ref_count}
 use Rattle.bplist_objects.proofs.BodyLaws.{refs_fit}
 use Rattle.bplist_objects.proofs.ExtentSums.{shape_extent, sums_none, sums_more, sums_same}
-use Rattle.bplist_objects.proofs.HeadLaws.{head_is_found}
 use Rattle.bplist_objects.proofs.HeadTies.{kept_announces, kept_spells}
 use Rattle.bplist_keys.specs.Marks.{IsMarked}
 use Rattle.bplist_lint.specs.KeyClasses.{AreSound}
 use Rattle.bplist_lint.specs.ReachRules.{is_marked, Tallied}
-use Rattle.bplist_lint.specs.ReachWalk.{extent, extent_by, extents_below}
+use Rattle.bplist_lint.specs.ReachWalk.{extent, extents_below}
 use Rattle.bplist_lint.specs.declared.tally.Tally.{Tally}
-use Rattle.bplist_lint.proofs.RangeSums.{extents_next}
+use Rattle.bplist_lint.proofs.RangeSums.{extent_is, extents_next}
 
 module _ (f : List ℕ) (F : Frame) where
-  -- the bytes of an object with this head
-  extent_is : (n : ℕ) (head : Head) → HasShape f F n head → extent f F n ≡ head.«end» - off f F n
-  extent_is n head shape = ap (extent_by (off f F n)) (head_is_found f F n head shape.has)
-
-  -- and they are before the table
+  -- the bytes of an object are before the table
   pub extent_within : (n : ℕ) (head : Head) → HasShape f F n head → extent f F n ≤ F.table
-  extent_within n head shape = omega (arith, extent_is n head shape, shape.inside)
+  extent_within n head shape = omega (arith, extent_is f F n head shape.has, shape.inside)
 
   -- its references are among them
   pub refs_bytes : (n : ℕ) (head : Head) → 1 ≤ F.ref_size → HasShape f F n head → ref_count head.kind head.count * F.ref_size ≤ extent f F n
   refs_bytes n head low shape =
       let fit = refs_fit F.ref_size head.count head.kind low in
-      omega (arith, fit.0, shape.has.body, shape.has.ends, extent_is n head shape)
+      omega (arith, fit.0, shape.has.body, shape.has.ends, extent_is f F n head shape.has)
 
   -- and so are those to keys
   pub keys_bytes : (n : ℕ) (head : Head) → 1 ≤ F.ref_size → head.kind ≡ Dict → HasShape f F n head → head.count * F.ref_size ≤ extent f F n
@@ -52,7 +47,7 @@ module _ (f : List ℕ) (F : Frame) where
         (head.0, (kept_spells f F n sound.framed low head.0 head.1 kept).0)
 
     -- the marked objects below n take this many bytes
-    sums_at : (n : ℕ) → n ≤ F.objects → Sums f F (Reach f F) n (extents_below f F (is_marked marks) n)
+    pub sums_at : (n : ℕ) → n ≤ F.objects → Sums f F (Reach f F) n (extents_below f F (is_marked marks) n)
     sums_at zero low = sums_none f F (Reach f F)
     sums_at (suc n) low = go (sums_at n (omega (arith, low))) (is_marked marks n) refl
       where
@@ -61,7 +56,7 @@ module _ (f : List ℕ) (F : Frame) where
             let shape = shape_of n (omega (arith, low)) e in
             let bytes = shape.0.«end» - off f F n in
             let next = rw e at (extents_next f F (is_marked marks) n) in
-            let both : extents_below f F (is_marked marks) n + bytes ≡ extents_below f F (is_marked marks) (suc n) = omega (arith, next, extent_is n shape.0 shape.1) in
+            let both : extents_below f F (is_marked marks) n + bytes ≡ extents_below f F (is_marked marks) (suc n) = omega (arith, next, extent_is f F n shape.0 shape.1.has) in
             subst (Sums f F (Reach f F) (suc n)) both (sums_more f F (Reach f F) n bytes (extents_below f F (is_marked marks) n) ((marked n).0 e) (shape_extent f F n shape.0 shape.1) before)
         go before false e =
             let next = rw e at (extents_next f F (is_marked marks) n) in

@@ -12,7 +12,8 @@ use Rattle.bplist_lint.specs.Graph.{Reaches, Ends, IsFirstUnfoundedIn, IsCircleO
 use Rattle.bplist_lint.specs.Graph.Reaches.{start, onward}
 use Rattle.bplist_lint.specs.Graph.Ends.{ends}
 use Rattle.bplist_lint.proofs.FirstWithout.{first_at}
-use Rattle.bplist_lint.proofs.ListWrites.{at_set, count-set, unwritten}
+use Rattle.bplist_lint.proofs.ListWrites.{at_set, count-set}
+use Rattle.bplist_lint.proofs.MarkSteps.{none_marked}
 
 -- there is a number below a bound with P, or there is none
 pub some_or_none : (Q : ℕ → Type 0) → ((k : ℕ) → Either (Q k)) → (bound : ℕ) → ((i : ℕ) × (i < bound) × Q i) ⊎ ((k : ℕ) → k < bound → Q k → ⊥)
@@ -35,8 +36,7 @@ member_decided xs m = elim (some_or_none (λ k. get_or xs k m ≡ m) (λ k. case
 
 -- ---- a set that is found step by step
 -- the marks are those of a set that Rule adds nothing to
-record IsClosed (P : ℕ → Type 0) (size : ℕ) (Rule : List Bool → ℕ → Type 0) (begun marks : List Bool) : Type 0 where
-  keeps : (n : ℕ) → IsMarked begun n → IsMarked marks n
+record IsClosed (P : ℕ → Type 0) (size : ℕ) (Rule : List Bool → ℕ → Type 0) (marks : List Bool) : Type 0 where
   right : (n : ℕ) → IsMarked marks n → P n
   done : (n : ℕ) → n < size → (IsMarked marks n → ⊥) → Rule marks n → ⊥
 
@@ -54,59 +54,50 @@ module _ (P : ℕ → Type 0) (size : ℕ) (Rule : List Bool → ℕ → Type 0)
     ]
   ]
 
-  module _ (marks : List Bool) (all : length marks ≡ size) (right : (n : ℕ) → IsMarked marks n → P n) where
-    -- with one more mark
-    with_one : (n : ℕ) → n < size → (m : ℕ) → IsMarked marks m → IsMarked (set marks n true) m
-    with_one n lt m is = elim (at_set marks n true false m (omega (arith, lt, all))) [
-      | inl same ↦ same.1
-      | inr other ↦ other.1 ∙ is
-    ]
-
-    right_one : (n : ℕ) → n < size → Rule marks n → (m : ℕ) → IsMarked (set marks n true) m → P m
-    right_one n lt rule m is = elim (at_set marks n true false m (omega (arith, lt, all))) [
+  -- with one more mark
+  module _ (marks : List Bool) (all : length marks ≡ size) (n : ℕ) (lt : n < size) where
+    right_one : ((m : ℕ) → IsMarked marks m → P m) → Rule marks n → (m : ℕ) → IsMarked (set marks n true) m → P m
+    right_one right rule m is = elim (at_set marks n true false m (omega (arith, lt, all))) [
       | inl same ↦ subst P (sym same.0) (sound marks right n lt rule)
       | inr other ↦ right m (sym other.1 ∙ is)
     ]
 
-    fewer : (n : ℕ) → n < size → (IsMarked marks n → ⊥) → count_by not (set marks n true) + 1 ≡ count_by not marks
-    fewer n lt off =
+    fewer : (IsMarked marks n → ⊥) → count_by not (set marks n true) + 1 ≡ count_by not marks
+    fewer off =
         let off1 : get_or marks n false ≡ false = false_from_ne_true (get_or marks n false) off in
         let c = count-set not marks n true false (omega (arith, lt, all)) in
         let one : 0 + cond (not (get_or marks n false)) 1 0 ≡ 1 = ap (λ b. 0 + cond (not b) 1 0) off1 in
         omega (arith, c, one)
 
-    closed : ((n : ℕ) → n < size → IsFresh marks n → ⊥) → (marks' : List Bool) × IsClosed P size Rule marks marks'
-    closed none = (marks, record { keeps = λ n is. is; right = right; done = λ n lt off rule. none n lt (off, rule) })
-
   -- marks are added until none is missing
-  close : (fuel : ℕ) (marks : List Bool) → length marks ≡ size → ((n : ℕ) → IsMarked marks n → P n) → count_by not marks ≤ fuel → (marks' : List Bool) × IsClosed P size Rule marks marks'
+  close : (fuel : ℕ) (marks : List Bool) → length marks ≡ size → ((n : ℕ) → IsMarked marks n → P n) → count_by not marks ≤ fuel → (marks' : List Bool) × IsClosed P size Rule marks'
   close zero marks all right few = elim (some_or_none (IsFresh marks) (fresh_decided marks) size) [
-    | inr none ↦ closed marks all right none
-    | inl some ↦ absurd (let l = fewer marks all right some.0 some.1 some.2.0 in omega (arith, l, few))
+    | inr none ↦ (marks, record { right = right; done = λ n lt off rule. none n lt (off, rule) })
+    | inl some ↦ absurd (omega (arith, fewer marks all some.0 some.1 some.2.0, few))
   ]
   close (suc fuel) marks all right few = elim (some_or_none (IsFresh marks) (fresh_decided marks) size) [
-    | inr none ↦ closed marks all right none
-    | inl some ↦
-        let l = fewer marks all right some.0 some.1 some.2.0 in
-        let rest = close fuel (set marks some.0 true) (length-set marks some.0 true ∙ all) (right_one marks all right some.0 some.1 some.2.1) (omega (arith, l, few)) in
-        (rest.0, record { keeps = λ m is. rest.1.keeps m (with_one marks all right some.0 some.1 m is); right = rest.1.right; done = rest.1.done })
+    | inr none ↦ (marks, record { right = right; done = λ n lt off rule. none n lt (off, rule) })
+    | inl some ↦ close fuel (set marks some.0 true) (length-set marks some.0 true ∙ all) (right_one marks all some.0 some.1 right some.2.1) (omega (arith, fewer marks all some.0 some.1 some.2.0, few))
   ]
+
+  closed : (marks : List Bool) × IsClosed P size Rule marks
+  closed = close (count_by not (replicate size false)) (replicate size false) (length-replicate size false) (λ n is. absurd (none_marked size n is)) (omega arith)
 
 -- ---- a finite graph
 module _ (graph : ℕ → List ℕ) (size : ℕ) (inside : (n m : ℕ) → Contains (graph n) m → m < size) where
-  abbrev no_marks : List Bool
-  no_marks = replicate size false
-
   -- ---- what is reached
   module _ (top : ℕ) (lt_top : top < size) where
-    -- a marked object refers to it
-    abbrev Refers : List Bool → ℕ → Type 0
-    Refers marks n = (m : ℕ) × (m < size) × (IsMarked marks m × Contains (graph m) n)
+    -- the top, or what a marked object refers to
+    abbrev IsNext : List Bool → ℕ → Type 0
+    IsNext marks n = (n ≡ top) ⊎ ((m : ℕ) × (m < size) × (IsMarked marks m × Contains (graph m) n))
 
-    refers_decided : (marks : List Bool) (n : ℕ) → Either (Refers marks n)
-    refers_decided marks n = elim (some_or_none (λ m. IsMarked marks m × Contains (graph m) n) (λ m. both (marked_decided marks m) (member_decided (graph m) n)) size) [
-      | inl some ↦ inl some
-      | inr none ↦ inr (λ h. none h.0 h.1 h.2)
+    next_decided : (marks : List Bool) (n : ℕ) → Either (IsNext marks n)
+    next_decided marks n = elim (cases_eq n top) [
+      | inl e ↦ inl (inl e)
+      | inr ne ↦ elim (some_or_none (λ m. IsMarked marks m × Contains (graph m) n) (λ m. both (marked_decided marks m) (member_decided (graph m) n)) size) [
+        | inl some ↦ inl (inr some)
+        | inr none ↦ inr (λ h. elim h [ inl e ↦ ne e | inr some ↦ none some.0 some.1 some.2 ])
+      ]
     ]
       where
         both : {A B : Type 0} → Either A → Either B → Either (A × B)
@@ -114,32 +105,25 @@ module _ (graph : ℕ → List ℕ) (size : ℕ) (inside : (n m : ℕ) → Conta
         both (inl a) (inr b) = inr (λ h. b h.1)
         both (inr a) b = inr (λ h. a h.0)
 
-    abbrev begun : List Bool
-    begun = set no_marks top true
+    next_reached : (marks : List Bool) → ((m : ℕ) → IsMarked marks m → Reaches graph top m) → (n : ℕ) → n < size → IsNext marks n → Reaches graph top n
+    next_reached marks right n lt (inl e) = subst (Reaches graph top) (sym e) start
+    next_reached marks right n lt (inr some) = onward some.0 n (right some.0 some.2.0) some.2.1
 
-    begun_right : (n : ℕ) → IsMarked begun n → Reaches graph top n
-    begun_right n is = elim (at_set no_marks top true false n (omega (arith, lt_top, length-replicate size false))) [
-      | inl same ↦ subst (Reaches graph top) (sym same.0) start
-      | inr other ↦ absurd (false≢true (sym (unwritten size n false) ∙ sym other.1 ∙ is))
-    ]
-
-    reached_marks : (marks : List Bool) × IsClosed (Reaches graph top) size Refers begun marks
-    reached_marks =
-        close (Reaches graph top) size Refers refers_decided (λ marks right n lt rule. onward rule.0 n (right rule.0 rule.2.0) rule.2.1)
-        (count_by not begun) begun (length-set no_marks top true ∙ length-replicate size false) begun_right (omega arith)
+    reached_marks : (marks : List Bool) × IsClosed (Reaches graph top) size IsNext marks
+    reached_marks = closed (Reaches graph top) size IsNext next_decided next_reached
 
     reach_inside : (n : ℕ) → Reaches graph top n → n < size
     reach_inside _ start = lt_top
     reach_inside _ (onward n m r c) = inside n m c
 
     reached_marked : (n : ℕ) → Reaches graph top n → IsMarked reached_marks.0 n
-    reached_marked _ start = elim (at_set no_marks top true false top (omega (arith, lt_top, length-replicate size false))) [
-      | inl same ↦ reached_marks.1.keeps top same.1
-      | inr other ↦ absurd (other.0 refl)
+    reached_marked _ start = elim (marked_decided reached_marks.0 top) [
+      | inl is ↦ is
+      | inr off ↦ absurd (reached_marks.1.done top lt_top off (inl refl))
     ]
     reached_marked _ (onward n m r c) = elim (marked_decided reached_marks.0 m) [
       | inl is ↦ is
-      | inr off ↦ absurd (reached_marks.1.done m (inside n m c) off (n, reach_inside n r, (reached_marked n r, c)))
+      | inr off ↦ absurd (reached_marks.1.done m (inside n m c) off (inr (n, reach_inside n r, (reached_marked n r, c))))
     ]
 
     pub reach_decided : (n : ℕ) → Either (Reaches graph top n)
@@ -166,10 +150,9 @@ module _ (graph : ℕ → List ℕ) (size : ℕ) (inside : (n m : ℕ) → Conta
     | inr (i, l, off, before) ↦ inr (λ all. off (all i l))
   ]
 
-  founded_marks : (marks : List Bool) × IsClosed (Ends graph) size AllMarked no_marks marks
+  founded_marks : (marks : List Bool) × IsClosed (Ends graph) size AllMarked marks
   founded_marks =
-      close (Ends graph) size AllMarked all_marked_decided (λ marks right n lt all. ends n (λ m c. subst (Ends graph) (sym (get_or_default (graph n) c.0 m 0 c.1) ∙ c.2) (right (get_or (graph n) c.0 0) (all c.0 c.1))))
-      (count_by not no_marks) no_marks (length-replicate size false) (λ n is. absurd (false≢true (sym (unwritten size n false) ∙ is))) (omega arith)
+      closed (Ends graph) size AllMarked all_marked_decided (λ marks right n lt all. ends n (λ m c. subst (Ends graph) (sym (get_or_default (graph n) c.0 m 0 c.1) ∙ c.2) (right (get_or (graph n) c.0 0) (all c.0 c.1))))
 
   abbrev IsFound : ℕ → Type 0
   IsFound n = IsMarked founded_marks.0 n

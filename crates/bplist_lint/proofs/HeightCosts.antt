@@ -1,16 +1,17 @@
 -- What the walk that finds the least heights may ask for.
-use Rattle.std.proofs.Common.{◌≡◌, ◌≢◌, ℕ, zero, suc, ◌+◌, ◌-◌, ◌*◌, ◌<◌, ◌≤◌, inl, inr, Bool, true, false, cond, List, length, replicate, set, slice_index, slice_index_or, refl, sym, ap, ◌∙◌, arith}
+use Rattle.std.proofs.Common.{◌≡◌, ◌≢◌, ℕ, ◌+◌, ◌-◌, ◌*◌, ◌<◌, ◌≤◌, inl, inr, Bool, true, false, cond, List, length, replicate, set, slice_index, slice_index_or, refl, ap, ◌∙◌, arith}
 use Rattle.std.proofs.Math.Nat.{add-mul, mul-add, mul-le-mul_right}
-use Rattle.std.proofs.lemmas.Bool.{cases_eq, cases_lt}
+use Rattle.std.proofs.lemmas.Bool.{cases_Bool}
 use Rattle.std.proofs.lemmas.List.{get_or-set_same, get_or-set_other}
 use Rattle.bplist_keys.specs.Marks.{IsMarked}
-use Rattle.bplist_lint.proofs.RangeSums.{sum_below, sum_next, sum_on}
-use Rattle.bplist_lint.specs.HeightWalks.{state_at, resumed, left_for, left_below, Standing, HasMet}
+use Rattle.bplist_lint.specs.Graph.{Graph}
+use Rattle.bplist_lint.specs.HeightWalks.{state_at, resumed, left_for, left_of}
+use Rattle.bplist_lint.specs.Trail.{trail_bytes}
 use Rattle.bplist_lint.specs.declared.heights.State.{State}
 use Rattle.bplist_lint.specs.declared.heights.State.TheVariants.{New, Open}
-use Rattle.bplist_lint.proofs.HeightSteps.{stays_known}
-use Rattle.bplist_lint.proofs.ListWrites.{at_set, unwritten}
-use Rattle.bplist_lint.specs.Trail.{trail_bytes}
+use Rattle.bplist_lint.proofs.ListWrites.{unwritten}
+use Rattle.bplist_lint.proofs.MarkSteps.{fresh-set}
+use Rattle.bplist_lint.proofs.RangeSums.{sum_less, sum_most, sum_none, sum_term}
 
 -- ---- a scan
 -- one more block, of which the next may be longer
@@ -51,182 +52,105 @@ blocks_within start after done count most width asked few low =
     let all : done * (3 + width) ≤ count * (3 + width) = mul-le-mul_right (3 + width) few in
     omega (arith, asked, all, low)
 
--- ---- sums
--- a term of a sum
-pub sum_term : (g : ℕ → ℕ) (i n : ℕ) → i < n → g i ≤ sum_below g n
-sum_term g i n low = let part = sum_on g (suc i) n (omega (arith, low)) in omega (arith, part, sum_next g i)
-
--- a sum of smaller terms
-sum_most : (g h : ℕ → ℕ) (n : ℕ) → ((k : ℕ) → k < n → h k ≤ g k) → sum_below h n ≤ sum_below g n
-sum_most g h zero less = omega arith
-sum_most g h (suc n) less = omega (arith, sum_most g h n (λ k low. less k (omega (arith, low))), sum_next g n, sum_next h n, less n (omega arith))
-
--- a sum of which one term is less by this much
-sum_less : (g h : ℕ → ℕ) (i d n : ℕ) → i < n → h i + d ≤ g i → ((k : ℕ) → k ≢ i → h k ≤ g k) → sum_below h n + d ≤ sum_below g n
-sum_less g h i d zero low less same = absurd (omega (arith, low))
-sum_less g h i d (suc n) low less same = elim (cases_lt i n) [
-  | inl before ↦ omega (arith, sum_less g h i d n before less same, sum_next g n, sum_next h n, same n (λ e. omega (arith, e, before)))
-  | inr last ↦
-      let e : i ≡ n = omega (arith, low, last) in
-      let here = rw e at less in
-      omega (arith, sum_most g h n (λ k l. same k (λ q. omega (arith, q, l, last))), sum_next g n, sum_next h n, here)
-]
-
--- ---- what scans have met
--- the scans of all open objects have met no object of which nothing is known still
-abbrev pub AreMet : (ℕ → List ℕ) → List State → List ℕ → Type 0
-AreMet refs states heights = (n : ℕ) → state_at states n ≡ Open → HasMet (refs n) states (slice_index heights n)
-
--- an object of which nothing is known has no height
-pub no_height : (size : ℕ) (states : List State) (heights stack : List ℕ) → Standing size states heights stack → (n : ℕ) → state_at states n ≡ New → slice_index heights n ≡ 0
-no_height size states heights stack s n new = elim (cases_lt 0 (slice_index heights n)) [
-  | inl some ↦ elim (s.known n some) [
-    | inl is ↦ absurd (cc (sym new ∙ is))
-    | inr is ↦ absurd (cc (sym new ∙ is))
-  ]
-  | inr none ↦ omega (arith, none)
-]
-
-module _ (refs : ℕ → List ℕ) (states : List State) (heights : List ℕ) where
-  pub met_open : (m : ℕ) → AreMet refs states heights → m < length states → slice_index heights m ≡ 0 → AreMet refs (set states m Open) heights
-  met_open m met within slot n is = elim (at_set states m Open New n within) [
-    | inl c ↦ rw (c.0, slot) (omega arith, λ k low. absurd (omega (arith, low)))
-    | inr c ↦ let old = met n (sym c.1 ∙ is) in (old.0, λ k low. stays_known states m Open within (λ e. cc e) _ (old.1 k low))
-  ]
-
-  pub met_settle : (m h : ℕ) (state : State) → AreMet refs states heights → m < length states → state ≢ Open → state ≢ New → AreMet refs (set states m state) (set heights m h)
-  met_settle m h state met within closed known n is = elim (at_set states m state New n within) [
-    | inl c ↦ absurd (closed (sym c.1 ∙ is))
-    | inr c ↦
-        let old = met n (sym c.1 ∙ is) in
-        rw (get_or-set_other heights m n h 0 c.0) (old.0, λ k low. stays_known states m state within known _ (old.1 k low))
-  ]
-
-  -- the object on top waits for the next one, which is its reference i
-  pub met_on : (heights' : List ℕ) (m i next : ℕ) → AreMet refs states heights → next < length states → slice_index heights next ≡ 0 → i < length (refs m) → next ≡ slice_index (refs m) i
-      → ((k : ℕ) → k < i → state_at states (slice_index (refs m) k) ≢ New) → slice_index heights' m ≡ i + 1 → ((k : ℕ) → k ≢ m → slice_index heights' k ≡ slice_index heights k)
-      → AreMet refs (set states next Open) heights'
-  met_on heights' m i next met within zero_slot inside there before slot others n is = elim (cases_eq n m) [
-    | inl e ↦ rw (e, slot) (
-      omega (arith, inside),
-      λ k low. elim (cases_eq k i) [
-        | inl last ↦ rw (last, ← there, get_or-set_same states next Open New within) (λ e. cc e)
-        | inr d ↦ stays_known states next Open within (λ e. cc e) _ (before k (omega (arith, low, d)))
-      ],
-    )
-    | inr ne ↦ rw (others n ne) (met_open next met within zero_slot n is)
-  ]
-
 -- ---- the walk
-module _ (width : ℕ) (refs : ℕ → List ℕ) (marks : List Bool) (size : ℕ) where
-  abbrev term : List State → List ℕ → ℕ → ℕ
-  term states heights m = cond (slice_index_or marks m false) (left_for width (state_at states m) (slice_index heights m) (length (refs m))) 0
+module _ (graph : Graph) (marks : List Bool) where
+  -- what is left because of a marked object, and because of any
+  abbrev own : State → ℕ → ℕ → ℕ
+  own state slot m = left_for graph.width state slot (length (graph.refs m))
 
-  marked_term : (states : List State) (heights : List ℕ) (m : ℕ) → IsMarked marks m → term states heights m ≡ left_for width (state_at states m) (slice_index heights m) (length (refs m))
-  marked_term states heights m is = ap (λ b. cond b (left_for width (state_at states m) (slice_index heights m) (length (refs m))) 0) is
+  abbrev term : List State → List ℕ → ℕ → ℕ
+  term states heights m = cond (slice_index_or marks m false) (own (state_at states m) (slice_index heights m) m) 0
+
+  marked_term : (states : List State) (heights : List ℕ) (m : ℕ) (state : State) (slot : ℕ) → IsMarked marks m → state_at states m ≡ state → slice_index heights m ≡ slot
+      → term states heights m ≡ own state slot m
+  marked_term states heights m state slot is there here =
+      ap (λ b. cond b (own (state_at states m) (slice_index heights m) m) 0) is ∙ ap (λ s. own s (slice_index heights m) m) there ∙ ap (λ h. own state h m) here
+
+  -- one object gets another state or height slot
+  left_less : (states states' : List State) (heights heights' : List ℕ) (m d : ℕ) → m < graph.size → term states' heights' m + d ≤ term states heights m
+      → ((k : ℕ) → k ≢ m → state_at states' k ≡ state_at states k) → ((k : ℕ) → k ≢ m → slice_index heights' k ≡ slice_index heights k)
+      → left_of graph marks states' heights' + d ≤ left_of graph marks states heights
+  left_less states states' heights heights' m d low less same_state same_height =
+      sum_less (term states heights) (term states' heights') m d graph.size low less (λ k ne.
+      let same : term states' heights' k ≡ term states heights k = ap (λ s. cond (slice_index_or marks k false) (own s (slice_index heights' k) k) 0) (same_state k ne)
+      ∙ ap (λ h. cond (slice_index_or marks k false) (own (state_at states k) h k) 0) (same_height k ne) in
+      omega (arith, same))
 
   -- an object that is open
-  pub left_open : (states : List State) (heights : List ℕ) (m : ℕ) → m < size → IsMarked marks m → state_at states m ≡ Open
-      → left_for width Open (slice_index heights m) (length (refs m)) ≤ left_below width refs marks states heights size
+  pub left_open : (states : List State) (heights : List ℕ) (m : ℕ) → m < graph.size → IsMarked marks m → state_at states m ≡ Open
+      → own Open (slice_index heights m) m ≤ left_of graph marks states heights
   left_open states heights m low is opened =
-      let own = marked_term states heights m is ∙ ap (λ state. left_for width state (slice_index heights m) (length (refs m))) opened in
-      let part : term states heights m ≤ left_below width refs marks states heights size = sum_term (term states heights) m size low in
-      omega (arith, part, own)
+      let part : term states heights m ≤ left_of graph marks states heights = sum_term (term states heights) m graph.size low in
+      omega (arith, part, marked_term states heights m Open (slice_index heights m) is opened refl)
 
   -- an object is settled
-  pub left_settle : (states : List State) (heights : List ℕ) (m h : ℕ) (state : State) → m < size → length states ≡ size → length heights ≡ size → IsMarked marks m → state_at states m ≡ Open
-      → ((slot count : ℕ) → left_for width state slot count ≡ 0)
-      → left_below width refs marks (set states m state) (set heights m h) size + left_for width Open (slice_index heights m) (length (refs m)) ≤ left_below width refs marks states heights size
-  left_settle states heights m h state low all all_heights is opened nothing =
-      let after = term (set states m state) (set heights m h) in
-      let own = marked_term states heights m is ∙ ap (λ state. left_for width state (slice_index heights m) (length (refs m))) opened in
-      let now : after m ≡ 0 = marked_term (set states m state) (set heights m h) m is
-      ∙ ap (λ state. left_for width state (slice_index (set heights m h) m) (length (refs m))) (get_or-set_same states m state New (omega (arith, low, all)))
-      ∙ nothing (slice_index (set heights m h) m) (length (refs m)) in
-      sum_less (term states heights) after m (left_for width Open (slice_index heights m) (length (refs m))) size low (omega (arith, own, now)) (λ k ne.
-      let same_state = get_or-set_other states m k state New ne in
-      let same_height = get_or-set_other heights m k h 0 ne in
-      let same : after k ≡ term states heights k = ap (λ state. cond (slice_index_or marks k false) (left_for width state (slice_index (set heights m h) k) (length (refs k))) 0) same_state
-      ∙ ap (λ slot. cond (slice_index_or marks k false) (left_for width (state_at states k) slot (length (refs k))) 0) same_height in
-      omega (arith, same))
-
-  -- a scan goes on
-  resumes : (states : List State) (heights heights' : List ℕ) (m i : ℕ) → m < size → IsMarked marks m → state_at states m ≡ Open → i < length (refs m) → slice_index heights m ≤ i → slice_index heights' m ≡ i + 1
-      → ((k : ℕ) → k ≢ m → slice_index heights' k ≡ slice_index heights k)
-      → left_below width refs marks states heights' size + (i - resumed (slice_index heights m)) * (3 + width) ≤ left_below width refs marks states heights size
-  resumes states heights heights' m i low is opened inside on slot others =
-      let s = resumed (slice_index heights m) in
-      let c = length (refs m) in
-      let rate = 3 + width in
-      let was = marked_term states heights m is ∙ ap (λ state. left_for width state (slice_index heights m) c) opened in
-      let now = marked_term states heights' m is ∙ ap (λ state. left_for width state (slice_index heights' m) c) opened ∙ ap (λ slot. left_for width Open slot c) slot in
-      let e : c - s ≡ (c - i) + (i - s) = omega (arith, inside, on) in
-      let back : c - resumed (i + 1) ≡ c - i = omega arith in
-      let both : (c - s) * rate ≡ (c - i) * rate + (i - s) * rate = ap (λ n. n * rate) e ∙ add-mul (c - i) (i - s) rate in
-      let here : (c - resumed (i + 1)) * rate ≡ (c - i) * rate = ap (λ n. n * rate) back in
-      sum_less (term states heights) (term states heights') m ((i - s) * rate) size low (omega (arith, was, now, both, here)) (λ k ne.
-      let same : term states heights' k ≡ term states heights k = ap (λ slot. cond (slice_index_or marks k false) (left_for width (state_at states k) slot (length (refs k))) 0) (others k ne) in
-      omega (arith, same))
+  pub left_settle : (states : List State) (heights : List ℕ) (m h : ℕ) (state : State) → m < graph.size → length states ≡ graph.size → IsMarked marks m → state_at states m ≡ Open
+      → ((slot count : ℕ) → left_for graph.width state slot count ≡ 0)
+      → left_of graph marks (set states m state) (set heights m h) + own Open (slice_index heights m) m ≤ left_of graph marks states heights
+  left_settle states heights m h state low all is opened nothing =
+      let slot = slice_index (set heights m h) m in
+      let was = marked_term states heights m Open (slice_index heights m) is opened refl in
+      let now = marked_term (set states m state) (set heights m h) m state slot is (get_or-set_same states m state New (omega (arith, low, all))) refl in
+      left_less states (set states m state) heights (set heights m h) m (own Open (slice_index heights m) m) low
+      (omega (arith, was, now, nothing slot (length (graph.refs m))))
+      (λ k ne. get_or-set_other states m k state New ne) (λ k ne. get_or-set_other heights m k h 0 ne)
 
   -- an object is opened
-  opens : (states : List State) (heights : List ℕ) (m : ℕ) → m < size → length states ≡ size → IsMarked marks m → state_at states m ≡ New → slice_index heights m ≡ 0
-      → left_below width refs marks (set states m Open) heights size + 460 ≤ left_below width refs marks states heights size
-  opens states heights m low all is new slot =
-      let c = length (refs m) in
-      let was = marked_term states heights m is ∙ ap (λ state. left_for width state (slice_index heights m) c) new in
-      let now = marked_term (set states m Open) heights m is ∙ ap (λ state. left_for width state (slice_index heights m) c) (get_or-set_same states m Open New (omega (arith, low, all))) ∙ ap (λ slot. left_for width Open slot c) slot in
-      let none : c - resumed 0 ≡ c = omega arith in
-      let first : (c - resumed 0) * (3 + width) ≡ c * (3 + width) = ap (λ n. n * (3 + width)) none in
-      sum_less (term states heights) (term (set states m Open) heights) m 460 size low (omega (arith, was, now, first)) (λ k ne.
-      let same : term (set states m Open) heights k ≡ term states heights k = ap (λ state. cond (slice_index_or marks k false) (left_for width state (slice_index heights k) (length (refs k))) 0) (get_or-set_other states m k Open New ne) in
-      omega (arith, same))
+  pub left_opens : (states : List State) (heights : List ℕ) (m : ℕ) → m < graph.size → length states ≡ graph.size → IsMarked marks m → state_at states m ≡ New → slice_index heights m ≡ 0
+      → left_of graph marks (set states m Open) heights + 460 ≤ left_of graph marks states heights
+  left_opens states heights m low all is new slot =
+      let c = length (graph.refs m) in
+      let first : (c - resumed 0) * (3 + graph.width) ≡ c * (3 + graph.width) = ap (λ n. n * (3 + graph.width)) (omega arith) in
+      let was = marked_term states heights m New 0 is new slot in
+      let now = marked_term (set states m Open) heights m Open 0 is (get_or-set_same states m Open New (omega (arith, low, all))) slot in
+      left_less states (set states m Open) heights heights m 460 low (omega (arith, was, now, first)) (λ k ne. get_or-set_other states m k Open New ne) (λ k ne. refl)
 
-  -- the first object of a search is opened
-  pub left_first : (states : List State) (heights : List ℕ) (m : ℕ) → m < size → length states ≡ size → IsMarked marks m → state_at states m ≡ New → slice_index heights m ≡ 0
-      → left_below width refs marks (set states m Open) heights size ≤ left_below width refs marks states heights size
-  left_first states heights m low all is new slot = let less = opens states heights m low all is new slot in omega (arith, less)
-
-  -- an object is opened that another one waits for
-  pub left_on : (states : List State) (heights heights' : List ℕ) (m i next : ℕ) → m < size → next < size → length states ≡ size → IsMarked marks m → IsMarked marks next → state_at states m ≡ Open → state_at states next ≡ New
-      → i < length (refs m) → slice_index heights m ≤ i → slice_index heights' m ≡ i + 1 → ((k : ℕ) → k ≢ m → slice_index heights' k ≡ slice_index heights k) → slice_index heights next ≡ 0 → next ≢ m
-      → left_below width refs marks (set states next Open) heights' size + (460 + (i - resumed (slice_index heights m)) * (3 + width)) ≤ left_below width refs marks states heights size
-  left_on states heights heights' m i next low next_low all is next_is opened new inside on slot others zero_slot other =
-      let one = resumes states heights heights' m i low is opened inside on slot others in
-      let two = opens states heights' next next_low all next_is new (others next other ∙ zero_slot) in
-      omega (arith, one, two)
+  -- a scan goes on
+  pub left_resumes : (states : List State) (heights heights' : List ℕ) (m i : ℕ) → m < graph.size → IsMarked marks m → state_at states m ≡ Open → i < length (graph.refs m) → slice_index heights m ≤ i → slice_index heights' m ≡ i + 1
+      → ((k : ℕ) → k ≢ m → slice_index heights' k ≡ slice_index heights k)
+      → left_of graph marks states heights' + (i - resumed (slice_index heights m)) * (3 + graph.width) ≤ left_of graph marks states heights
+  left_resumes states heights heights' m i low is opened inside on slot others =
+      let s = resumed (slice_index heights m) in
+      let c = length (graph.refs m) in
+      let rate = 3 + graph.width in
+      let e : c - s ≡ (c - i) + (i - s) = omega (arith, inside, on) in
+      let both : (c - s) * rate ≡ (c - i) * rate + (i - s) * rate = ap (λ n. n * rate) e ∙ add-mul (c - i) (i - s) rate in
+      let here : (c - resumed (i + 1)) * rate ≡ (c - i) * rate = ap (λ n. n * rate) (omega arith) in
+      let was = marked_term states heights m Open (slice_index heights m) is opened refl in
+      let now = marked_term states heights' m Open (i + 1) is opened slot in
+      left_less states states heights heights' m ((i - s) * rate) low (omega (arith, was, now, both, here)) (λ k ne. refl) others
 
 -- ---- the circle
-module _ (width : ℕ) (refs : ℕ → List ℕ) where
+module _ (graph : Graph) where
   abbrev step : List Bool → ℕ → ℕ
-  step met m = cond (slice_index_or met m false) (292 + length (refs m) * (3 + width)) 0
+  step met m = cond (slice_index_or met m false) (292 + length (graph.refs m) * (3 + graph.width)) 0
+
+  step_is : (met : List Bool) (m : ℕ) (b : Bool) → slice_index_or met m false ≡ b → step met m ≡ cond b (292 + length (graph.refs m) * (3 + graph.width)) 0
+  step_is met m b = ap (λ c. cond c (292 + length (graph.refs m) * (3 + graph.width)) 0)
 
   -- one more object is met
-  pub trail_on : (met : List Bool) (x size : ℕ) → x < size → length met ≡ size → slice_index_or met x false ≡ false
-      → trail_bytes width refs met size + (292 + length (refs x) * (3 + width)) ≤ trail_bytes width refs (set met x true) size
-  trail_on met x size low all new =
-      let own : step met x ≡ 0 = ap (λ b. cond b (292 + length (refs x) * (3 + width)) 0) new in
-      let now : step (set met x true) x ≡ 292 + length (refs x) * (3 + width) = ap (λ b. cond b (292 + length (refs x) * (3 + width)) 0) (get_or-set_same met x true false (omega (arith, low, all))) in
-      sum_less (step (set met x true)) (step met) x (292 + length (refs x) * (3 + width)) size low (omega (arith, own, now)) (λ k ne.
-      let same : step (set met x true) k ≡ step met k = ap (λ b. cond b (292 + length (refs k) * (3 + width)) 0) (get_or-set_other met x k true false ne) in
-      omega (arith, same))
+  pub trail_on : (met : List Bool) (x : ℕ) → x < graph.size → length met ≡ graph.size → slice_index_or met x false ≡ false
+      → trail_bytes graph met + (292 + length (graph.refs x) * (3 + graph.width)) ≤ trail_bytes graph (set met x true)
+  trail_on met x low all new =
+      let now = step_is (set met x true) x true (get_or-set_same met x true false (omega (arith, low, all))) in
+      sum_less (step (set met x true)) (step met) x (292 + length (graph.refs x) * (3 + graph.width)) graph.size low (omega (arith, step_is met x false new, now))
+      (λ k ne. omega (arith, step_is (set met x true) k (slice_index_or met k false) (get_or-set_other met x k true false ne)))
 
   -- what is met is marked
-  pub trail_marked : (met marks : List Bool) (size : ℕ) → ((n : ℕ) → IsMarked met n → IsMarked marks n) → trail_bytes width refs met size ≤ trail_bytes width refs marks size
-  trail_marked met marks size are = sum_most (step marks) (step met) size (λ k _. go k (slice_index_or met k false) refl)
-    where
-      go : (k : ℕ) (b : Bool) → slice_index_or met k false ≡ b → step met k ≤ step marks k
-      go k true e =
-          let own : step met k ≡ 292 + length (refs k) * (3 + width) = ap (λ b. cond b (292 + length (refs k) * (3 + width)) 0) e in
-          let now : step marks k ≡ 292 + length (refs k) * (3 + width) = ap (λ b. cond b (292 + length (refs k) * (3 + width)) 0) (are k e) in
-          omega (arith, own, now)
-      go k false e =
-          let own : step met k ≡ 0 = ap (λ b. cond b (292 + length (refs k) * (3 + width)) 0) e in
-          omega (arith, own)
+  pub trail_marked : (met marks : List Bool) → ((n : ℕ) → IsMarked met n → IsMarked marks n) → trail_bytes graph met ≤ trail_bytes graph marks
+  trail_marked met marks are = sum_most (step marks) (step met) graph.size (λ k _. elim (cases_Bool (slice_index_or met k false)) [
+    | inl yes1 ↦ omega (arith, step_is met k true yes1, step_is marks k true (are k yes1))
+    | inr no1 ↦ omega (arith, step_is met k false no1)
+  ])
+
+  -- one more object is met than so far, which is marked as well
+  pub trail_step : (met marks : List Bool) (x start before after : ℕ) → x < graph.size → length met ≡ graph.size → slice_index_or met x false ≡ false → ((n : ℕ) → IsMarked met n → IsMarked marks n) → IsMarked marks x
+      → before ≤ start + trail_bytes graph met → after ≤ before + (292 + length (graph.refs x) * (3 + graph.width)) → after ≤ start + trail_bytes graph marks
+  trail_step met marks x start before after low all new are is so_far more =
+      let one = trail_on met x low all new in
+      let few = trail_marked (set met x true) marks (λ n i. elim (fresh-set met x n i) [ inl old ↦ are n old | inr e ↦ rw e is ]) in
+      omega (arith, so_far, more, one, few)
 
   -- nothing is met yet
-  pub trail_zero : (size n : ℕ) → trail_bytes width refs (replicate size false) n ≡ 0
-  trail_zero size zero = refl
-  trail_zero size (suc n) =
-      let own : step (replicate size false) n ≡ 0 = ap (λ b. cond b (292 + length (refs n) * (3 + width)) 0) (unwritten size n false) in
-      let next : trail_bytes width refs (replicate size false) (suc n) ≡ trail_bytes width refs (replicate size false) n + step (replicate size false) n = sum_next (step (replicate size false)) n in
-      omega (arith, trail_zero size n, next, own)
+  pub trail_zero : (size : ℕ) → trail_bytes graph (replicate size false) ≡ 0
+  trail_zero size = sum_none (step (replicate size false)) graph.size (λ n. step_is (replicate size false) n false (unwritten size n false))

@@ -10,7 +10,7 @@ use Rattle.bplist_lint.specs.Graph.{Ends, Least, greatest, IsPart}
 use Rattle.bplist_lint.specs.Graph.Ends.{ends}
 use Rattle.bplist_lint.specs.Graph.Least.{above}
 use Rattle.bplist_keys.specs.Marks.{IsMarked}
-use Rattle.bplist_lint.specs.HeightWalks.{state_at, is_founded, first_state, Standing, IsHeightWalk, AreLeastOf}
+use Rattle.bplist_lint.specs.HeightWalks.{state_at, is_founded, first_state, HasMet, Standing, IsHeightWalk, AreLeastOf}
 use Rattle.bplist_lint.specs.declared.heights.State.{State}
 use Rattle.bplist_lint.specs.declared.heights.State.TheVariants.{New, Open, Founded, Circular}
 use Rattle.bplist_lint.proofs.MarkSteps.{apart_none, apart_push, apart_front, apart_last}
@@ -41,6 +41,17 @@ stays_known states n state within old m known e = elim (at_set states n state Ne
   | inr c ↦ known (sym c.1 ∙ e)
 ]
 
+-- a scan that found a new object, which is opened then, has met it too
+pub met_on : (references : List ℕ) (states : List State) (i next : ℕ) → next < length states → i < length references → next ≡ slice_index references i
+    → ((k : ℕ) → k < i → state_at states (slice_index references k) ≢ New) → HasMet references (set states next Open) (i + 1)
+met_on references states i next within inside there before = (
+  omega (arith, inside),
+  λ k low. elim (cases_eq k i) [
+    | inl last ↦ rw (last, ← there, get_or-set_same states next Open New within) (λ e. cc e)
+    | inr ne ↦ stays_known states next Open within (λ e. cc e) _ (before k (omega (arith, low, ne)))
+  ],
+)
+
 -- the states and heights before the walk
 pub first_is : (childless : List Bool) (n : ℕ) → (IsMarked childless n × (state_at (map first_state childless) n ≡ Founded) × (get_or (map from_bool childless) n 0 ≡ 1)) ⊎ ((state_at (map first_state childless) n ≡ New) × (get_or (map from_bool childless) n 0 ≡ 0))
 first_is [] n = inr (refl, refl)
@@ -48,6 +59,12 @@ first_is (true ∷ bs) zero = inl (refl, refl, refl)
 first_is (true ∷ bs) (suc n) = first_is bs n
 first_is (false ∷ bs) zero = inr (refl, refl)
 first_is (false ∷ bs) (suc n) = first_is bs n
+
+first_other : (childless : List Bool) (n : ℕ) (state : State) → state ≢ Founded → state ≢ New → state_at (map first_state childless) n ≢ state
+first_other childless n state founded new is = elim (first_is childless n) [
+  | inl c ↦ founded (sym is ∙ c.1)
+  | inr c ↦ new (sym is ∙ c.0)
+]
 
 -- a founded object is counted
 counted : (states : List State) (n : ℕ) → state_at states n ≡ Founded → 0 < count_by is_founded states
@@ -61,10 +78,7 @@ standing_first size childless long = record {
   all_heights = length-map childless from_bool ∙ long;
   are_open = λ k h. absurd (omega arith);
   apart = apart_none;
-  on_stack = λ n is. elim (first_is childless n) [
-    | inl c ↦ absurd (cc (sym c.1 ∙ is))
-    | inr c ↦ absurd (cc (sym c.0 ∙ is))
-  ];
+  on_stack = λ n is. absurd (first_other childless n Open (λ e. cc e) (λ e. cc e) is);
   low = λ n is. elim (first_is childless n) [
     | inl c ↦ let some = counted (map first_state childless) n c.1 in omega (arith, c.2, some)
     | inr c ↦ absurd (cc (sym c.0 ∙ is))
@@ -79,6 +93,16 @@ module _ (size : ℕ) (states : List State) (heights stack : List ℕ) where
   -- what is on the stack is open
   open_on : Standing size states heights stack → (n : ℕ) → Contains stack n → state_at states n ≡ Open
   open_on s n c = rw (sym (get_or_default stack c.0 n 0 c.1) ∙ c.2) at (s.are_open c.0 c.1)
+
+  -- a new object has no height
+  pub no_height : Standing size states heights stack → (n : ℕ) → state_at states n ≡ New → slice_index heights n ≡ 0
+  no_height s n new = elim (cases_lt 0 (slice_index heights n)) [
+    | inl some ↦ elim (s.known n some) [
+      | inl is ↦ absurd (cc (sym new ∙ is))
+      | inr is ↦ absurd (cc (sym new ∙ is))
+    ]
+    | inr none ↦ omega (arith, none)
+  ]
 
   -- a new object is opened, on top of the stack
   pub standing_open : (m : ℕ) → Standing size states heights stack → m < size → state_at states m ≡ New → Standing size (set states m Open) heights (stack ++ m ∷ [])
@@ -208,7 +232,7 @@ pub greatest-push : (hs : List ℕ) (h : ℕ) → greatest (hs ++ h ∷ []) ≡ 
 greatest-push [] h = omega arith
 greatest-push (x ∷ xs) h = omega (arith, greatest-push xs h)
 
-height_over : (refs : ℕ → List ℕ) (n h : ℕ) → Least refs n h → 0 < h
+pub height_over : (refs : ℕ → List ℕ) (n h : ℕ) → Least refs n h → 0 < h
 height_over refs _ _ (above n heights long each) = omega arith
 
 pub among_at : (xs : List ℕ) (i m : ℕ) → i < length xs → m ≡ get_or xs i 0 → Contains xs m
@@ -244,16 +268,14 @@ walking_first refs marks childless are = record {
         rw c.2 (above n [] (sym empty) (λ i low. absurd (omega (arith, low, empty))))
     | inr c ↦ absurd (cc (sym c.0 ∙ is))
   ];
-  circular = λ n is. elim (first_is childless n) [
-    | inl c ↦ absurd (cc (sym c.1 ∙ is))
-    | inr c ↦ absurd (cc (sym c.0 ∙ is))
-  ];
+  circular = λ n is. absurd (first_other childless n Circular (λ e. cc e) (λ e. cc e) is);
+  met = λ n is. absurd (first_other childless n Open (λ e. cc e) (λ e. cc e) is);
 }
 
 module _ (refs : ℕ → List ℕ) (marks : List Bool) (states : List State) (heights stack : List ℕ) where
   -- a new object is opened, a reference of the one on top of the stack, if there is one
-  pub walking_open : (m : ℕ) → IsHeightWalk refs marks states heights stack → IsMarked marks m → m < length states → ((k : ℕ) → suc k ≡ length stack → Contains (refs (slice_index stack k)) m) → IsHeightWalk refs marks (set states m Open) heights (stack ++ m ∷ [])
-  walking_open m w marked within among = record {
+  pub walking_open : (m : ℕ) → IsHeightWalk refs marks states heights stack → IsMarked marks m → m < length states → slice_index heights m ≡ 0 → ((k : ℕ) → suc k ≡ length stack → Contains (refs (slice_index stack k)) m) → IsHeightWalk refs marks (set states m Open) heights (stack ++ m ∷ [])
+  walking_open m w marked within slot among = record {
     marked = λ n h. elim (at_set states m Open New n within) [
       | inl c ↦ rw c.0 marked
       | inr c ↦ w.marked n (rw c.1 at h)
@@ -272,6 +294,24 @@ module _ (refs : ℕ → List ℕ) (marks : List Bool) (states : List State) (he
       | inl c ↦ absurd (cc (sym c.1 ∙ is))
       | inr c ↦ w.circular n (sym c.1 ∙ is)
     ];
+    met = λ n is. elim (at_set states m Open New n within) [
+      | inl c ↦ rw (c.0, slot) (omega arith, λ k low. absurd (omega (arith, low)))
+      | inr c ↦ let old = w.met n (sym c.1 ∙ is) in (old.0, λ k low. stays_known states m Open within (λ e. cc e) _ (old.1 k low))
+    ];
+  }
+
+  -- the height slot of an open object says only what its scan has met
+  pub walking_slot : (n : ℕ) (heights' : List ℕ) → IsHeightWalk refs marks states heights stack → state_at states n ≡ Open → ((m : ℕ) → m ≢ n → get_or heights' m 0 ≡ get_or heights m 0)
+      → HasMet (refs n) states (slice_index heights' n) → IsHeightWalk refs marks states heights' stack
+  walking_slot n heights' w opened same slot = record {
+    marked = w.marked;
+    linked = w.linked;
+    measured = λ m is. rw (same m (λ e. let o : state_at states m ≡ Open = rw e opened in absurd (cc (sym is ∙ o)))) (w.measured m is);
+    circular = w.circular;
+    met = λ m is. elim (cases_eq m n) [
+      | inl e ↦ rw e slot
+      | inr ne ↦ rw (same m ne) (w.met m is)
+    ];
   }
 
 module _ (refs : ℕ → List ℕ) (marks : List Bool) (size : ℕ) (states : List State) (heights stack : List ℕ) (n : ℕ) (s : Standing size states heights (stack ++ n ∷ [])) (w : IsHeightWalk refs marks states heights (stack ++ n ∷ [])) where
@@ -281,18 +321,9 @@ module _ (refs : ℕ → List ℕ) (marks : List Bool) (size : ℕ) (states : Li
   pub top_marked : IsMarked marks n
   top_marked = w.marked n (λ e. absurd (cc (sym is_open ∙ e)))
 
-  -- the index in the height slot of an open object says nothing about the references
-  pub walking_back : (heights' : List ℕ) → ((m : ℕ) → m ≢ n → get_or heights' m 0 ≡ get_or heights m 0) → IsHeightWalk refs marks states heights' (stack ++ n ∷ [])
-  walking_back heights' same = record {
-    marked = w.marked;
-    linked = w.linked;
-    measured = λ m is. rw (same m (λ e. let o : state_at states m ≡ Open = rw e is_open in absurd (cc (sym is ∙ o)))) (w.measured m is);
-    circular = w.circular;
-  }
-
   -- the object on top is settled
-  pub walking_settle : (state : State) (h : ℕ) → (state ≡ Founded → Least refs n h) → (state ≡ Circular → Ends refs n → ⊥) → IsHeightWalk refs marks (set states n state) (set heights n h) stack
-  walking_settle state h least circular =
+  pub walking_settle : (state : State) (h : ℕ) → state ≢ Open → state ≢ New → (state ≡ Founded → Least refs n h) → (state ≡ Circular → Ends refs n → ⊥) → IsHeightWalk refs marks (set states n state) (set heights n h) stack
+  walking_settle state h closed known least circular =
       let within : n < length states = let l = top_within size states heights stack n s in omega (arith, l, s.all_states) in
       let within' : n < length heights = let l = top_within size states heights stack n s in omega (arith, l, s.all_heights) in
       let long = length_push stack n in
@@ -310,6 +341,12 @@ module _ (refs : ℕ → List ℕ) (marks : List Bool) (size : ℕ) (states : Li
         circular = λ m is. elim (at_set states n state New m within) [
           | inl c ↦ rw c.0 (circular (sym c.1 ∙ is))
           | inr c ↦ w.circular m (sym c.1 ∙ is)
+        ];
+        met = λ m is. elim (at_set states n state New m within) [
+          | inl c ↦ absurd (closed (sym c.1 ∙ is))
+          | inr c ↦
+              let old = w.met m (sym c.1 ∙ is) in
+              rw (get_or-set_other heights n m h 0 c.0) (old.0, λ k low. stays_known states n state within known _ (old.1 k low))
         ];
       }
 

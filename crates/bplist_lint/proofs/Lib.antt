@@ -16,7 +16,7 @@ pub mod KeyClasses
 pub mod ContainerSteps
 pub mod FoundedObjects
 pub mod HeldValues
-pub mod MergedTables
+pub mod LeastTables
 pub mod ReferenceGraph
 pub mod KeptRules
 pub mod ValueHeights
@@ -34,4 +34,3 @@ pub mod BitCounts
 pub mod ExtentBytes
 pub mod HeightCosts
 pub mod WalkCosts
-pub mod HeightTurns

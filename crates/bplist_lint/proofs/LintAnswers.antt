@@ -7,6 +7,7 @@ use Rattle.bplist_objects.specs.declared.frame.Frame.{Frame}
 use Rattle.bplist_objects.specs.Value.{Value}
 use Rattle.bplist_objects.specs.File.{FileHolds}
 use Rattle.bplist_objects.specs.Frame.{IsFrame}
+use Rattle.bplist_objects.specs.Heads.{Content, Spells}
 use Rattle.bplist_objects.specs.Reach.{Reach, top, Founded}
 use Rattle.bplist_objects.specs.Spelled.{refs_at}
 use Rattle.bplist_objects.proofs.ExtentSums.{room_weaker}
@@ -21,7 +22,7 @@ use Rattle.bplist_lint.specs.LeastHeights.{StandLeast, AreLeastHeights}
 use Rattle.bplist_lint.specs.WellFormed.{IsWellFormed}
 use Rattle.bplist_lint.proofs.FoundedObjects.{vouched_founded, least_under, same_least, least_valid}
 use Rattle.bplist_lint.proofs.HeldValues.{holds_formed}
-use Rattle.bplist_lint.proofs.MergedTables.{valid_there}
+use Rattle.bplist_lint.proofs.LeastTables.{least_table, least_table_all, least_table_least}
 use Rattle.bplist_lint.proofs.FirstFaults.{fault_not_formed, circle_not_formed}
 use Rattle.bplist_lint.proofs.KeptRules.{kept_spells, kept_formed, formed_reach, formed_keys}
 use Rattle.bplist_lint.proofs.TrailSteps.{Ends-from_least}
@@ -44,14 +45,20 @@ module _ (f : List ℕ) (F : Frame) where
     founded = vouched_founded f F heights valid.vouched F.top.0 valid.top;
   }
 
-  pub valid_iff : ((heights : List ℕ) × IsValid f F heights) ↔ IsWellFormed f F
-  valid_iff = ((λ h. formed_by_valid h.0 h.1), valid_there f F)
-
   -- ---- the least heights
   pub least_heights_valid : (heights : List ℕ) → IsWellFormed f F → AreLeastHeights f F heights → IsValid f F heights
   least_heights_valid heights w l =
       least_valid f F heights w.frame l.count (room_weaker f F (Reach f F) (IsVouchedBy heights) l.only w.room) l.least l.only
       (λ n r c s. let k = w.contents n r in subst (HasKeys f F) (one_head f F n k.0 c k.1 s) k.2)
+
+  pub valid_iff : ((heights : List ℕ) × IsValid f F heights) ↔ IsWellFormed f F
+  valid_iff = (
+    λ h. formed_by_valid h.0 h.1,
+    λ w.
+        let contents : (n : ℕ) → Reach f F n → (c : Content) × Spells f F n c = λ n r. let s = w.contents n r in (s.0, s.1) in
+        let least = are_least_heights f F contents (least_table f F w) (least_table_least f F w) w.founded (least_table_all f F w) in
+        (least_table f F w, least_heights_valid (least_table f F w) w least),
+  )
 
   -- two such tables agree on what is reached, so there is one list of the least heights
   pub stand_one : (heights others : List ℕ) → IsWellFormed f F → StandLeast f F heights → StandLeast f F others

@@ -1,10 +1,10 @@
 -- What the linter's passes find, one after the other.
-use Rattle.std.proofs.Common.{◌≡◌, ℕ, zero, suc, ◌+◌, ◌*◌, ◌<◌, ◌≤◌, inl, cond, nat_lt, Bool, List, length, take, slice_index, count_by, filter, IsTrue, Option, None, Result, Ok, Err, refl, sym, ap, subst, ◌∙◌, arith, min, lt-ltb}
+use Rattle.std.proofs.Common.{◌≡◌, ℕ, zero, suc, ◌+◌, ◌*◌, ◌<◌, ◌≤◌, inl, cond, nat_lt, Bool, List, length, take, slice_index, count_by, filter, IsTrue, Option, None, refl, sym, ap, subst, ◌∙◌, arith, min, lt-ltb}
 use Rattle.std.specs.List.{range_with_len}
 use Rattle.std.proofs.Math.Nat.{min-eq_right, mul-le-mul_left}
 use Rattle.std.proofs.Math.Numerals.{add-one}
 use Rattle.std.proofs.Math.Seq.{take-length}
-use Rattle.std.proofs.lemmas.List.Sums.{sum_by_more}
+use Rattle.std.proofs.lemmas.List.Sums.{count_by-le-length, sum_by_more}
 use Rattle.std.proofs.lemmas.Bool.{ltb-true}
 use Rattle.bplist_octets.specs.Meaning.{Meaning}
 use Rattle.bplist_objects.specs.declared.fault.Fault.{Fault}
@@ -26,7 +26,6 @@ use Rattle.bplist_cert.specs.Valid.{IsVouchedBy}
 use Rattle.bplist_cert.proofs.VouchedObjects.{reached_vouched}
 use Rattle.bplist_lint.specs.declared.answer.LintRefusal.{LintRefusal}
 use Rattle.bplist_lint.specs.declared.answer.LintRefusal.TheVariants as refusals
-use Rattle.bplist_lint.specs.declared.answer.Lint.{Lint}
 use Rattle.bplist_lint.specs.declared.linter.Keys.{Keys}
 use Rattle.bplist_lint.specs.declared.linter.Keys.TheVariants.{Classes, Ranks}
 use Rattle.bplist_lint.specs.declared.tally.Tally.{Tally}
@@ -34,25 +33,24 @@ use Rattle.bplist_lint.specs.declared.walk.Reached.{Reached}
 use Rattle.bplist_lint.specs.Graph.{AreLeast, IsCircleOf}
 use Rattle.bplist_lint.specs.ReachRules.{number_below, references_below, is_marked}
 use Rattle.bplist_lint.specs.FileFault.{IsFileFault, IsFileCircle}
-use Rattle.bplist_lint.specs.Refusals.{Lints, Refuses, no_circle}
+use Rattle.bplist_lint.specs.Refusals.{Refuses, no_circle}
 use Rattle.bplist_objects.specs.Offsets.{AreOffsets32, AreBelowTable, IsOffsetFault}
 use Rattle.bplist_lint.specs.LeastHeights.{AreLeastHeights}
 use Rattle.bplist_lint.specs.Linted.{HaveReferences, KeepsRules, IsLintedBy, HasNoHeights, lint_bytes, lint_of, objects_said}
 use Rattle.bplist_lint.specs.Upgraded.{IsLintedWith}
-use Rattle.bplist_lint.specs.ReachWalk.{IsWalked, NamesMarked, extents_below}
+use Rattle.bplist_lint.specs.ReachWalk.{HasRoomFor, IsWalked, NamesMarked, extents_below}
 use Rattle.bplist_objects.specs.Extents.{HaveRoom}
 use Rattle.bplist_keys.specs.Texts.{IsMarkedText}
 use Rattle.bplist_objects.proofs.ExtentSums.{room_weaker}
 use Rattle.bplist_lint.proofs.ExtentBytes.{extents_tallied}
 use Rattle.bplist_lint.proofs.KeyClasses.{reached_sound}
-use Rattle.bplist_lint.proofs.HeldValues.{formed_holds, holds_formed}
+use Rattle.bplist_lint.proofs.HeldValues.{formed_holds}
 use Rattle.bplist_lint.proofs.KeptRules.{kept_both, kept_room, kept_spells}
 use Rattle.bplist_lint.proofs.OffsetSteps.{kept_low, kept_high}
 use Rattle.bplist_lint.proofs.RangeSums.{sum_next, have_references}
 use Rattle.bplist_lint.proofs.Walks.{same_mark}
 use Rattle.bplist_lint.proofs.ReferenceGraph.{circle_iff}
-use Rattle.bplist_lint.proofs.LintAnswers.{formed_by_valid, least_lowest, lint_yes}
-use Rattle.bplist_lint.proofs.FirstFaults.{fault_not_formed, circle_not_formed}
+use Rattle.bplist_lint.proofs.LintAnswers.{circle_not_held, circle_not_valid, fault_not_held, fault_not_valid, least_lowest, lint_yes}
 
 -- ---- what is said of a fault is said of the refusal
 -- a refusal of the checker as one of the linter
@@ -70,11 +68,6 @@ refusal_means P Q R T (refusals.Fault fault) faults circles h = faults fault h
 refusal_means P Q R T (refusals.Circle circle) faults circles h = circles _ h
 refusal_means P Q R T (refusals.Read _) faults circles h = tt
 refusal_means P Q R T refusals.Memory faults circles h = tt
-
-pub lints_mean : {X : Type 0} (S P : X → Type 0) (Q U : Fault → Type 0) (R T : List ℕ → Type 0) (made : Result X LintRefusal)
-    → ((x : X) → S x → P x) → ((x : Fault) → Q x → U x) → ((x : List ℕ) → R x → T x) → Lints S Q R made → Lints P U T made
-lints_mean S P Q U R T (Ok x) answers faults circles h = answers x h
-lints_mean S P Q U R T (Err e) answers faults circles h = refusal_means Q U R T e faults circles h
 
 -- what is claimed of a refusal, by what the source means
 pub fault_passed : (m n : Meaning) → m ≡ n → (e : LintRefusal) → (IsTrue m.honest → Refuses (IsFileFault m.octets) (IsFileCircle m.octets) e)
@@ -100,15 +93,20 @@ file_asked f F spelled safe start read made after paid first same asked =
     let bound : after ≤ start + (40 + 36 * length f + 2212 * F.objects) = omega (arith, first, same, asked, each, safe.safe.room, safe.top) in
     subst (λ (n : ℕ). after ≤ start + (40 + 36 * length f + 2212 * n)) (sym said) bound
 
--- reached objects take no more bytes than are tallied, and the texts among them that are named share no byte
-pub reached_room : (f : List ℕ) (F : Frame) → IsFrame f F → (reached : Reached) → length reached.marks.items ≡ F.objects → (named : List Bool)
-    → IsWalked f F reached → NamesMarked reached.marks.items named
-    → HaveRoom f F (IsMarkedText f F named) × (extents_below f F (is_marked reached.marks.items) F.objects ≤ reached.tally.used.octets)
-reached_room f F framed reached all named walked only =
+-- the texts that are named share no byte, the reached objects have room before the table, and no more are named than there
+-- are
+abbrev pub HaveBounds : List ℕ → Frame → Reached → List Bool → Type 0
+HaveBounds f F reached named = HaveRoom f F (IsMarkedText f F named) × (extents_below f F (is_marked reached.marks.items) F.objects + 8 ≤ F.table) × (count_by (λ marked. marked) named ≤ F.objects)
+
+pub reached_room : (f : List ℕ) (F : Frame) → IsFrame f F → (reached : Reached) → HasRoomFor F reached → (named : List Bool) → length named ≡ F.objects
+    → IsWalked f F reached → NamesMarked reached.marks.items named → HaveBounds f F reached named
+reached_room f F framed reached fits named all walked only =
     let marks = reached.marks.items in
-    let sound = reached_sound f F marks all framed walked.marked walked.tallied.kept in (
+    let count : length marks ≡ F.objects = omega (arith, fits.all_marks, reached.marks.ok.0) in
+    let taken = extents_tallied f F marks (reached_sound f F marks count framed walked.marked walked.tallied.kept) walked.marked reached.tally walked.tallied in (
       room_weaker f F (Reach f F) (IsMarkedText f F named) (λ m is. (walked.marked m).0 (only m is.0)) (kept_room f F framed walked.tallied.kept),
-      extents_tallied f F marks sound walked.marked reached.tally walked.tallied,
+      omega (arith, taken, fits.roomy.room),
+      omega (arith, all, count_by-le-length (λ marked. marked) named),
     )
 
 -- ---- sums over the same objects
@@ -141,35 +139,27 @@ module _ (f : List ℕ) (F : Frame) where
     pub same_references : reached.tally.references ≡ references_below f F (is_vouched heights) F.objects
     same_references = s.walked.tallied.references ∙ ap (λ p. references_below f F p F.objects) (λ i m. same_objects m i)
 
-  -- the answer
-  pub linted : IsFrame f F → (reached : Reached) → KeepsRules f F reached → reached.tally.references + 8 ≤ F.table → (lint : Lint) → lint.certificate.keys ≡ None
-      → length lint.certificate.heights ≡ F.objects → AreLeast (refs_at f F) F.top.0 lint.certificate.heights → lint.height ≡ slice_index lint.certificate.heights F.top.0 → 0 < lint.height
-      → lint.reached ≡ reached.tally.reached → lint.references ≡ reached.tally.references → IsLintedBy f F lint
-  linted frame sifted s few lint version count walked height has reached references =
-      let heights : List ℕ = lint.certificate.heights in
-      let yes = lint_yes f F frame s.walked.tallied.kept s.keys heights count walked (omega (arith, height)) in
+  -- the answer with these heights
+  pub linted_yes : IsFrame f F → (reached : Reached) → KeepsRules f F reached → reached.tally.references + 8 ≤ F.table → (heights : List ℕ)
+      → length heights ≡ F.objects → AreLeast (refs_at f F) F.top.0 heights → 0 < slice_index heights F.top.0 → IsLintedBy f F (lint_of F (lists heights None) reached.tally)
+  linted_yes frame sifted s few heights count walked has =
+      let yes = lint_yes f F frame s.walked.tallied.kept s.keys heights count walked has in
       let value = formed_holds f F yes.0 in
       let vouched : (n : ℕ) → Reach f F n → IsVouchedBy heights n = reached_vouched f F heights yes.2 in
       record {
         value = value.0;
         holds = value.1;
-        version = version;
+        version = refl;
         least = yes.1;
         valid = yes.2;
         lowest = λ other valid n r. (least_lowest f F other heights valid yes.1.least n r).1;
-        height = height;
-        reached = reached ∙ same_number sifted s heights yes.1 vouched;
+        height = refl;
+        reached = same_number sifted s heights yes.1 vouched;
         references =
-            subst (HaveReferences f F (filter (is_vouched heights) (range_with_len 0 F.objects))) (sym (references ∙ same_references sifted s heights yes.1 vouched))
+            subst (HaveReferences f F (filter (is_vouched heights) (range_with_len 0 F.objects))) (sym (same_references sifted s heights yes.1 vouched))
             (have_references f F (is_vouched heights) (λ n on. let v = ltb-true 0 (slice_index heights n) on in let o = yes.2.vouched n (omega arith) in (o.content, o.spells)) (range_with_len 0 F.objects));
-        few = omega (arith, references);
+        few = few;
       }
-
-  -- the answer with these heights
-  pub linted_yes : IsFrame f F → (reached : Reached) → KeepsRules f F reached → reached.tally.references + 8 ≤ F.table → (heights : List ℕ)
-      → length heights ≡ F.objects → AreLeast (refs_at f F) F.top.0 heights → 0 < slice_index heights F.top.0
-      → IsLintedBy f F (record { certificate = record { heights = heights; keys = None }; reached = reached.tally.reached; height = slice_index heights F.top.0; references = reached.tally.references })
-  linted_yes frame sifted s few heights count walked has = linted frame sifted s few _ refl count walked refl has refl refl
 
   -- the circle
   pub circled : IsFrame f F → (reached : Reached) → KeepsRules f F reached → (circle : List ℕ) → IsCircleOf (refs_at f F) F.top.0 circle → IsFileCircle f circle
@@ -188,18 +178,12 @@ module _ (f : List ℕ) (F : Frame) (certificate : Lists) (tally : Tally) where
   pub linted_plain : IsLintedWith Classes f F certificate tally → IsLintedBy f F (lint_of F certificate tally)
   linted_plain linted = subst (λ (keyed : Option Keyed). IsLintedBy f F (lint_of F (lists certificate.heights keyed) tally)) (sym linted.1) linted.0
 
--- ---- a fault excludes heights and values
-pub fault_decides : (f : List ℕ) (fault : Fault) → IsFileFault f fault → HasNoHeights f
-fault_decides f fault h F heights valid = fault_not_formed f F fault h (formed_by_valid f F heights valid)
+-- ---- a refusal excludes heights and values
+pub refusal_decides : (f : List ℕ) (e : LintRefusal) → Refuses (IsFileFault f) (IsFileCircle f) e → Refuses (λ _. HasNoHeights f) (λ _. HasNoHeights f) e
+refusal_decides f e = refusal_means (IsFileFault f) (λ _. HasNoHeights f) (IsFileCircle f) (λ _. HasNoHeights f) e (λ a h F heights. fault_not_valid f F a heights h) (λ circle h F heights. circle_not_valid f F circle heights h)
 
-pub circle_decides : (f : List ℕ) (circle : List ℕ) → IsFileCircle f circle → HasNoHeights f
-circle_decides f circle h F heights valid = circle_not_formed f F circle h (formed_by_valid f F heights valid)
-
-pub fault_never : (f : List ℕ) (v : Value) → FileHolds f v → (fault : Fault) → IsFileFault f fault → Never fault
-fault_never f v holds fault h = let w = holds_formed f v holds in fault_not_formed f w.0 fault h w.1
-
-pub circle_never : (f : List ℕ) (v : Value) → FileHolds f v → (circle : List ℕ) → IsFileCircle f circle → no_circle circle
-circle_never f v holds circle h = let w = holds_formed f v holds in circle_not_formed f w.0 circle h w.1
+pub refusal_never : (f : List ℕ) (v : Value) → FileHolds f v → (e : LintRefusal) → Refuses (IsFileFault f) (IsFileCircle f) e → Refuses Never no_circle e
+refusal_never f v holds e = refusal_means (IsFileFault f) Never (IsFileCircle f) no_circle e (λ a h. fault_not_held f a v h holds) (λ circle h. circle_not_held f circle v h holds)
 
 -- ---- the trailer, and then the table in memory, decide rules 1 to 13
 pub trailer_fault_of_file : (f : List ℕ) (fault : Fault) → IsTrailerFault f fault → IsFileFault f fault

@@ -1,5 +1,5 @@
 -- Sums over the numbers below a bound, and those over the objects below it.
-use Rattle.std.proofs.Common.{◌≡◌, ℕ, zero, suc, ◌+◌, ◌≤◌, Bool, true, false, cond, List, [], ◌∷◌, ◌++◌, length, Option, Some, None, unwrap_or, sum, sum_by, filter, filter_map, refl, sym, ap, ◌∙◌, subst, inl, inr, arith}
+use Rattle.std.proofs.Common.{◌≡◌, ◌≢◌, ℕ, zero, suc, ◌+◌, ◌-◌, ◌<◌, ◌≤◌, Bool, true, false, cond, List, [], ◌∷◌, ◌++◌, length, Option, Some, None, unwrap_or, sum, sum_by, filter, filter_map, refl, sym, ap, ◌∙◌, subst, inl, inr, arith}
 use Rattle.std.specs.List.{range_with_len, cons_option}
 use Rattle.std.proofs.lemmas.Bool.{cases_lt}
 use Rattle.std.specs.Option.{option_map_or}
@@ -7,6 +7,7 @@ use Rattle.std.proofs.lemmas.List.Sums.{sum_by-cons, sum_by_push}
 use Rattle.bplist_objects.specs.declared.frame.Frame.{Frame}
 use Rattle.bplist_objects.specs.declared.head.Head.{Head}
 use Rattle.bplist_objects.specs.Announced.{HasHead}
+use Rattle.bplist_objects.specs.Frame.{off}
 use Rattle.bplist_objects.specs.Markers.{head_found}
 use Rattle.bplist_objects.specs.Heads.{Content, refs, Spells}
 use Rattle.bplist_objects.specs.Safe.{ref_count}
@@ -14,7 +15,7 @@ use Rattle.bplist_objects.proofs.References.{length-refs}
 use Rattle.bplist_objects.proofs.HeadLaws.{head_is_found}
 use Rattle.bplist_lint.specs.ReachRules.{references_below}
 use Rattle.bplist_lint.specs.Linted.{HaveReferences}
-use Rattle.bplist_lint.specs.ReachWalk.{extent, extents_below}
+use Rattle.bplist_lint.specs.ReachWalk.{extent, extent_by, extents_below}
 
 -- the sum of g below n
 abbrev pub sum_below : (ℕ → ℕ) → ℕ → ℕ
@@ -34,6 +35,31 @@ sum_on g n zero h = let e : n ≡ 0 = omega (arith, h) in rw e (omega arith)
 sum_on g n (suc m) h = elim (cases_lt m n) [
   | inl up ↦ let e : n ≡ suc m = omega (arith, h, up) in rw e (omega arith)
   | inr on ↦ omega (arith, sum_on g n m on, sum_next g m)
+]
+
+-- a sum of nothing
+pub sum_none : (g : ℕ → ℕ) (n : ℕ) → ((m : ℕ) → g m ≡ 0) → sum_below g n ≡ 0
+sum_none g zero none = refl
+sum_none g (suc n) none = let before = sum_none g n none in let here = none n in omega (arith, sum_next g n)
+
+-- a term of a sum
+pub sum_term : (g : ℕ → ℕ) (i n : ℕ) → i < n → g i ≤ sum_below g n
+sum_term g i n low = let part = sum_on g (suc i) n (omega (arith, low)) in omega (arith, part, sum_next g i)
+
+-- a sum of smaller terms
+pub sum_most : (g h : ℕ → ℕ) (n : ℕ) → ((k : ℕ) → k < n → h k ≤ g k) → sum_below h n ≤ sum_below g n
+sum_most g h zero less = omega arith
+sum_most g h (suc n) less = omega (arith, sum_most g h n (λ k low. less k (omega (arith, low))), sum_next g n, sum_next h n, less n (omega arith))
+
+-- a sum of which one term is less by this much
+pub sum_less : (g h : ℕ → ℕ) (i d n : ℕ) → i < n → h i + d ≤ g i → ((k : ℕ) → k ≢ i → h k ≤ g k) → sum_below h n + d ≤ sum_below g n
+sum_less g h i d zero low less same = absurd (omega (arith, low))
+sum_less g h i d (suc n) low less same = elim (cases_lt i n) [
+  | inl before ↦ omega (arith, sum_less g h i d n before less same, sum_next g n, sum_next h n, same n (λ e. omega (arith, e, before)))
+  | inr last ↦
+      let e : i ≡ n = omega (arith, low, last) in
+      let here = rw e at less in
+      omega (arith, sum_most g h n (λ k l. same k (λ q. omega (arith, q, l, last))), sum_next g n, sum_next h n, here)
 ]
 
 -- the sum over those of which p holds
@@ -67,6 +93,9 @@ found_next h n =
     same (Some k) = refl
 
 module _ (f : List ℕ) (F : Frame) where
+  pub extent_is : (n : ℕ) (head : Head) → HasHead f F n head → extent f F n ≡ head.«end» - off f F n
+  extent_is n head has = ap (extent_by (off f F n)) (head_is_found f F n head has)
+
   -- how many references the head of object n has
   abbrev pub references_of : ℕ → ℕ
   references_of n = option_map_or (λ head. ref_count head.kind head.count) (head_found f F n) 0

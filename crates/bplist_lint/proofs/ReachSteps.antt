@@ -25,6 +25,7 @@ use Rattle.bplist_lint.specs.BitSets.{IsIn}
 use Rattle.bplist_lint.specs.declared.bit_set.BitSet.{BitSet}
 use Rattle.bplist_lint.specs.declared.reach.ReachSearch.{ReachSearch}
 use Rattle.bplist_lint.proofs.ListWrites.{seen-set, unwritten, count-set}
+use Rattle.bplist_lint.proofs.MarkSteps.{fresh-set, none_marked}
 
 pub marked_within : (marks : List Bool) (n : ℕ) → IsMarked marks n → n < length marks
 marked_within [] n h = absurd (false≢true h)
@@ -185,10 +186,7 @@ module _ (f : List ℕ) (F : Frame) where
   searching_start good followed within no_good none_followed =
       let begun : IsMarked (set (replicate F.objects false) F.top.0 true) F.top.0 = get_or-set_same (replicate F.objects false) F.top.0 true false (rw length-replicate within) in
       let is_top : (m : ℕ) → IsMarked (set (replicate F.objects false) F.top.0 true) m → m ≡ F.top.0 =
-      λ m h. elim (cases_eq m F.top.0) [
-        | inl e ↦ e
-        | inr d ↦ let c = rw (get_or-set_other (replicate F.objects false) F.top.0 m true false d) at h in absurd (false≢true (sym (unwritten F.objects m false) ∙ c))
-      ] in
+      λ m h. elim (fresh-set (replicate F.objects false) F.top.0 m h) [ inl old ↦ absurd (none_marked F.objects m old) | inr e ↦ e ] in
       record {
         begun = begun;
         sound = λ m h. rw (is_top m h) top;

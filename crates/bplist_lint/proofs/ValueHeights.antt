@@ -28,6 +28,7 @@ use Rattle.bplist_lint.specs.ReachRules.{KeepReached, reach_rules}
 use Rattle.bplist_objects.specs.KeyCounts.{key_count}
 use Rattle.bplist_lint.specs.ReferenceGraph.{hidden, refs_in, graph_of}
 use Rattle.bplist_lint.specs.HeightWalks.{AreClosed, AreLeastOf}
+use Rattle.bplist_lint.proofs.HeightSteps.{height_over}
 use Rattle.bplist_lint.proofs.KeptRules.{kept_spells}
 use Rattle.bplist_lint.proofs.ObjectReferences.{found_as, as_spelled, all_announced, no_refs_leaf}
 use Rattle.bplist_lint.proofs.ReferenceGraph.{reach_iff}
@@ -55,9 +56,6 @@ module _ (refs : ℕ → List ℕ) (out : ℕ → ℕ) where
   pub ends_others : (n : ℕ) → Ends refs n → Ends others n
   ends_others _ (ends n each) = ends n (λ m c. ends_others m (each m (other_among n m c)))
 
-  least_some : (n h : ℕ) → Least others n h → 0 < h
-  least_some _ _ (above n hs long each) = omega arith
-
   -- if the first ones have no references and others follow, the others have the greatest height
   module _ (top : ℕ) (childless : (n i : ℕ) → Reaches refs top n → i < out n → (refs (slice_index (refs n) i) ≡ []) × (out n < length (refs n))) where
     pub least_all : (n h : ℕ) → Reaches refs top n → Least others n h → Least refs n h
@@ -69,7 +67,7 @@ module _ (refs : ℕ → List ℕ) (out : ℕ → ℕ) where
         let more : 0 < k → k < length (refs n) = λ some. (childless n 0 r some).1 in
         let high : 0 < k → 0 < greatest hs = λ some.
         let l : 0 < length (others n) = omega (arith, rest, more some) in
-        omega (arith, least_some _ _ (each 0 l), greatest_first hs) in
+        omega (arith, height_over others _ _ (each 0 l), greatest_first hs) in
         let all_each : (i : ℕ) → i < length (refs n) → Least refs (slice_index (refs n) i) (slice_index (ones ++ hs) i) = λ i l. elim (cases_lt i k) [
           | inl first ↦
               let none = ap length (childless n i r first).0 in
@@ -100,10 +98,10 @@ module _ (f : List ℕ) (F : Frame) (frame : IsFrame f F) (kept : KeepReached f 
   all_whole view n r = let s = kept_spells f F frame kept n r in all_announced f F n view s.0 s.1
 
   module _ (marks : List Bool) (marked : (n : ℕ) → IsMarked marks n ↔ Reach f F n) where
-    pub all_closed : (view : View) → AreClosed (graph_of 0 view f F) marks
-    all_closed view n m =
+    pub all_closed : (view : View) → ((n : ℕ) → IsMarked marks n → length (refs_in view f F n) < 4294967296) → AreClosed (graph_of 0 view f F) marks
+    all_closed view few n m =
         let r = (marked n).0 m in
-        (all_whole view n r, λ i l. (marked _).1 (next r ((refs_iff f F n _).1 (other_among (refs_at f F) (λ k. hidden view (head_found f F k)) n _ (Contains-get_or (refs_in view f F n) i 0 l)))))
+        (all_whole view n r, (λ i l. (marked _).1 (next r ((refs_iff f F n _).1 (other_among (refs_at f F) (λ k. hidden view (head_found f F k)) n _ (Contains-get_or (refs_in view f F n) i 0 l))))), few n m)
 
     module _ (keys : KeepReached f F (key_rules None) F.objects) where
       abbrev out : ℕ → ℕ

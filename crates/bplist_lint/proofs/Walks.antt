@@ -1,5 +1,5 @@
 -- What the one walk over the reached objects knows between two visits, and at its end.
-use Rattle.std.proofs.Common.{◌≡◌, ◌≢◌, ◌↔◌, ℕ, zero, suc, ◌+◌, ◌-◌, ◌<◌, ◌≤◌, inl, inr, Bool, true, false, cond, List, [], ◌∷◌, ◌++◌, length, get_or, set, replicate, refl, sym, ap, ◌∙◌, subst, arith}
+use Rattle.std.proofs.Common.{◌≡◌, ◌≢◌, ◌↔◌, ℕ, zero, suc, ◌+◌, ◌<◌, ◌≤◌, inl, inr, Bool, true, false, cond, List, [], ◌∷◌, ◌++◌, length, get_or, set, replicate, refl, sym, ap, ◌∙◌, subst, arith}
 use Rattle.std.proofs.lemmas.Bool.{cases_eq, false≢true, false_from_ne_true}
 use Rattle.std.proofs.lemmas.List.{get_or-set_same, get_or-set_other, length-set, length-replicate, get_or_default}
 use Rattle.std.proofs.lemmas.List.Elements.{Contains-append_left, Contains-push, Contains-push_cases}
@@ -12,7 +12,7 @@ use Rattle.bplist_objects.specs.Reach.{Reach, top, next}
 use Rattle.bplist_objects.specs.Extents.{Sums}
 use Rattle.bplist_objects.specs.Rules.{KeepsAll}
 use Rattle.bplist_objects.specs.Spelled.{refs_at}
-use Rattle.bplist_objects.proofs.HeadLaws.{head_is_found}
+use Rattle.bplist_objects.proofs.ExtentSums.{not_overfull}
 use Rattle.bplist_objects.proofs.Lists.{none_in}
 use Rattle.bplist_objects.proofs.ReachedObjects.{refs_iff}
 use Rattle.bplist_keys.specs.Classes.{HasNamedKeys}
@@ -20,34 +20,24 @@ use Rattle.bplist_keys.specs.Marks.{IsMarked}
 use Rattle.bplist_lint.specs.declared.tally.Tally.{Tally}
 use Rattle.bplist_lint.specs.declared.walk.Reached.{Reached}
 use Rattle.bplist_lint.specs.ReferenceGraph.{AreChildless}
-use Rattle.bplist_lint.specs.ReachRules.{number_below, references_below, is_marked, Tallied}
+use Rattle.bplist_lint.specs.KeyClasses.{AreSound}
+use Rattle.bplist_lint.specs.ReachRules.{is_marked}
 use Rattle.bplist_lint.specs.Tallies.{IsTalliedWith}
-use Rattle.bplist_lint.specs.ReachWalk.{Noted, extent_by, extent, extents_below, IsVisited, IsWalkState, IsWalked, AreNamed}
+use Rattle.bplist_lint.specs.ReachWalk.{Noted, extent, extents_below, IsVisited, IsWalkState, IsWalked, AreNamed}
+use Rattle.bplist_lint.proofs.ExtentBytes.{sums_at}
+use Rattle.bplist_lint.proofs.KeptRules.{both_rules}
 use Rattle.bplist_lint.proofs.MarkSteps.{apart_none, apart_push, apart_front, apart_last, fresh-set}
-use Rattle.bplist_lint.proofs.RangeSums.{sum_below, sum_next, references_of, references_are, extents_sum, references_sum, extents_next, references_next}
+use Rattle.bplist_lint.proofs.RangeSums.{sum_below, sum_next, sum_none, sum_on, extent_is, references_of, references_are, extents_sum, references_sum}
 use Rattle.bplist_lint.proofs.ReachSteps.{marked_within}
-use Rattle.bplist_lint.proofs.TallySteps.{tallied_none, tallied_over, tallied_more, next_is}
 use Rattle.bplist_lint.proofs.ListWrites.{seen-set, unwritten}
 
 -- ---- sums below a number
-sum_of_none : (g : ℕ → ℕ) (n : ℕ) → ((m : ℕ) → g m ≡ 0) → sum_below g n ≡ 0
-sum_of_none g zero none = refl
-sum_of_none g (suc n) none = let before = sum_of_none g n none in let here = none n in omega (arith, sum_next g n)
-
-pub sum_alike : (g k : ℕ → ℕ) (n : ℕ) → ((m : ℕ) → m < n → g m ≡ k m) → sum_below g n ≡ sum_below k n
+sum_alike : (g k : ℕ → ℕ) (n : ℕ) → ((m : ℕ) → m < n → g m ≡ k m) → sum_below g n ≡ sum_below k n
 sum_alike g k zero same = refl
 sum_alike g k (suc n) same =
     let before = sum_alike g k n (λ m low. same m (omega arith)) in
     let here = same n (omega arith) in
     omega (arith, sum_next g n, sum_next k n)
-
--- a sum of fewer is no greater
-sum_grows : (g : ℕ → ℕ) (n m : ℕ) → n ≤ m → sum_below g n ≤ sum_below g m
-sum_grows g n zero low = let z : n ≡ 0 = omega arith in rw z (omega arith)
-sum_grows g n (suc m) low = elim (cases_eq n (suc m)) [
-  | inl e ↦ rw e (omega arith)
-  | inr ne ↦ let before = sum_grows g n m (omega arith) in omega (arith, sum_next g m)
-]
 
 -- one more number, with what is added for it
 sum_turned : (g k : ℕ → ℕ) (n i : ℕ) → i < n → ((m : ℕ) → m ≢ i → g m ≡ k m) → k i ≡ 0 → sum_below g n ≡ sum_below k n + g i
@@ -83,16 +73,13 @@ sum_as_marked : (g : ℕ → ℕ) (marks visited : List Bool) (n : ℕ) → ((m 
 sum_as_marked g marks visited n same = sum_alike _ _ n (λ m low. ap (λ b. cond b (g m) 0) (same_mark (is_marked visited m) (is_marked marks m) (same m).1 (same m).0))
 
 module _ (f : List ℕ) (F : Frame) where
-  extent_is : (n : ℕ) (head : Head) → HasHead f F n head → extent f F n ≡ head.«end» - off f F n
-  extent_is n head has = ap (extent_by (off f F n)) (head_is_found f F n head has)
-
   -- ---- the beginning
   pub walking_start : F.top.0 < F.objects → (keys : List Bool) → IsWalkState f F 0 [] (set (replicate F.objects false) F.top.0 true) (replicate F.objects false) keys (record { reached = 0; used = record { octets = 0 }; references = 0 })
   walking_start within keys =
       let none : (m : ℕ) → is_marked (replicate F.objects false) m ≡ false = λ m. unwritten F.objects m false in
       let no1 : (m : ℕ) → IsMarked (replicate F.objects false) m → ⊥ = λ m h. false≢true (sym (none m) ∙ h) in
       let sum : (g : ℕ → ℕ) → sum_below (λ m. cond (is_marked (replicate F.objects false) m) (g m) 0) F.objects ≡ 0 =
-      λ g. sum_of_none _ F.objects (λ m. ap (λ b. cond b (g m) 0) (none m)) in
+      λ g. sum_none _ F.objects (λ m. ap (λ b. cond b (g m) 0) (none m)) in
       record {
         visited = replicate F.objects false;
         all_visited = length-replicate F.objects false;
@@ -207,7 +194,7 @@ module _ (f : List ℕ) (F : Frame) where
           ];
           childless_known = known;
           reached = let sum = sum_marked (λ m. 1) w.visited F.objects n within here on.1 in omega (arith, sum, t.reached, w.reached);
-          used = let sum = sum_marked (extent f F) w.visited F.objects n within here on.1 in let one = extent_is n head has in omega (arith, extents_sum f F (is_marked w.visited) F.objects, extents_sum f F (is_marked (set w.visited n true)) F.objects, sum, one, t.used, w.used);
+          used = let sum = sum_marked (extent f F) w.visited F.objects n within here on.1 in let one = extent_is f F n head has in omega (arith, extents_sum f F (is_marked w.visited) F.objects, extents_sum f F (is_marked (set w.visited n true)) F.objects, sum, one, t.used, w.used);
           references = let sum = sum_marked (references_of f F) w.visited F.objects n within here on.1 in let one = references_are f F n head has in omega (arith, references_sum f F (is_marked w.visited) F.objects, references_sum f F (is_marked (set w.visited n true)) F.objects, sum, one, t.references, w.references);
         }
 
@@ -231,60 +218,31 @@ module _ (f : List ℕ) (F : Frame) where
 
     used_below : (n : ℕ) → n ≤ F.objects → extents_below f F (is_marked reached.marks.items) n + 8 ≤ F.table
     used_below n low =
-        let part = sum_grows (λ m. cond (is_marked reached.marks.items m) (extent f F m) 0) n F.objects low in
+        let part = sum_on (λ m. cond (is_marked reached.marks.items m) (extent f F m) 0) n F.objects low in
         let whole = same_sum (extent f F) in
         omega (arith, extents_sum f F (is_marked reached.marks.items) n, extents_sum f F (is_marked w.visited) F.objects, part, whole, w.used, room)
 
-    number_next : (n : ℕ) → number_below (is_marked reached.marks.items) (suc n) ≡ number_below (is_marked reached.marks.items) n + cond (is_marked reached.marks.items n) 1 0
-    number_next n = sum_next (λ m. cond (is_marked reached.marks.items m) 1 0) n
+    -- what is marked keeps rules 14 to 20
+    sound_marks : AreSound f F reached.marks.items
+    sound_marks = record {
+      framed = frame;
+      kept = λ m is. (w.each m (visited_as m is)).2.kept;
+      closed = λ n m is r. reach_marked m (next (w.sound n is) r);
+    }
 
-    -- one more object in their order
-    tallied_next : (n : ℕ) → n < F.objects → (before t : Tally) → before.reached ≡ number_below (is_marked reached.marks.items) n → before.used.octets ≡ extents_below f F (is_marked reached.marks.items) n
-        → before.references ≡ references_below f F (is_marked reached.marks.items) n → t.reached ≡ number_below (is_marked reached.marks.items) (suc n) → t.used.octets ≡ extents_below f F (is_marked reached.marks.items) (suc n)
-        → t.references ≡ references_below f F (is_marked reached.marks.items) (suc n) → Tallied f F reached.marks.items n before → (b : Bool) → is_marked reached.marks.items n ≡ b → Tallied f F reached.marks.items (n + 1) t
-    tallied_next n low before t one0 bytes0 more0 one bytes more so_far true marked =
-        let v = (w.each n (visited_as n marked)).2 in
-        let has : HasHead f F n v.head = v.has in
-        let is : extent f F n ≡ v.head.«end» - off f F n = extent_is n v.head has in
-        let references = references_are f F n v.head has in
-        let bound = used_below (suc n) low in
-        let next1 = rw marked at (extents_next f F (is_marked reached.marks.items) n) in
-        let one1 = rw marked at (one ∙ number_next n) in
-        let bytes1 = bytes ∙ next1 in
-        let more1 = rw marked at (more ∙ references_next f F (is_marked reached.marks.items) n) in
-        tallied_more f F frame n low (w.sound n marked) reached.marks.items before so_far v.head has v.kept marked
-        (omega (arith, bound, next1, is, bytes0)) t (omega (arith, one1, one0)) (omega (arith, bytes1, bytes0, is)) (omega (arith, more1, more0, references))
-    tallied_next n low before t one0 bytes0 more0 one bytes more so_far false unmarked =
-        let over = tallied_over f F reached.marks.items n before unmarked (λ r. false≢true (sym unmarked ∙ reach_marked n r)) so_far in
-        let one1 = rw unmarked at (one ∙ number_next n) in
-        let bytes1 = rw unmarked at (bytes ∙ extents_next f F (is_marked reached.marks.items) n) in
-        let more1 = rw unmarked at (more ∙ references_next f F (is_marked reached.marks.items) n) in
-        let same : t.used.octets ≡ before.used.octets = omega (arith, bytes1, bytes0) in
-        let one2 : t.reached ≡ before.reached = omega (arith, one1, one0) in
-        let more2 : t.references ≡ before.references = omega (arith, more1, more0) in
-        record {
-          kept = over.kept;
-          sums = subst (Sums f F (Reach f F) (n + 1)) (sym same) over.sums;
-          reached = one2 ∙ over.reached;
-          references = more2 ∙ over.references;
-        }
-
-    -- the objects below n, in their order
-    tallied_to : (n : ℕ) → n ≤ F.objects → (t : Tally) → t.reached ≡ number_below (is_marked reached.marks.items) n → t.used.octets ≡ extents_below f F (is_marked reached.marks.items) n
-        → t.references ≡ references_below f F (is_marked reached.marks.items) n → Tallied f F reached.marks.items n t
-    tallied_to zero low t one bytes more =
-        let none = tallied_none f F reached.marks.items in
-        record { kept = none.kept; sums = subst (Sums f F (Reach f F) 0) (sym bytes) none.sums; reached = one; references = more }
-    tallied_to (suc n) low t one bytes more =
-        let before : Tally = record { reached = number_below (is_marked reached.marks.items) n; used = record { octets = extents_below f F (is_marked reached.marks.items) n }; references = references_below f F (is_marked reached.marks.items) n } in
-        subst (λ k. Tallied f F reached.marks.items k t) (sym (next_is n))
-        (tallied_next n (omega (arith, low)) before t refl refl refl one bytes more (tallied_to n (omega (arith, low)) before refl refl refl) (is_marked reached.marks.items n) refl)
+    sums_to : (n : ℕ) → n ≤ F.objects → Sums f F (Reach f F) n (extents_below f F (is_marked reached.marks.items) n)
+    sums_to = sums_at f F reached.marks.items sound_marks (λ m. (w.sound m, reach_marked m))
 
     walked : IsWalked f F reached
     walked = record {
       marked = λ n. (w.sound n, reach_marked n);
       childless = w.childless_known;
-      tallied = tallied_to F.objects (omega arith) reached.tally (w.reached ∙ same_sum (λ m. 1)) (w.used ∙ extents_sum f F _ F.objects ∙ same_sum (extent f F) ∙ sym (extents_sum f F _ F.objects)) (w.references ∙ references_sum f F _ F.objects ∙ same_sum (references_of f F) ∙ sym (references_sum f F _ F.objects));
+      tallied = record {
+        kept = λ m low r. both_rules f F m (sound_marks.kept m (reach_marked m r)) (not_overfull f F (Reach f F) m _ (sums_to (suc m) low) (used_below (suc m) low));
+        sums = subst (Sums f F (Reach f F) F.objects) (sym (w.used ∙ extents_sum f F _ F.objects ∙ same_sum (extent f F) ∙ sym (extents_sum f F _ F.objects))) (sums_to F.objects (omega arith));
+        reached = w.reached ∙ same_sum (λ m. 1);
+        references = w.references ∙ references_sum f F _ F.objects ∙ same_sum (references_of f F) ∙ sym (references_sum f F _ F.objects);
+      };
     }
 
     pub walking_end : IsWalked f F reached × AreNamed f F keys

@@ -3,11 +3,12 @@
 use Rattle.std.specs.Prelude.{◌≡◌, ℕ, suc, ◌+◌, ◌-◌, ◌<◌, min, max, List, [], ◌∷◌, length, slice_index, Contains}
 use Rattle.bplist_objects.specs.Claims.{FailsAt}
 
--- the number of objects, the references of each in written order, and how many of them each announces; if the graph is
--- read through a borrow, `through` is the ghost name of the borrow
+-- the number of objects, the bytes of a reference, the references of each object in written order, and how many of them
+-- it announces; if the graph is read through a borrow, `through` is the ghost name of the borrow
 pub record Graph : Type 0 where
   pub through : ℕ
   pub size : ℕ
+  pub width : ℕ
   pub refs : ℕ → List ℕ
   pub announced : ℕ → ℕ
 

@@ -46,12 +46,18 @@ pub record Settles (n : ℕ) (before after : HeightWalk) : Type 0 where
   pub sees : state_at after.states.items n ≢ New
   pub keeps : (m : ℕ) → state_at before.states.items m ≢ New → state_at after.states.items m ≢ New
 
+-- the scan of an object with this height slot has met no object of which nothing is known still
+abbrev pub HasMet : List ℕ → List State → ℕ → Type 0
+HasMet references states slot =
+    (slot ≤ length references) × ((k : ℕ) → k < slot → state_at states (slice_index references k) ≢ New)
+
 -- what states, heights and stack say about the references
 pub record IsHeightWalk (refs : ℕ → List ℕ) (marks : List Bool) (states : List State) (heights stack : List ℕ) : Type 0 where
   pub marked : (n : ℕ) → state_at states n ≢ New → IsMarked marks n
   pub linked : (k : ℕ) → suc k < length stack → Contains (refs (slice_index stack k)) (slice_index stack (suc k))
   pub measured : (n : ℕ) → state_at states n ≡ Founded → Least refs n (slice_index heights n)
   pub circular : (n : ℕ) → state_at states n ≡ Circular → Ends refs n → ⊥
+  pub met : (n : ℕ) → state_at states n ≡ Open → HasMet (refs n) states (slice_index heights n)
 
 -- what a scan finds, whatever the references are: an object about which nothing is known, or a height that is at most
 -- the greatest of founded objects
@@ -82,11 +88,6 @@ Passes references states from (looks.Founded best) =
 abbrev pub resumed : ℕ → ℕ
 resumed slot = slot - 1
 
--- the scan of an object with this height slot has met no object of which nothing is known still
-abbrev pub HasMet : List ℕ → List State → ℕ → Type 0
-HasMet references states slot =
-    (slot ≤ length references) × ((k : ℕ) → k < slot → state_at states (slice_index references k) ≢ New)
-
 -- a resumed scan that finds a new object has met all before that
 abbrev pub GoesOn : List ℕ → List State → ℕ → ScanResult → Type 0
 GoesOn references states slot (looks.New i m) =
@@ -109,20 +110,17 @@ left_for width New slot count = 868 + (count * (3 + width) + count * (3 + width)
 left_for width Open slot count = 408 + ((count - resumed slot) * (3 + width) + count * (3 + width))
 left_for width _ slot count = 0
 
--- and because of the marked objects below n
-abbrev pub left_below : ℕ → (ℕ → List ℕ) → List Bool → List State → List ℕ → ℕ → ℕ
-left_below width refs marks states heights n =
+-- and because of all marked objects
+abbrev pub left_of : Graph → List Bool → List State → List ℕ → ℕ
+left_of graph marks states heights =
     sum_by
-    (λ m. cond (slice_index_or marks m false) (left_for width (state_at states m) (slice_index heights m) (length (refs m))) 0)
-    (range_with_len 0 n)
+    (λ m. cond (slice_index_or marks m false) (left_for graph.width (state_at states m) (slice_index heights m) (length (graph.refs m))) 0)
+    (range_with_len 0 graph.size)
 
--- each marked object has all references that it announces, and these are marked
+-- each marked object has all references that it announces, these are marked, and a height slot can count them
 abbrev pub AreClosed : Graph → List Bool → Type 0
-AreClosed graph marks = (n : ℕ) → IsMarked marks n → IsWhole graph n × HasMarks marks (graph.refs n)
-
--- no marked object has more references than a height slot can count
-abbrev pub AreFew : (ℕ → List ℕ) → List Bool → Type 0
-AreFew refs marks = (n : ℕ) → IsMarked marks n → length (refs n) < 4294967296
+AreClosed graph marks =
+    (n : ℕ) → IsMarked marks n → IsWhole graph n × HasMarks marks (graph.refs n) × (length (graph.refs n) < 4294967296)
 
 -- what the walk says about the references while no object is open
 abbrev pub Walks : (ℕ → List ℕ) → List Bool → HeightWalk → Type 0

@@ -5,21 +5,20 @@ pub use Rattle.bplist_objects.specs.Announced.{HasHead}
 pub use Rattle.bplist_objects.specs.Answers.{Gives, Never, read_failed}
 pub use Rattle.bplist_objects.specs.File.{FileHolds}
 pub use Rattle.bplist_objects.specs.Frame.{IsFrame}
-pub use Rattle.bplist_objects.specs.Framed.{HonestlyBy, HonestlyIn, frame_in}
+pub use Rattle.bplist_objects.specs.Framed.{HonestlyIn, frame_in}
 pub use Rattle.bplist_objects.specs.Heads.{Content, HasShape, Spells, content_at, refs}
 pub use Rattle.bplist_objects.specs.ObjectRules.{KeepsByObject, object_rules}
 pub use Rattle.bplist_objects.specs.Reach.{Founded, Reach}
-pub use Rattle.bplist_objects.specs.Rules.{IsFirstFault, KeepsAll}
-pub use Rattle.bplist_objects.specs.Safe.{IsSafe, IsSafeFrame, IsSafeHead, ref_count}
+pub use Rattle.bplist_objects.specs.Rules.{KeepsAll}
+pub use Rattle.bplist_objects.specs.Safe.{IsSafeFrame, IsSafeHead, ref_count}
 pub use Rattle.bplist_objects.specs.Scan.{AreBelow, nth_number, ref}
 pub use Rattle.bplist_objects.specs.Spelled.{refs_at}
 pub use Rattle.bplist_objects.specs.Value.{Value}
-pub use Rattle.bplist_objects.specs.declared.fault.ObjectFault.{ObjectFault}
 pub use Rattle.bplist_objects.specs.declared.frame.Frame.{Frame}
 pub use Rattle.bplist_objects.specs.declared.head.Head.{Head}
 pub use Rattle.bplist_objects.specs.declared.head.Kind.TheVariants.{Dict}
 pub use Rattle.bplist_objects.specs.declared.rule.Rule.TheVariants.{Overfull}
-pub use Rattle.bplist_keys.specs.Classes.{AreClassed, HasNamedKeys, IsNew, IsStamped, defect_key}
+pub use Rattle.bplist_keys.specs.Classes.{AreClassed, HasNamedKeys, IsNew, IsStamped}
 pub use Rattle.bplist_objects.specs.Failures.{failed_to_read}
 pub use Rattle.bplist_keys.specs.Marks.{IsMarked}
 pub use Rattle.bplist_objects.specs.Offsets.{AreOffsets32}
@@ -34,7 +33,7 @@ pub use Rattle.bplist_lint.specs.BitSets.{count_in}
 pub use Rattle.bplist_lint.specs.Containers.{AreFinished, AreFound, AreMeasured, HasHeight, IsNumbered}
 pub use Rattle.bplist_lint.specs.FileFault.{IsCircle, IsFileCircle, IsFileFault}
 pub use Rattle.bplist_lint.specs.Graph.{AreLeast, AreObjects, AreWhole, Ends, IsCircleOf, IsFirstWithout, IsWhole, Reaches}
-pub use Rattle.bplist_lint.specs.HeightWalks.{AreClosed, AreFew, AreLeastOf, Finds, GoesOn, HasMet, Passes, Rests, Settles, Shows, Walks, first_state, left_below, resumed, scan_bytes, state_at, turn_bytes}
+pub use Rattle.bplist_lint.specs.HeightWalks.{AreClosed, AreLeastOf, Finds, GoesOn, HasMet, Passes, Rests, Settles, Shows, Walks, first_state, left_of, resumed, scan_bytes, state_at, turn_bytes}
 pub use Rattle.bplist_lint.specs.KeyLists.{AreAbove, AreRanked, HaveRanks, IsListed, RankKeys, positions_in, ranks_in}
 pub use Rattle.bplist_lint.specs.LeastHeights.{AreLeastHeights, StandLeast}
 pub use Rattle.bplist_lint.specs.Linted.{HasNoHeights, IsLinted, IsLintedBy, KeepsRules, lint_bytes, lint_of}

@@ -32,6 +32,7 @@ abbrev pub graph_of : ℕ → View → List ℕ → Frame → Graph
 graph_of through view f F = record {
   through = through;
   size = F.objects;
+  width = F.ref_size;
   refs = refs_in view f F;
   announced = λ n. refs_announced (head_found f F n) - hidden view (head_found f F n);
 }

@@ -3,7 +3,7 @@ use Rattle.std.specs.Prelude.{◌≡◌, ◌≢◌, ℕ, suc, ◌+◌, ◌*◌, 
 use Rattle.std.specs.List.{range_with_len}
 use Rattle.bplist_objects.specs.declared.frame.ObjectNo.{ObjectNo}
 use Rattle.bplist_keys.specs.Marks.{IsMarked}
-use Rattle.bplist_lint.specs.Graph.{Reaches, Ends, IsFirstUnfoundedIn}
+use Rattle.bplist_lint.specs.Graph.{Graph, Reaches, Ends, IsFirstUnfoundedIn}
 
 -- the number of an object
 abbrev pub number : ObjectNo → ℕ
@@ -23,10 +23,10 @@ pub record IsFirstIndex (trail : List ℕ) (x index : ℕ) : Type 0 where
   pub here : slice_index trail index ≡ x
   pub before : (k : ℕ) → k < index → slice_index trail k ≢ x
 
--- how many bytes the walk asks for because of the marked objects below n, with references of this width
-abbrev pub trail_bytes : ℕ → (ℕ → List ℕ) → List Bool → ℕ → ℕ
-trail_bytes width refs marks n =
-    sum_by (λ m. cond (slice_index_or marks m false) (292 + length (refs m) * (3 + width)) 0) (range_with_len 0 n)
+-- how many bytes the walk asks for because of the marked objects
+abbrev pub trail_bytes : Graph → List Bool → ℕ
+trail_bytes graph marks =
+    sum_by (λ m. cond (slice_index_or marks m false) (292 + length (graph.refs m) * (3 + graph.width)) 0) (range_with_len 0 graph.size)
 
 -- exactly the objects of the trail are marked, and each is on it once
 pub record IsTrail (size : ℕ) (met : List Bool) (trail : List ℕ) : Type 0 where

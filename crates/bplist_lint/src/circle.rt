@@ -37,9 +37,8 @@ fn first_without<R: References>(
     requires all_heights { length heights.now ≡ (R.graph graph.old).size }
     ensures same { R.graph graph.new ≡ R.graph graph.old }
     ensures reads { OnlyReads (result_err result) (R.means graph.old) (R.means graph.new) }
-    ensures width { R.width graph.new ≡ R.width graph.old }
     ensures asks { IsTrue (R.means graph.old).honest → IsWhole (R.graph graph.old) n
-        → R.asked graph.new ≤ R.asked graph.old + (292 + length ((R.graph graph.old).refs n) * (3 + R.width graph.old)) }
+        → R.asked graph.new ≤ R.asked graph.old + (292 + length ((R.graph graph.old).refs n) * (3 + (R.graph graph.old).width)) }
     ensures inside { IfOk result (λ m. IfSome m (λ m. m < (R.graph graph.old).size)) }
     ensures first { IsTrue (R.means graph.old).honest → IsWhole (R.graph graph.old) n → IfOk result (λ m. let references = (R.graph graph.old).refs n in
         MatchOption m
@@ -102,7 +101,7 @@ pub fn circle<R: References>(
     ensures asks { IsTrue (R.means graph.old).honest → AreWhole (R.graph graph.old) top → (marks : List Bool)
         → ((n : ℕ) → Reaches (R.graph graph.old).refs top n → IsMarked marks n)
         → R.asked graph.new ≤ R.asked graph.old
-        + trail_bytes (R.width graph.old) (R.graph graph.old).refs marks (R.graph graph.old).size }
+        + trail_bytes (R.graph graph.old) marks }
     ensures circle { IsTrue (R.means graph.old).honest → AreWhole (R.graph graph.old) top
         → Judges (λ circle. IsCircleOf (R.graph graph.old).refs top (map number circle.items)) Never result }
 {

@@ -4,7 +4,7 @@ ghost use Rattle.std.specs.Prelude.{◌≡◌, ◌≢◌, ℕ, ◌+◌, ◌-◌,
 ghost use Rattle.std.specs.Prelude.{map, not, set, slice_index, vec_len, IfOk, MatchOption, OnOk};
 ghost use Rattle.bplist_lint.specs.Prelude.{from_bool, OnlyReads, failed_to_read, IsWhole, AreObjects, IsMarked, Finds};
 ghost use Rattle.bplist_lint.specs.Prelude.{Shows, Rests, Settles, Walks, AreClosed, AreLeastOf, state_at};
-ghost use Rattle.bplist_lint.specs.Prelude.{first_state, AreFew, GoesOn, HasMet, Passes, left_below, resumed, scan_bytes};
+ghost use Rattle.bplist_lint.specs.Prelude.{first_state, GoesOn, HasMet, Passes, left_of, resumed, scan_bytes};
 ghost use Rattle.bplist_lint.specs.Prelude.{turn_bytes};
 ghost use Rattle.bplist_lint.specs.declared.heights.State.TheVariants as states;
 
@@ -163,15 +163,14 @@ impl HeightWalk {
         ensures finds { IfOk result (Finds (R.graph graph.old).size self.now.states.items self.now.heights.items) }
         ensures shows { IsTrue (R.means graph.old).honest → IsWhole (R.graph graph.old) n
             → IfOk result (Shows ((R.graph graph.old).refs n) self.now.states.items self.now.heights.items from) }
-        ensures width { R.width graph.new ≡ R.width graph.old }
         ensures passes { IsTrue (R.means graph.old).honest → IsWhole (R.graph graph.old) n → from ≤ length ((R.graph graph.old).refs n)
             → IfOk result (Passes ((R.graph graph.old).refs n) self.now.states.items from) }
         ensures asks { IsTrue (R.means graph.old).honest → IsWhole (R.graph graph.old) n → from ≤ length ((R.graph graph.old).refs n)
             → IfOk result (λ found. R.asked graph.new
-            ≤ R.asked graph.old + scan_bytes (R.width graph.old) from (length ((R.graph graph.old).refs n)) found) }
+            ≤ R.asked graph.old + scan_bytes (R.graph graph.old).width from (length ((R.graph graph.old).refs n)) found) }
         ensures asks_any { IsTrue (R.means graph.old).honest → IsWhole (R.graph graph.old) n → from ≤ length ((R.graph graph.old).refs n)
             → R.asked graph.new ≤ R.asked graph.old
-            + (496 + (length ((R.graph graph.old).refs n) - from) * (3 + R.width graph.old)) }
+            + (496 + (length ((R.graph graph.old).refs n) - from) * (3 + (R.graph graph.old).width)) }
     {
         let mut buffer = [0; BLOCK];
         let mut portion = first;
@@ -204,19 +203,18 @@ impl HeightWalk {
         ensures finds { IfOk result (Finds (R.graph graph.old).size self.now.states.items self.now.heights.items) }
         ensures shows { IsTrue (R.means graph.old).honest → IsWhole (R.graph graph.old) n
             → IfOk result (Shows ((R.graph graph.old).refs n) self.now.states.items self.now.heights.items 0) }
-        ensures width { R.width graph.new ≡ R.width graph.old }
         ensures goes_on { IsTrue (R.means graph.old).honest → IsWhole (R.graph graph.old) n
             → HasMet ((R.graph graph.old).refs n) self.now.states.items (slice_index self.now.heights.items n)
             → IfOk result (GoesOn ((R.graph graph.old).refs n) self.now.states.items (slice_index self.now.heights.items n)) }
         ensures asks { IsTrue (R.means graph.old).honest → IsWhole (R.graph graph.old) n
             → HasMet ((R.graph graph.old).refs n) self.now.states.items (slice_index self.now.heights.items n)
-            → IfOk result (λ found. R.asked graph.new ≤ R.asked graph.old + turn_bytes (R.width graph.old)
+            → IfOk result (λ found. R.asked graph.new ≤ R.asked graph.old + turn_bytes (R.graph graph.old).width
             (slice_index self.now.heights.items n) (length ((R.graph graph.old).refs n)) found) }
         ensures asks_any { IsTrue (R.means graph.old).honest → IsWhole (R.graph graph.old) n
             → HasMet ((R.graph graph.old).refs n) self.now.states.items (slice_index self.now.heights.items n)
             → R.asked graph.new ≤ R.asked graph.old + (700
-            + ((length ((R.graph graph.old).refs n) - resumed (slice_index self.now.heights.items n)) * (3 + R.width graph.old)
-            + length ((R.graph graph.old).refs n) * (3 + R.width graph.old))) }
+            + ((length ((R.graph graph.old).refs n) - resumed (slice_index self.now.heights.items n)) * (3 + (R.graph graph.old).width)
+            + length ((R.graph graph.old).refs n) * (3 + (R.graph graph.old).width))) }
     {
         let slot = self.heights[n as usize] as u64;
         if slot > 0 {
@@ -239,21 +237,13 @@ impl HeightWalk {
         ensures rests { OnOk result (Rests (R.graph graph.old).size self.new) }
         ensures settles { OnOk result (Settles n self.old self.new) }
         ensures walks { OnOk result (IsTrue (R.means graph.old).honest → (marks : List Bool)
-            → AreClosed (R.graph graph.old) marks → IsMarked marks n
-            → Walks (R.graph graph.old).refs marks self.old → Walks (R.graph graph.old).refs marks self.new) }
-        ensures width { R.width graph.new ≡ R.width graph.old }
-        ensures asks { IsTrue (R.means graph.old).honest → (marks : List Bool)
             → AreClosed (R.graph graph.old) marks → IsMarked marks n → Walks (R.graph graph.old).refs marks self.old
-            → AreFew (R.graph graph.old).refs marks
-            → R.asked graph.new ≤ R.asked graph.old + (292 + left_below (R.width graph.old) (R.graph graph.old).refs marks
-            self.old.states.items self.old.heights.items (R.graph graph.old).size) }
-        ensures asks_left { OnOk result (IsTrue (R.means graph.old).honest → (marks : List Bool)
-            → AreClosed (R.graph graph.old) marks → IsMarked marks n → Walks (R.graph graph.old).refs marks self.old
-            → AreFew (R.graph graph.old).refs marks
-            → R.asked graph.new + left_below (R.width graph.old) (R.graph graph.old).refs marks
-            self.new.states.items self.new.heights.items (R.graph graph.old).size
-            ≤ R.asked graph.old + left_below (R.width graph.old) (R.graph graph.old).refs marks
-            self.old.states.items self.old.heights.items (R.graph graph.old).size) }
+            → Walks (R.graph graph.old).refs marks self.new
+            × (R.asked graph.new + left_of (R.graph graph.old) marks self.new.states.items self.new.heights.items
+            ≤ R.asked graph.old + left_of (R.graph graph.old) marks self.old.states.items self.old.heights.items)) }
+        ensures asks { IsTrue (R.means graph.old).honest → (marks : List Bool) → AreClosed (R.graph graph.old) marks
+            → IsMarked marks n → Walks (R.graph graph.old).refs marks self.old → R.asked graph.new
+            ≤ R.asked graph.old + (292 + left_of (R.graph graph.old) marks self.old.states.items self.old.heights.items) }
     {
         match self.states[n as usize] {
             State::New => {}
@@ -297,12 +287,10 @@ pub fn least_heights<R: References>(
     ensures exact { IsTrue (R.means graph.old).honest → AreClosed (R.graph graph.old) marks.now
         → ((n : ℕ) → IsMarked childless.now n → IsMarked marks.now n × ((R.graph graph.old).refs n ≡ []))
         → IfOk result (λ heights. AreLeastOf (R.graph graph.old).refs marks.now heights.items) }
-    ensures width { R.width graph.new ≡ R.width graph.old }
     ensures asks { IsTrue (R.means graph.old).honest → AreClosed (R.graph graph.old) marks.now
         → ((n : ℕ) → IsMarked childless.now n → IsMarked marks.now n × ((R.graph graph.old).refs n ≡ []))
-        → AreFew (R.graph graph.old).refs marks.now
-        → R.asked graph.new ≤ R.asked graph.old + (292 + left_below (R.width graph.old) (R.graph graph.old).refs marks.now
-        (map first_state childless.now) (map from_bool childless.now) (R.graph graph.old).size) }
+        → R.asked graph.new ≤ R.asked graph.old
+        + (292 + left_of (R.graph graph.old) marks.now (map first_state childless.now) (map from_bool childless.now)) }
 {
     let mut walk = HeightWalk::new(alloc, childless)?;
     let mut before = marks.len() as u32;

@@ -119,7 +119,7 @@ fn heights_or_circle<P: Offsets>(
         + (292 + 1160 * F.objects + 12 * extents_below f F (is_marked reached.marks.items) F.objects)) }
     ensures count { IfOk result (λ heights. length heights.items ≡ (frame_in (P.means src.old)).objects) }
     ensures exact { HonestlyIn (P.means src.old) (λ f F.
-        Lints (λ heights. IsLintedBy f F (lint_of F (lists heights.items None) reached.tally)) Never (IsFileCircle f) result) }
+        Lints (λ heights. IsLintedBy f F (lint_of F (lists heights.items None) reached.tally)) (IsFileFault f) (IsFileCircle f) result) }
 {
     let frame = src.frame();
     let Reached {

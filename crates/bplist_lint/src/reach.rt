@@ -72,6 +72,19 @@ fn place_index<P: Framed>(src: &P, place: u64) -> u64
     place % size * row_length + place / size
 }
 
+/// The numbers of the places of an object's references are a range. Returns the first, and the one behind the last.
+fn ref_numbers<P: Framed>(src: &P, head: &Head) -> (u64, u64)
+    requires { IsSafeHead (frame_in (P.means src.now)) head.now }
+    ensures first { result.0 ≡ place_index (frame_in (P.means src.now)) head.now.body }
+    ensures end { result.1 ≡ result.0 + ref_count head.now.kind head.now.count }
+    ensures within { result.1 ≤ index_count (frame_in (P.means src.now)) }
+{
+    let _frame = src.frame();
+    let first = place_index(src, head.body);
+    let end = first + refs_of(head);
+    (first, end)
+}
+
 /// Adds the places that are good to `good`.
 fn are_good<P: Framed>(src: &mut P, head: &Head, good: &mut BitSet) -> Result<bool, ReadFault>
     requires head { IsSafeHead (frame_in (P.means src.old)) head.now }
@@ -86,8 +99,7 @@ fn are_good<P: Framed>(src: &mut P, head: &Head, good: &mut BitSet) -> Result<bo
         ↔ AreBelow f head.now.body F.ref_size (ref_count head.now.kind head.now.count) F.objects)) }
 {
     let frame = src.frame();
-    let first = place_index(src, head.body);
-    let end = first + refs_of(head);
+    let (first, end) = ref_numbers(src, head);
     let mut number = good.next_outside(first);
     while number < end {
         let reference = ref_at(src, &frame, head, number - first)?;
@@ -120,8 +132,7 @@ fn follow<P: Framed>(src: &mut P, head: &Head, search: &mut ReachSearch) -> Resu
         × AreFollowed f F search.new.followed.words.items search.new.marks.items)) }
 {
     let frame = src.frame();
-    let first = place_index(src, head.body);
-    let end = first + refs_of(head);
+    let (first, end) = ref_numbers(src, head);
     let mut number = search.followed.next_outside(first);
     while number < end {
         let reference = ref_at(src, &frame, head, number - first)?;

@@ -5,7 +5,7 @@ use Rattle.bplist_cert.specs.CheckedFile.{IsChecked}
 use Rattle.bplist_cert.specs.Lists.{Lists}
 use Rattle.bplist_cert.proofs.VouchedObjects.{sound}
 use Rattle.bplist_lint.specs.Upgraded.{IsLintedWith}
-use Rattle.bplist_lint.proofs.Passes.{linted_accepted, refusal_means, fault_decides, circle_decides, fault_never, circle_never}
+use Rattle.bplist_lint.proofs.Passes.{linted_accepted, refusal_decides, refusal_never}
 use Rattle.bplist_lint.proofs.checked.lint_checked.Goals as goal
 
 pub new-requires : goal.new-requires
@@ -28,11 +28,7 @@ pub returns-in-Ok-clause-sound : goal.returns-in-Ok-clause-sound
 returns-in-Ok-clause-sound g c = λ honest. merely (sound _ _ _ (c.in-Ok.ensures.exact honest).0.valid)
 
 pub returns-in-Err-clause-decisive : goal.returns-in-Err-clause-decisive
-returns-in-Err-clause-decisive g c = λ honest.
-    let f = (g.S.Source.means c.args.src).octets in
-    refusal_means _ _ _ _ c.in-Err.refusal (fault_decides f) (circle_decides f) (c.in-Err.ensures.exact honest)
+returns-in-Err-clause-decisive g c = λ honest. refusal_decides _ c.in-Err.refusal (c.in-Err.ensures.exact honest)
 
 pub returns-in-Err-clause-never : goal.returns-in-Err-clause-never
-returns-in-Err-clause-never g c = λ honest v holds.
-    let f = (g.S.Source.means c.args.src).octets in
-    refusal_means _ _ _ _ c.in-Err.refusal (fault_never f v holds) (circle_never f v holds) (c.in-Err.ensures.exact honest)
+returns-in-Err-clause-never g c = λ honest v holds. refusal_never _ v holds c.in-Err.refusal (c.in-Err.ensures.exact honest)

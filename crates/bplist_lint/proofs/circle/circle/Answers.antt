@@ -1,11 +1,14 @@
-use Rattle.std.proofs.Common.{◌≡◌, ◌<◌, arith, rules, inl, inr, length, replicate, set, true, false, sym, ◌∙◌}
+use Rattle.std.proofs.Common.{◌≡◌, ◌<◌, ◌≤◌, ◌+◌, ℕ, Bool, List, IsTrue, arith, rules, inl, inr, length, replicate, false, sym, ◌∙◌}
 use Rattle.std.proofs.lemmas.List.{get_or_read}
-use Rattle.std.proofs.lemmas.List.Elements.{Contains-push}
 use Rattle.bplist_lint.proofs.TrailSteps.{fewer_left, numbers_named, trail_none, trail_more, leading_more, leading_start, is_circle, is_next, founded_all}
-use Rattle.bplist_lint.proofs.HeightCosts.{trail_on, trail_marked, trail_zero}
+use Rattle.bplist_lint.proofs.HeightCosts.{trail_on, trail_marked, trail_step, trail_zero}
 use Rattle.bplist_lint.proofs.MarkSteps.{fresh-set, none_marked}
+use Rattle.bplist_keys.specs.Marks.{IsMarked}
+use Rattle.bplist_lint.specs.Graph.{AreWhole, Reaches}
+use Rattle.bplist_lint.specs.Trail.{trail_bytes}
+use Rattle.bplist_lint.proofs.circle.circle.Given.{Over}
 use Rattle.bplist_lint.proofs.circle.circle.Goals as goal
-use Rattle.bplist_lint.proofs.circle.circle.Goals.{else-walk-test, then-walk-test+in_ok-push+in_ok-m+in-None}
+use Rattle.bplist_lint.proofs.circle.circle.Goals.{After-tail, else-walk-test, then-walk-test+in_ok-push+in_ok-m+in-None}
 
 pub walk-init : goal.walk-init
 walk-init g c =
@@ -16,8 +19,7 @@ walk-init g c =
       inside = c.requires.top;
       placed = rw (all_new, c.in_ok-trail.ensures.items, ← c.requires.all_heights) (trail_none _);
       leading = λ honest whole. rw c.in_ok-trail.ensures.items (leading_start _ _ _ (c.requires.heights honest) c.requires.circular);
-      width = cc;
-      asked = λ honest whole. rw all_new (λ n is. absurd (none_marked _ n is), omega (arith, trail_zero (g.R.References.width c.args.graph.now) (g.R.References.graph c.args.graph.now).refs (length c.args.heights.now) (g.R.References.graph c.args.graph.now).size));
+      asked = λ honest whole. rw all_new (λ n is. absurd (none_marked _ n is), omega (arith, trail_zero (g.R.References.graph c.args.graph.now) (length c.args.heights.now)));
     }
 
 pub walk-preserved : goal.walk-preserved
@@ -35,12 +37,11 @@ walk-preserved g c =
           let l = c.walk.invariant.leading honest whole in
           let n = is_next _ _ _ _ _ (c.requires.heights honest) l.reached (first honest (whole _ l.reached)) in
           rw c.in_ok-push.ensures.items (leading_more _ _ _ _ _ l n.0 n.1);
-      width = c.in_ok-m.ensures.width ∙ c.walk.invariant.width;
       asked = λ honest whole.
           let l = c.walk.invariant.leading honest whole in
           let a = c.walk.invariant.asked honest whole in
-          let one = (rw (c.walk.invariant.same, c.walk.invariant.reads, c.walk.invariant.width) at c.in_ok-m.ensures.asks) honest (whole _ l.reached) in
-          let more = trail_on (g.R.References.width c.args.graph.now) (g.R.References.graph c.args.graph.now).refs c.walk.met.items c.walk.x (g.R.References.graph c.args.graph.now).size c.walk.invariant.inside p.all_met new in
+          let one = (rw (c.walk.invariant.same, c.walk.invariant.reads) at c.in_ok-m.ensures.asks) honest (whole _ l.reached) in
+          let more = trail_on (g.R.References.graph c.args.graph.now) c.walk.met.items c.walk.x c.walk.invariant.inside p.all_met new in
           (λ n is. elim (fresh-set c.walk.met.items c.walk.x n is) [ inl old ↦ a.0 n old | inr e ↦ rw e l.reached ], omega (arith, a.1, one, more));
     }
 
@@ -63,72 +64,39 @@ walk-smaller g c =
     let within : c.walk.x < length c.walk.met.items = omega (arith, c.walk.invariant.placed.all_met, c.walk.invariant.inside) in
     fewer_left _ _ within (sym (get_or_read c.walk.met.items c.walk.x c.index.result.now within c.index.ensures false) ∙ c.walk-test.true)
 
-pub index_in-index-requires : goal.index_in-index-requires
-index_in-index-requires g c =
-    let p = c.walk.invariant.placed in
-    let within : c.walk.x < length c.walk.met.items = omega (arith, p.all_met, c.walk.invariant.inside) in
-    let read = get_or_read c.walk.met.items c.walk.x c.index.result.now within c.index.ensures false in
-    elim c.walk-test.branch [
-      | else-walk-test w ↦ rw (c.deref.ensures.value, w.trail-is) (p.on_trail c.walk.x (sym read ∙ w.walk-test.false))
-      | then-walk-test+in_ok-push+in_ok-m+in-None w ↦ rw (c.deref.ensures.value, w.trail-is, w.in_ok-push.ensures.items) (Contains-push c.walk.trail.items c.walk.x)
-    ]
-
-pub tail-requires : goal.tail-requires
-tail-requires g c = omega (arith, c.index_in-index.ensures.within, c.deref.ensures.len, c.deref-2.ensures.len)
-
 pub returns-in_err-push-clause-asks : goal.returns-in_err-push-clause-asks
 returns-in_err-push-clause-asks g c = λ honest whole marks are.
     let a = c.walk.invariant.asked honest whole in
-    let few = trail_marked (g.R.References.width c.args.graph.now) (g.R.References.graph c.args.graph.now).refs c.walk.met.items marks (g.R.References.graph c.args.graph.now).size (λ n is. are n (a.0 n is)) in
-    omega (arith, a.1, few)
+    omega (arith, a.1, trail_marked (g.R.References.graph c.args.graph.now) c.walk.met.items marks (λ n is. are n (a.0 n is)))
 
 pub returns-in_err-m-clause-asks : goal.returns-in_err-m-clause-asks
 returns-in_err-m-clause-asks g c = λ honest whole marks are.
-    let l = c.walk.invariant.leading honest whole in
-    let a = c.walk.invariant.asked honest whole in
-    let x = c.walk.x in
+    let i = c.walk.invariant in
+    let l = i.leading honest whole in
+    let a = i.asked honest whole in
     let met = c.walk.met.items in
-    let p = c.walk.invariant.placed in
-    let new = sym (get_or_read met x c.index.result.now (omega (arith, p.all_met, c.walk.invariant.inside)) c.index.ensures false) ∙ c.walk-test.true in
-    let one = (rw (c.walk.invariant.same, c.walk.invariant.reads, c.walk.invariant.width) at c.first_without.ensures.asks) honest (whole _ l.reached) in
-    let more = trail_on (g.R.References.width c.args.graph.now) (g.R.References.graph c.args.graph.now).refs met x (g.R.References.graph c.args.graph.now).size c.walk.invariant.inside p.all_met new in
-    let few = trail_marked (g.R.References.width c.args.graph.now) (g.R.References.graph c.args.graph.now).refs (set met x true) marks (g.R.References.graph c.args.graph.now).size (λ n is. elim (fresh-set met x n is) [ inl old ↦ are n (a.0 n old) | inr e ↦ are n (rw e l.reached) ]) in
-    omega (arith, a.1, one, more, few)
+    let new = sym (get_or_read met c.walk.x c.index.result.now (omega (arith, i.placed.all_met, i.inside)) c.index.ensures false) ∙ c.walk-test.true in
+    let one = (rw (i.same, i.reads) at c.first_without.ensures.asks) honest (whole _ l.reached) in
+    trail_step (g.R.References.graph c.args.graph.now) met marks c.walk.x _ _ _ i.inside i.placed.all_met new (λ n is. are n (a.0 n is)) (are _ l.reached) a.1 one
+
+-- what was asked for after the walk, however it ended
+asked : (g : Over) (c : After-tail g) → IsTrue (g.R.References.means c.args.graph.now).honest → AreWhole (g.R.References.graph c.args.graph.now) c.args.top → (marks : List Bool) → ((n : ℕ) → Reaches (g.R.References.graph c.args.graph.now).refs c.args.top n → IsMarked marks n)
+    → g.R.References.asked c.walk-test.graph ≤ g.R.References.asked c.args.graph.now + trail_bytes (g.R.References.graph c.args.graph.now) marks
+asked g c honest whole marks are =
+    let i = c.walk.invariant in
+    let a = i.asked honest whole in
+    elim c.walk-test.branch [
+      | else-walk-test w ↦ rw w.graph-is (omega (arith, a.1, trail_marked (g.R.References.graph c.args.graph.now) c.walk.met.items marks (λ n is. are n (a.0 n is))))
+      | then-walk-test+in_ok-push+in_ok-m+in-None w ↦
+          let l = i.leading honest whole in
+          let met = c.walk.met.items in
+          let new = sym (get_or_read met c.walk.x c.index.result.now (omega (arith, i.placed.all_met, i.inside)) c.index.ensures false) ∙ w.walk-test.true in
+          let one = (rw (i.same, i.reads) at w.in_ok-m.ensures.asks) honest (whole _ l.reached) in
+          rw w.graph-is (trail_step (g.R.References.graph c.args.graph.now) met marks c.walk.x _ _ _ i.inside i.placed.all_met new (λ n is. are n (a.0 n is)) (are _ l.reached) a.1 one)
+    ]
 
 pub returns-in_err-named-clause-asks : goal.returns-in_err-named-clause-asks
-returns-in_err-named-clause-asks g c = λ honest whole marks are. elim c.walk-test.branch [
-  | else-walk-test w ↦
-      let a = c.walk.invariant.asked honest whole in
-      let few = trail_marked (g.R.References.width c.args.graph.now) (g.R.References.graph c.args.graph.now).refs c.walk.met.items marks (g.R.References.graph c.args.graph.now).size (λ n is. are n (a.0 n is)) in
-      rw w.graph-is (omega (arith, a.1, few))
-  | then-walk-test+in_ok-push+in_ok-m+in-None w ↦
-      let l = c.walk.invariant.leading honest whole in
-      let a = c.walk.invariant.asked honest whole in
-      let x = c.walk.x in
-      let met = c.walk.met.items in
-      let p = c.walk.invariant.placed in
-      let new = sym (get_or_read met x c.index.result.now (omega (arith, p.all_met, c.walk.invariant.inside)) c.index.ensures false) ∙ w.walk-test.true in
-      let one = (rw (c.walk.invariant.same, c.walk.invariant.reads, c.walk.invariant.width) at w.in_ok-m.ensures.asks) honest (whole _ l.reached) in
-      let more = trail_on (g.R.References.width c.args.graph.now) (g.R.References.graph c.args.graph.now).refs met x (g.R.References.graph c.args.graph.now).size c.walk.invariant.inside p.all_met new in
-      let few = trail_marked (g.R.References.width c.args.graph.now) (g.R.References.graph c.args.graph.now).refs (set met x true) marks (g.R.References.graph c.args.graph.now).size (λ n is. elim (fresh-set met x n is) [ inl old ↦ are n (a.0 n old) | inr e ↦ are n (rw e l.reached) ]) in
-      rw w.graph-is (omega (arith, a.1, one, more, few))
-]
+returns-in_err-named-clause-asks g c = asked g (goal.at.returns-in_err-named-clause-asks g c).After-tail
 
 pub returns-clause-asks : goal.returns-clause-asks
-returns-clause-asks g c = λ honest whole marks are. elim c.walk-test.branch [
-  | else-walk-test w ↦
-      let a = c.walk.invariant.asked honest whole in
-      let few = trail_marked (g.R.References.width c.args.graph.now) (g.R.References.graph c.args.graph.now).refs c.walk.met.items marks (g.R.References.graph c.args.graph.now).size (λ n is. are n (a.0 n is)) in
-      rw w.graph-is (omega (arith, a.1, few))
-  | then-walk-test+in_ok-push+in_ok-m+in-None w ↦
-      let l = c.walk.invariant.leading honest whole in
-      let a = c.walk.invariant.asked honest whole in
-      let x = c.walk.x in
-      let met = c.walk.met.items in
-      let p = c.walk.invariant.placed in
-      let new = sym (get_or_read met x c.index.result.now (omega (arith, p.all_met, c.walk.invariant.inside)) c.index.ensures false) ∙ w.walk-test.true in
-      let one = (rw (c.walk.invariant.same, c.walk.invariant.reads, c.walk.invariant.width) at w.in_ok-m.ensures.asks) honest (whole _ l.reached) in
-      let more = trail_on (g.R.References.width c.args.graph.now) (g.R.References.graph c.args.graph.now).refs met x (g.R.References.graph c.args.graph.now).size c.walk.invariant.inside p.all_met new in
-      let few = trail_marked (g.R.References.width c.args.graph.now) (g.R.References.graph c.args.graph.now).refs (set met x true) marks (g.R.References.graph c.args.graph.now).size (λ n is. elim (fresh-set met x n is) [ inl old ↦ are n (a.0 n old) | inr e ↦ are n (rw e l.reached) ]) in
-      rw w.graph-is (omega (arith, a.1, one, more, few))
-]
+returns-clause-asks g c = asked g (goal.at.returns-clause-asks g c).After-tail

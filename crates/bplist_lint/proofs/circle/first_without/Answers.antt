@@ -9,11 +9,10 @@ pub loop-more-preserved : goal.loop-more-preserved
 loop-more-preserved g c =
     let i = c.loop-more.invariant in
     let long : length c.read.new.block ≡ 32 = grind (arith, common_steps) in
-    let scanned = block_more _ _ _ c.loop-more.done c.in_ok-count.count (g.R.References.width c.args.graph.now) (i.counted_more c.loop-more-test.true) (rw i.width at c.in_ok-count.ensures.asks) in
+    let scanned = block_more _ _ _ c.loop-more.done c.in_ok-count.count (g.R.References.graph c.args.graph.now).width (i.counted_more c.loop-more-test.true) (rw i.same at c.in_ok-count.ensures.asks) in
     record {
       same = c.read.ensures.same ∙ i.same;
       reads = c.in_ok-count.ensures.reads ∙ i.reads;
-      width = c.read.ensures.width ∙ i.width;
       counted = scanned.0;
       counted_more = λ full. scanned.1 (eqb-true c.in_ok-count.count 32 full);
       room = long;
@@ -36,14 +35,14 @@ returns-in-Some-clause-first g c = λ honest whole.
 pub returns-in_err-count-clause-asks : goal.returns-in_err-count-clause-asks
 returns-in_err-count-clause-asks g c = λ honest whole.
     let i = c.loop-more.invariant in
-    blocks_within _ _ c.loop-more.done _ 292 (g.R.References.width c.args.graph.now) (omega (arith, i.counted_more c.loop-more-test.true, c.read.ensures.asks_any)) (i.have honest whole).0 (omega arith)
+    blocks_within _ _ c.loop-more.done _ 292 (g.R.References.graph c.args.graph.now).width (omega (arith, i.counted_more c.loop-more-test.true, c.read.ensures.asks_any)) (i.have honest whole).0 (omega arith)
 
 pub returns-in-Some-clause-asks : goal.returns-in-Some-clause-asks
 returns-in-Some-clause-asks g c = λ honest whole.
     let i = c.loop-more.invariant in
-    blocks_within _ _ c.loop-more.done _ 292 (g.R.References.width c.args.graph.now) (omega (arith, i.counted_more c.loop-more-test.true, c.read.ensures.asks_any)) (i.have honest whole).0 (omega arith)
+    blocks_within _ _ c.loop-more.done _ 292 (g.R.References.graph c.args.graph.now).width (omega (arith, i.counted_more c.loop-more-test.true, c.read.ensures.asks_any)) (i.have honest whole).0 (omega arith)
 
 pub returns-clause-asks : goal.returns-clause-asks
 returns-clause-asks g c = λ honest whole.
     let i = c.loop-more.invariant in
-    blocks_within _ _ c.loop-more.done _ 292 (g.R.References.width c.args.graph.now) (omega (arith, i.counted)) (i.have honest whole).0 (omega arith)
+    blocks_within _ _ c.loop-more.done _ 292 (g.R.References.graph c.args.graph.now).width (omega (arith, i.counted)) (i.have honest whole).0 (omega arith)

@@ -7,9 +7,8 @@ abbrev pub invariant-loop-more : goal.invariant-loop-more
 invariant-loop-more g l = record {
   same : g.R.References.graph l.graph ≡ g.R.References.graph l.fn.graph;
   reads : g.R.References.means l.graph ≡ g.R.References.means l.fn.graph;
-  width : g.R.References.width l.graph ≡ g.R.References.width l.fn.graph;
-  counted : g.R.References.asked l.graph ≤ g.R.References.asked l.fn.graph + 36 + l.done * (3 + g.R.References.width l.fn.graph);
-  counted_more : l.more ≡ true → g.R.References.asked l.graph ≤ g.R.References.asked l.fn.graph + l.done * (3 + g.R.References.width l.fn.graph);
+  counted : g.R.References.asked l.graph ≤ g.R.References.asked l.fn.graph + 36 + l.done * (3 + (g.R.References.graph l.fn.graph).width);
+  counted_more : l.more ≡ true → g.R.References.asked l.graph ≤ g.R.References.asked l.fn.graph + l.done * (3 + (g.R.References.graph l.fn.graph).width);
   room : length l.block ≡ 32;
   have : IsTrue (g.R.References.means l.fn.graph).honest → IsWhole (g.R.References.graph l.fn.graph) l.n
       → (l.done ≤ length ((g.R.References.graph l.fn.graph).refs l.n))

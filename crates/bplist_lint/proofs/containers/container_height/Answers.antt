@@ -2,7 +2,7 @@ use Rattle.std.proofs.Common.{◌≡◌, ℕ, ◌+◌, ◌<◌, ◌≤◌, ◌++
 use Rattle.std.proofs.lemmas.Grind.{common_steps}
 use Rattle.std.proofs.lemmas.List.{get_or_append_left}
 use Rattle.bplist_objects.specs.declared.frame.Frame.{Frame}
-use Rattle.bplist_objects.specs.Framed.{frame_in}
+use Rattle.bplist_objects.specs.Framed.{HonestlyIn, frame_in}
 use Rattle.bplist_objects.specs.Safe.{ref_count}
 use Rattle.bplist_objects.specs.Scan.{ref}
 use Rattle.bplist_objects.proofs.HeadTies.{shape_announced}
@@ -13,6 +13,9 @@ use Rattle.bplist_cert.specs.KeyRepeats.{HasGoodKeys}
 use Rattle.bplist_cert.proofs.KeyRepeats.{keys_inside, good_at, classed_texts, apart_differ}
 use Rattle.bplist_objects.specs.KeyCounts.{key_count}
 use Rattle.bplist_lint.proofs.ContainerSteps.{keys_next, keys_few, measured_next, measured_all, of_checked}
+use Rattle.bplist_lint.specs.ReachWalk.{extent}
+use Rattle.bplist_lint.proofs.containers.container_height.Given.{Over}
+use Rattle.bplist_lint.proofs.containers.container_height.Goals.{After-read_refs_in}
 use Rattle.bplist_lint.proofs.containers.container_height.Goals as goal
 
 pub loop-done-preserved : goal.loop-done-preserved
@@ -75,14 +78,14 @@ returns-clause-exact g c = λ honest kept keys new.
     (classed_texts f F head classes known.0 framed known.1 inside head.count (omega arith) seen.texts, apart_differ f F head classes known.0 head.count (omega arith) seen.first)) in
     of_checked c.checked_add.result _ _ _ c.checked_add.ensures (good, (c.loop-done.best, measured_all f F n framed c.requires.within kept head shape c.args.heights.now c.loop-done.done c.loop-done.best over (i.measured honest kept), refl))
 
-pub returns-in_err-read_refs_in-clause-asks : goal.returns-in_err-read_refs_in-clause-asks
-returns-in_err-read_refs_in-clause-asks g c = λ honest.
+-- what was asked for after one more block
+asked : (g : Over) (c : After-read_refs_in g) → HonestlyIn (g.P.Source.means c.args.src.now) (λ f F. g.P.Source.asked c.read_refs_in.new.src ≤ g.P.Source.asked c.args.src.now + (36 + extent f F c.args.n))
+asked g c honest =
     let i = c.loop-done.invariant in
     let f = (g.P.Source.means c.args.src.now).octets in
     let F : Frame = frame_in (g.P.Source.means c.args.src.now) in
     let head = c.in-Some.head in
     let shape = rw c.in-Some.is at (c.in_ok-head.ensures.shape honest) in
-    let fit = refs_bytes f F c.args.n head c.frame-frame.ensures.framed.safe.safe.ref_low shape in
     let start = g.P.Source.asked c.args.src.now + 36 in
     let done = c.loop-done.done in
     let now = c.min-now.result in
@@ -90,41 +93,16 @@ returns-in_err-read_refs_in-clause-asks g c = λ honest.
     let low : done + now ≤ ref_count head.kind head.count = omega (arith, c.min-now.ensures, c.refs_of-refs.ensures, i.within) in
     let read = asked_on start _ _ done now F.ref_size i.asked (rw (i.reads, short) at c.read_refs_in.ensures.asks) in
     let all = asked_within start _ (done + now) (ref_count head.kind head.count) F.ref_size read low in
-    omega (arith, all, fit)
+    omega (arith, all, refs_bytes f F c.args.n head c.frame-frame.ensures.framed.safe.safe.ref_low shape)
+
+pub returns-in_err-read_refs_in-clause-asks : goal.returns-in_err-read_refs_in-clause-asks
+returns-in_err-read_refs_in-clause-asks g c = asked g (goal.at.returns-in_err-read_refs_in-clause-asks g c).After-read_refs_in
 
 pub returns-then-not-are_new-clause-asks : goal.returns-then-not-are_new-clause-asks
-returns-then-not-are_new-clause-asks g c = λ honest.
-    let i = c.loop-done.invariant in
-    let f = (g.P.Source.means c.args.src.now).octets in
-    let F : Frame = frame_in (g.P.Source.means c.args.src.now) in
-    let head = c.in-Some.head in
-    let shape = rw c.in-Some.is at (c.in_ok-head.ensures.shape honest) in
-    let fit = refs_bytes f F c.args.n head c.frame-frame.ensures.framed.safe.safe.ref_low shape in
-    let start = g.P.Source.asked c.args.src.now + 36 in
-    let done = c.loop-done.done in
-    let now = c.min-now.result in
-    let short : length (take now c.loop-done.block) ≡ now = grind (arith, common_steps) in
-    let low : done + now ≤ ref_count head.kind head.count = omega (arith, c.min-now.ensures, c.refs_of-refs.ensures, i.within) in
-    let read = asked_on start _ _ done now F.ref_size i.asked (rw (i.reads, short) at c.read_refs_in.ensures.asks) in
-    let all = asked_within start _ (done + now) (ref_count head.kind head.count) F.ref_size read low in
-    omega (arith, all, fit)
+returns-then-not-are_new-clause-asks g c = asked g (goal.at.returns-then-not-are_new-clause-asks g c).After-read_refs_in
 
 pub returns-in_default-greatest_height-clause-asks : goal.returns-in_default-greatest_height-clause-asks
-returns-in_default-greatest_height-clause-asks g c = λ honest.
-    let i = c.loop-done.invariant in
-    let f = (g.P.Source.means c.args.src.now).octets in
-    let F : Frame = frame_in (g.P.Source.means c.args.src.now) in
-    let head = c.in-Some.head in
-    let shape = rw c.in-Some.is at (c.in_ok-head.ensures.shape honest) in
-    let fit = refs_bytes f F c.args.n head c.frame-frame.ensures.framed.safe.safe.ref_low shape in
-    let start = g.P.Source.asked c.args.src.now + 36 in
-    let done = c.loop-done.done in
-    let now = c.min-now.result in
-    let short : length (take now c.loop-done.block) ≡ now = grind (arith, common_steps) in
-    let low : done + now ≤ ref_count head.kind head.count = omega (arith, c.min-now.ensures, c.refs_of-refs.ensures, i.within) in
-    let read = asked_on start _ _ done now F.ref_size i.asked (rw (i.reads, short) at c.read_refs_in.ensures.asks) in
-    let all = asked_within start _ (done + now) (ref_count head.kind head.count) F.ref_size read low in
-    omega (arith, all, fit)
+returns-in_default-greatest_height-clause-asks g c = asked g (goal.at.returns-in_default-greatest_height-clause-asks g c).After-read_refs_in
 
 pub returns-clause-asks : goal.returns-clause-asks
 returns-clause-asks g c = λ honest.

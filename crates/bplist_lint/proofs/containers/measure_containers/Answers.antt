@@ -1,8 +1,8 @@
-use Rattle.std.proofs.Common.{◌≡◌, ℕ, ◌+◌, ◌-◌, inl, inr, refl, sym, ◌∙◌, subst, arith}
+use Rattle.std.proofs.Common.{◌≡◌, ◌≤◌, ℕ, ◌+◌, ◌*◌, ◌-◌, inl, inr, refl, sym, ◌∙◌, subst, arith}
 use Rattle.std.proofs.lemmas.Bool.{false≢true}
 use Rattle.std.proofs.lemmas.Grind.{common_steps}
 use Rattle.bplist_objects.specs.declared.frame.Frame.{Frame}
-use Rattle.bplist_objects.specs.Framed.{frame_in}
+use Rattle.bplist_objects.specs.Framed.{HonestlyIn, frame_in}
 use Rattle.bplist_objects.proofs.FrameTies.{numbered}
 use Rattle.bplist_objects.proofs.ReachedObjects.{reach_within}
 use Rattle.bplist_keys.specs.Classes.{IsNew}
@@ -11,7 +11,9 @@ use Rattle.bplist_lint.proofs.KeyClasses.{reached_sound, keys_known}
 use Rattle.bplist_lint.specs.ReachRules.{is_marked}
 use Rattle.bplist_lint.proofs.RangeSums.{extents_more}
 use Rattle.bplist_lint.proofs.KeySteps.{childless_keys}
-use Rattle.bplist_lint.proofs.containers.measure_containers.Goals.{else-marks-n-via-then-marks-n+else-not-childless-n, else-marks-n-via-else-marks-n}
+use Rattle.bplist_lint.specs.ReachWalk.{extents_below}
+use Rattle.bplist_lint.proofs.containers.measure_containers.Given.{Over}
+use Rattle.bplist_lint.proofs.containers.measure_containers.Goals.{After-container_height, else-marks-n-via-then-marks-n+else-not-childless-n, else-marks-n-via-else-marks-n}
 use Rattle.bplist_lint.proofs.containers.measure_containers.Goals as goal
 
 pub loop-n-init : goal.loop-n-init
@@ -106,28 +108,20 @@ returns-clause-exact g c = λ honest named marks kept childless are_named classe
     let end : c.loop-n.n ≡ 0 = omega (arith, c.loop-n-test.false) in
     finished_all _ _ (c.frame-frame.ensures.framed.framed honest) c.args.marks.now c.args.childless.now marks _ (rw end at (c.loop-n.invariant.finished honest named marks kept childless are_named classes none first))
 
-pub returns-in_err-height-clause-asks : goal.returns-in_err-height-clause-asks
-returns-in_err-height-clause-asks g c = λ honest.
+-- what was asked for with one more container
+asked : (g : Over) (c : After-container_height g) → HonestlyIn (g.P.Source.means c.args.src.now) (λ f F. g.P.Source.asked c.container_height.new.src
+    ≤ g.P.Source.asked c.args.src.now + (36 * F.objects + extents_below f F (is_marked c.args.marks.now) F.objects))
+asked g c honest =
     let m = g.P.Source.means c.args.src.now in
-    let f = m.octets in
-    let F : Frame = frame_in m in
     let i = c.loop-n.invariant in
     let n : ℕ = c.loop-n.n - 1 in
     let next : n + 1 ≡ c.loop-n.n = omega (arith, c.loop-n-test.true) in
     let more = rw (← next) at (i.asked honest) in
-    let own = rw c.if-marks-n.true at (extents_more f F (is_marked c.args.marks.now) n) in
-    let one = (rw i.reads at c.container_height.ensures.asks) honest in
-    omega (arith, more, own, one)
+    let own = rw c.if-marks-n.true at (extents_more m.octets (frame_in m) (is_marked c.args.marks.now) n) in
+    omega (arith, more, own, (rw i.reads at c.container_height.ensures.asks) honest)
+
+pub returns-in_err-height-clause-asks : goal.returns-in_err-height-clause-asks
+returns-in_err-height-clause-asks g c = asked g (goal.at.returns-in_err-height-clause-asks g c).After-container_height
 
 pub returns-in-None-clause-asks : goal.returns-in-None-clause-asks
-returns-in-None-clause-asks g c = λ honest.
-    let m = g.P.Source.means c.args.src.now in
-    let f = m.octets in
-    let F : Frame = frame_in m in
-    let i = c.loop-n.invariant in
-    let n : ℕ = c.loop-n.n - 1 in
-    let next : n + 1 ≡ c.loop-n.n = omega (arith, c.loop-n-test.true) in
-    let more = rw (← next) at (i.asked honest) in
-    let own = rw c.if-marks-n.true at (extents_more f F (is_marked c.args.marks.now) n) in
-    let one = (rw i.reads at c.container_height.ensures.asks) honest in
-    omega (arith, more, own, one)
+returns-in-None-clause-asks g c = asked g (goal.at.returns-in-None-clause-asks g c).After-container_height

@@ -15,9 +15,7 @@ loop-n-init g c = record {
     standing = rw (c.in_ok-walk.ensures.states, c.in_ok-walk.ensures.heights) (standing_first _ _ c.requires.all_childless);
   };
   sees = λ m h is. absurd (let low = marked_within c.args.marks.now m is in grind (arith, common_steps));
-  walking = λ honest closed known. rw (c.in_ok-walk.ensures.states, c.in_ok-walk.ensures.heights) (walking_first _ _ _ known);
-  width = cc;
-  asked = λ honest closed known few. rw (c.in_ok-walk.ensures.states, c.in_ok-walk.ensures.heights) (omega arith);
+  walking = λ honest closed known. rw (c.in_ok-walk.ensures.states, c.in_ok-walk.ensures.heights) (walking_first _ _ _ known, omega arith);
 }
 
 pub loop-n-preserved : goal.loop-n-preserved
@@ -37,17 +35,16 @@ loop-n-preserved g c =
           | inr late ↦ i.sees m late is
         ])
       ];
-      walking = λ honest closed known. (rw (i.same, i.reads) at walked.walks) honest _ closed found.1 (i.walking honest closed known);
-      width = c.settle_from.ensures.width ∙ i.width;
-      asked = λ honest closed known few.
-          let step = (rw (i.same, i.reads, i.width) at walked.asks_left) honest _ closed found.1 (i.walking honest closed known) few in
-          omega (arith, i.asked honest closed known few, step);
+      walking = λ honest closed known.
+          let before = i.walking honest closed known in
+          let step = (rw (i.same, i.reads) at walked.walks) honest _ closed found.1 before.0 in
+          (step.0, omega (arith, before.1, step.1));
     }
 
 pub returns-clause-exact : goal.returns-clause-exact
 returns-clause-exact g c = λ honest closed known.
     let i = c.loop-n.invariant in
-    are_least _ _ _ _ _ i.rests.standing (i.walking honest closed known) (λ m is. elim (cases_lt m c.loop-n.before) [
+    are_least _ _ _ _ _ i.rests.standing (i.walking honest closed known).0 (λ m is. elim (cases_lt m c.loop-n.before) [
       | inl early ↦ c.in_default.ensures m early is
       | inr late ↦ i.sees m late is
     ])

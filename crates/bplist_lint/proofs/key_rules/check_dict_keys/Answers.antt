@@ -1,13 +1,16 @@
-use Rattle.std.proofs.Common.{None, refl, inr, arith}
+use Rattle.std.proofs.Common.{◌≤◌, ◌+◌, None, refl, inr, arith}
 use Rattle.std.proofs.lemmas.Result.{err_from_is_err_and}
 use Rattle.bplist_objects.specs.declared.frame.Frame.{Frame}
-use Rattle.bplist_objects.specs.Framed.{frame_in}
+use Rattle.bplist_objects.specs.Framed.{HonestlyIn, frame_in}
 use Rattle.bplist_cert.proofs.TextObjects.{shape_kept}
 use Rattle.bplist_cert.proofs.CheckSteps.{object_refused}
 use Rattle.bplist_cert.proofs.KeyRepeats.{keys_inside, good_at, classed_texts, apart_differ}
 use Rattle.bplist_objects.proofs.HeadTies.{announced_shape}
 use Rattle.bplist_lint.proofs.ExtentBytes.{keys_bytes}
 use Rattle.bplist_lint.proofs.KeyClasses.{wrong_fault}
+use Rattle.bplist_lint.specs.ReachWalk.{extent}
+use Rattle.bplist_lint.proofs.key_rules.check_dict_keys.Given.{Over}
+use Rattle.bplist_lint.proofs.key_rules.check_dict_keys.Goals.{After-first_wrong}
 use Rattle.bplist_lint.proofs.key_rules.check_dict_keys.Goals as goal
 
 pub returns-in_err-head-clause-exact : goal.returns-in_err-head-clause-exact
@@ -54,35 +57,22 @@ returns-in_default g c = record {
       good_at (g.P.Source.means c.args.src.now).octets (frame_in (g.P.Source.means c.args.src.now)) None c.args.n c.in_ok-head.head (c.in_ok-head.ensures.rules honest).0 (λ dict. absurd (c.in_default.not-Dict dict));
 }
 
-pub returns-in_err-first_wrong-in-Dict-clause-asks : goal.returns-in_err-first_wrong-in-Dict-clause-asks
-returns-in_err-first_wrong-in-Dict-clause-asks g c = λ honest.
+-- what was asked for with the keys
+asked : (g : Over) (c : After-first_wrong g) → HonestlyIn (g.P.Source.means c.args.src.now) (λ f F. g.P.Source.asked c.first_wrong.new.src ≤ g.P.Source.asked c.args.src.now + (36 + extent f F c.args.n))
+asked g c honest =
     let f = (g.P.Source.means c.args.src.now).octets in
     let F : Frame = frame_in (g.P.Source.means c.args.src.now) in
     let framed = c.frame-frame.ensures.framed in
     let head = c.in_ok-head.head in
     let has = c.in_ok-head.ensures.rules honest in
     let shape = announced_shape f F c.args.n (framed.framed honest) c.requires head has.0 has.1 in
-    let read = rw c.in_ok-head.ensures.reads at c.in_err-first_wrong-in-Dict.ensures.asks in
-    omega (arith, c.in_ok-head.ensures.asks, read, keys_bytes f F c.args.n head framed.safe.safe.ref_low c.in-Dict.is shape)
+    omega (arith, c.in_ok-head.ensures.asks, rw c.in_ok-head.ensures.reads at c.first_wrong.ensures.asks, keys_bytes f F c.args.n head framed.safe.safe.ref_low c.in-Dict.is shape)
+
+pub returns-in_err-first_wrong-in-Dict-clause-asks : goal.returns-in_err-first_wrong-in-Dict-clause-asks
+returns-in_err-first_wrong-in-Dict-clause-asks g c = asked g (goal.at.returns-in_err-first_wrong-in-Dict-clause-asks g c).After-first_wrong
 
 pub returns-in-None-clause-asks : goal.returns-in-None-clause-asks
-returns-in-None-clause-asks g c = λ honest.
-    let f = (g.P.Source.means c.args.src.now).octets in
-    let F : Frame = frame_in (g.P.Source.means c.args.src.now) in
-    let framed = c.frame-frame.ensures.framed in
-    let head = c.in_ok-head.head in
-    let has = c.in_ok-head.ensures.rules honest in
-    let shape = announced_shape f F c.args.n (framed.framed honest) c.requires head has.0 has.1 in
-    let read = rw c.in_ok-head.ensures.reads at c.in_ok-first_wrong-in-Dict.ensures.asks in
-    omega (arith, c.in_ok-head.ensures.asks, read, keys_bytes f F c.args.n head framed.safe.safe.ref_low c.in-Dict.is shape)
+returns-in-None-clause-asks g c = asked g (goal.at.returns-in-None-clause-asks g c).After-first_wrong
 
 pub returns-in-Some-clause-asks : goal.returns-in-Some-clause-asks
-returns-in-Some-clause-asks g c = λ honest.
-    let f = (g.P.Source.means c.args.src.now).octets in
-    let F : Frame = frame_in (g.P.Source.means c.args.src.now) in
-    let framed = c.frame-frame.ensures.framed in
-    let head = c.in_ok-head.head in
-    let has = c.in_ok-head.ensures.rules honest in
-    let shape = announced_shape f F c.args.n (framed.framed honest) c.requires head has.0 has.1 in
-    let read = rw c.in_ok-head.ensures.reads at c.in_ok-first_wrong-in-Dict.ensures.asks in
-    omega (arith, c.in_ok-head.ensures.asks, read, keys_bytes f F c.args.n head framed.safe.safe.ref_low c.in-Dict.is shape)
+returns-in-Some-clause-asks g c = asked g (goal.at.returns-in-Some-clause-asks g c).After-first_wrong

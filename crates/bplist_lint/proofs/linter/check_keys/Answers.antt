@@ -1,4 +1,4 @@
-use Rattle.std.proofs.Common.{inr, arith}
+use Rattle.std.proofs.Common.{inr}
 use Rattle.std.proofs.lemmas.Result.{err_from_is_err_and}
 use Rattle.bplist_objects.specs.declared.frame.Frame.{Frame}
 use Rattle.bplist_objects.specs.Framed.{frame_in}
@@ -29,25 +29,3 @@ returns-clause-exact g c = λ honest.
     let w = known.walked in
     let keys = (rw (c.deref-3.ensures.value, c.deref-4.ensures.value, c.in_ok-heights.ensures.reads, c.in_ok-heights.ensures.same) at c.in_ok-numbers.ensures.exact) honest known.named w.marked w.tallied.kept w.childless known.all known.classes in
     (record { walked = w; keys = keys }, tt)
-
-pub returns-in_err-heights-clause-asks : goal.returns-in_err-heights-clause-asks
-returns-in_err-heights-clause-asks g c = λ honest.
-    let first = (rw c.deref.ensures.value at c.in_err-heights.ensures.asks) honest in
-    omega (arith, first)
-
-pub returns-in-Some-clause-asks : goal.returns-in-Some-clause-asks
-returns-in-Some-clause-asks g c = λ honest.
-    let first = (rw c.deref.ensures.value at c.in_ok-heights.ensures.asks) honest in
-    omega (arith, first)
-
-pub returns-in_err-numbers-clause-asks : goal.returns-in_err-numbers-clause-asks
-returns-in_err-numbers-clause-asks g c = λ honest.
-    let first = (rw c.deref.ensures.value at c.in_ok-heights.ensures.asks) honest in
-    let second = (rw (c.deref-3.ensures.value, c.in_ok-heights.ensures.reads) at c.in_err-numbers.ensures.asks) honest in
-    omega (arith, first, second)
-
-pub returns-clause-asks : goal.returns-clause-asks
-returns-clause-asks g c = λ honest.
-    let first = (rw c.deref.ensures.value at c.in_ok-heights.ensures.asks) honest in
-    let second = (rw (c.deref-3.ensures.value, c.in_ok-heights.ensures.reads) at c.in_ok-numbers.ensures.asks) honest in
-    omega (arith, first, second)

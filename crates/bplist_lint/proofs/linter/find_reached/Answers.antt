@@ -21,9 +21,3 @@ returns-clause-exact g c = λ honest.
       record { marked = marked; childless = λ n is. absurd (false≢true (sym (unwritten F.objects n false) ∙ (rw childless at is))); tallied = tallied },
       rw named (reached_named f F c.in_ok-marks.field-0.marks.items all framed marked tallied.kept),
     )
-
-pub returns-clause-fits : goal.returns-clause-fits
-returns-clause-fits g c = grind (arith, common_steps)
-
-pub returns-clause-all_named : goal.returns-clause-all_named
-returns-clause-all_named g c = grind (arith, common_steps)

@@ -1,10 +1,8 @@
 use Rattle.std.proofs.Common.{◌≡◌, length, arith}
 use Rattle.std.proofs.lemmas.Grind.{common_steps}
 use Rattle.bplist_objects.specs.declared.frame.Frame.{Frame}
-use Rattle.bplist_objects.specs.Answers.{Never}
 use Rattle.bplist_objects.specs.Framed.{frame_in}
-use Rattle.bplist_lint.specs.FileFault.{IsFileFault, IsFileCircle}
-use Rattle.bplist_lint.proofs.Passes.{lints_mean, linted_yes}
+use Rattle.bplist_lint.proofs.Passes.{linted_yes}
 use Rattle.bplist_lint.proofs.linter.finish.Goals as goal
 
 pub returns-in-Some-clause-exact : goal.returns-in-Some-clause-exact
@@ -17,13 +15,3 @@ returns-in-Some-clause-exact g c = λ honest.
     let all = rw c.in-Some.is at c.requires.all in
     let count : length heights ≡ F.objects = grind (arith, all, common_steps) in
     (linted_yes f F framed c.args.reached sifted.0 (let roomy = c.requires.fits.roomy in omega (arith, roomy.room, roomy.references)) heights count sifted.1.0 (omega (arith, sifted.1.1)))
-
-pub returns-in-None-clause-exact : goal.returns-in-None-clause-exact
-returns-in-None-clause-exact g c = λ honest.
-    let m = g.P.Source.means c.args.src.now in
-    let F : Frame = frame_in m in
-    lints_mean _ _ Never (IsFileFault m.octets) (IsFileCircle m.octets) (IsFileCircle m.octets) c.heights_or_circle.result
-    (λ heights h. h) (λ fault h. absurd h) (λ circle h. h) (c.heights_or_circle.ensures.exact honest)
-
-pub heights_or_circle-requires-clause-sifted : goal.heights_or_circle-requires-clause-sifted
-heights_or_circle-requires-clause-sifted g c = λ honest. (c.requires.sifted honest).0

@@ -1,4 +1,4 @@
-use Rattle.std.proofs.Common.{◌≡◌, ◌∙◌, arith, rules}
+use Rattle.std.proofs.Common.{◌≡◌, ◌∙◌, rules}
 use Rattle.std.proofs.lemmas.Result.{err_from_is_err_and}
 use Rattle.bplist_lint.specs.FileFault.{IsFileCircle}
 use Rattle.bplist_lint.proofs.Passes.{check_means, fault_passed, file_asked, lint_asked}
@@ -14,9 +14,6 @@ pub returns-in_err-certificate-clause-exact : goal.returns-in_err-certificate-cl
 returns-in_err-certificate-clause-exact g c = λ honest.
     let p = err_from_is_err_and c.from_residual-in_err-certificate.result c.from_residual-in_err-certificate.ensures.1 in
     rw (p.1, p.2) (fault_passed _ _ (c.new-file.ensures.means ∙ c.in_ok-frame.ensures.reads) c.in_err-certificate.field-0.0 c.in_err-certificate.ensures.exact honest)
-
-pub returns-in_err-frame-clause-asks : goal.returns-in_err-frame-clause-asks
-returns-in_err-frame-clause-asks g c = λ honest. omega (arith, c.in_err-frame.ensures.asks)
 
 pub returns-in_err-certificate-clause-asks : goal.returns-in_err-certificate-clause-asks
 returns-in_err-certificate-clause-asks g c = λ honest.

@@ -1,4 +1,4 @@
-use Rattle.std.proofs.Common.{subst, sym, ◌∙◌, arith}
+use Rattle.std.proofs.Common.{subst, sym, arith}
 use Rattle.bplist_objects.specs.declared.frame.Frame.{Frame}
 use Rattle.bplist_objects.specs.Framed.{frame_in}
 use Rattle.bplist_cert.specs.Lists.{Lists}
@@ -22,16 +22,6 @@ returns-clause-exact g c = λ honest.
           (subst (λ (keys : Keys). IsLintedWith keys f F w.in_ok-certificate-in-Ranks.certificate tally) (sym w.in-Ranks.is)
           ((rw c.in_ok-reached.ensures.reads at w.in_ok-certificate-in-Ranks.ensures.exact) honest))
     ]
-
-pub returns-in_err-certificate-in-Classes-clause-asks : goal.returns-in_err-certificate-in-Classes-clause-asks
-returns-in_err-certificate-in-Classes-clause-asks g c = λ honest.
-    let first = c.in_ok-reached.ensures in
-    omega (arith, first.asks, (rw first.reads at c.in_err-certificate-in-Classes.ensures.asks) honest first.only)
-
-pub returns-in_err-certificate-in-Ranks-clause-asks : goal.returns-in_err-certificate-in-Ranks-clause-asks
-returns-in_err-certificate-in-Ranks-clause-asks g c = λ honest.
-    let first = c.in_ok-reached.ensures in
-    omega (arith, first.asks, (rw first.reads at c.in_err-certificate-in-Ranks.ensures.asks) honest first.only)
 
 pub returns-clause-asks : goal.returns-clause-asks
 returns-clause-asks g c = λ honest.

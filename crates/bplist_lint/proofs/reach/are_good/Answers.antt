@@ -1,55 +1,13 @@
 use Rattle.std.proofs.Common.{◌≡◌, ◌+◌, ◌-◌, ◌<◌, arith, rules, inl, inr, ap, sym, ◌∙◌}
-use Rattle.std.proofs.lemmas.Grind.{common_steps}
 use Rattle.std.proofs.lemmas.Bool.{cases_lt, cases_eq}
 use Rattle.bplist_objects.specs.declared.frame.Frame.{Frame}
 use Rattle.bplist_objects.specs.Framed.{frame_in}
 use Rattle.bplist_objects.specs.Safe.{ref_count}
 use Rattle.bplist_objects.specs.Scan.{nth_number}
-use Rattle.bplist_objects.proofs.BodyLaws.{refs_fit}
 use Rattle.bplist_lint.specs.ReachSearch.{place_index, reference_at}
-use Rattle.bplist_lint.proofs.ReachSteps.{size_small, numbers_low, reference_at_k, all_good, some_there}
+use Rattle.bplist_lint.proofs.ReachSteps.{reference_at_k, all_good, some_there}
 use Rattle.bplist_lint.proofs.BitCounts.{count_more}
 use Rattle.bplist_lint.proofs.reach.are_good.Goals as goal
-
-pub refs_of-requires : goal.refs_of-requires
-refs_of-requires g c =
-    let F : Frame = frame_in (g.P.Source.means c.args.src.now) in
-    let h = c.args.head.now in
-    let fit = refs_fit F.ref_size h.count h.kind c.frame-frame.ensures.framed.safe.safe.ref_low in
-    omega (arith, fit.1, c.requires.head.body)
-
-pub overflow_add-end : goal.overflow_add-end
-overflow_add-end g c =
-    let f = (g.P.Source.means c.args.src.now).octets in
-    let F : Frame = frame_in (g.P.Source.means c.args.src.now) in
-    let h = c.args.head.now in
-    let low = numbers_low f F h c.frame-frame.ensures.framed.safe.safe.ref_low c.requires.head in
-    let few = size_small F in
-    omega (arith, low, few, c.frame-frame.ensures.framed.safe.small, c.place_index-first.ensures, c.refs_of.ensures, c.frame-frame.ensures.framed.safe.safe.ref_high)
-
-pub next_outside-number-requires : goal.next_outside-number-requires
-next_outside-number-requires g c =
-    let f = (g.P.Source.means c.args.src.now).octets in
-    let F : Frame = frame_in (g.P.Source.means c.args.src.now) in
-    let h = c.args.head.now in
-    let low = numbers_low f F h c.frame-frame.ensures.framed.safe.safe.ref_low c.requires.head in
-    omega (arith, low, c.place_index-first.ensures, c.requires.size)
-
-pub insert-requires : goal.insert-requires
-insert-requires g c =
-    let f = (g.P.Source.means c.args.src.now).octets in
-    let F : Frame = frame_in (g.P.Source.means c.args.src.now) in
-    let h = c.args.head.now in
-    let low = numbers_low f F h c.frame-frame.ensures.framed.safe.safe.ref_low c.requires.head in
-    omega (arith, low, c.loop-number-test.true, c.place_index-first.ensures, c.refs_of.ensures, c.loop-number.invariant.size, c.requires.size)
-
-pub next_outside-number-requires-in-loop-number : goal.next_outside-number-requires-in-loop-number
-next_outside-number-requires-in-loop-number g c =
-    let f = (g.P.Source.means c.args.src.now).octets in
-    let F : Frame = frame_in (g.P.Source.means c.args.src.now) in
-    let h = c.args.head.now in
-    let low = numbers_low f F h c.frame-frame.ensures.framed.safe.safe.ref_low c.requires.head in
-    omega (arith, low, c.loop-number-test.true, c.place_index-first.ensures, c.refs_of.ensures, c.insert.ensures.size, c.loop-number.invariant.size, c.requires.size)
 
 pub loop-number-preserved : goal.loop-number-preserved
 loop-number-preserved g c =
@@ -58,18 +16,17 @@ loop-number-preserved g c =
     let h = c.args.head.now in
     let i = c.loop-number.invariant in
     let j = c.loop-number.number in
-    let k = j - c.place_index-first.result in
-    let below : k < ref_count h.kind h.count = omega (arith, c.loop-number-test.true, c.refs_of.ensures, i.from) in
-    let back : place_index F h.body + k ≡ j = omega (arith, c.place_index-first.ensures, i.from) in
+    let k = j - c.ref_numbers-first.result.0 in
+    let below : k < ref_count h.kind h.count = omega (arith, c.loop-number-test.true, c.ref_numbers-first.ensures.end, i.from) in
+    let back : place_index F h.body + k ≡ j = omega (arith, c.ref_numbers-first.ensures.first, i.from) in
     let at_j : reference_at f F j ≡ nth_number f h.body F.ref_size k = ap (reference_at f F) (sym back) ∙ reference_at_k f F h c.frame-frame.ensures.framed.safe.safe.ref_low c.requires.head k below in
     let next = c.next_outside-number-in-loop-number.ensures in
     let same = ap (λ v. v.items) next.words in
     record {
       reads = c.in_ok-reference.ensures.reads ∙ i.reads;
       asked =
-          (let low = numbers_low f F h c.frame-frame.ensures.framed.safe.safe.ref_low c.requires.head in
-          let inside : j < c.args.good.now.size = omega (arith, low, c.loop-number-test.true, c.place_index-first.ensures, c.refs_of.ensures, c.requires.size) in
-          let more = count_more c.loop-number.good.words.items c.insert.new.self.words.items j c.args.good.now.size inside (i.outside inside) c.insert.ensures.here c.insert.ensures.keeps c.insert.ensures.only in
+          (let inside : j < c.args.good.now.size = omega (arith, c.ref_numbers-first.ensures.within, c.loop-number-test.true, c.requires.size) in
+          let more = count_more c.loop-number.good.words.items c.insert.new.self.words.items j c.args.good.now.size inside (i.outside inside) c.insert.ensures.here c.insert.ensures.keeps in
           let one = rw c.frame-frame.ensures.frame at c.in_ok-reference.ensures.asks in
           rw same (omega (arith, i.asked, more, one, c.frame-frame.ensures.framed.safe.safe.ref_high)));
       size = next.size ∙ c.insert.ensures.size ∙ i.size;
@@ -97,12 +54,6 @@ returns-clause-exact g c = λ honest known.
     let F : Frame = frame_in (g.P.Source.means c.args.src.now) in
     let h = c.args.head.now in
     let i = c.loop-number.invariant in (
-      (λ _. all_good f F h c.frame-frame.ensures.framed.safe.safe.ref_low c.requires.head c.loop-number.good.words.items (i.good honest known) (λ k low. i.known _ (omega (arith, c.place_index-first.ensures)) (omega (arith, low, c.loop-number-test.false, c.place_index-first.ensures, c.refs_of.ensures)))),
+      (λ _. all_good f F h c.frame-frame.ensures.framed.safe.safe.ref_low c.requires.head c.loop-number.good.words.items (i.good honest known) (λ k low. i.known _ (omega (arith, c.ref_numbers-first.ensures.first)) (omega (arith, low, c.loop-number-test.false, c.ref_numbers-first.ensures.first, c.ref_numbers-first.ensures.end)))),
       (λ _. search rules),
     )
-
-pub loop-number-init : goal.loop-number-init
-loop-number-init g c = grind (arith, common_steps)
-
-pub overflow_add-number : goal.overflow_add-number
-overflow_add-number g c = grind (arith, common_steps)

@@ -1,5 +1,4 @@
 use Rattle.std.proofs.Common.{◌≡◌, ◌+◌, ◌-◌, ◌<◌, false, length, arith, inl, inr, ap, sym, subst, ◌∙◌}
-use Rattle.std.proofs.lemmas.Grind.{common_steps}
 use Rattle.std.proofs.lemmas.Bool.{cases_lt, cases_eq}
 use Rattle.std.proofs.lemmas.List.{get_or_read}
 use Rattle.bplist_objects.specs.declared.frame.Frame.{Frame}
@@ -7,65 +6,16 @@ use Rattle.bplist_objects.specs.Framed.{frame_in}
 use Rattle.bplist_objects.specs.Heads.{content_at, refs}
 use Rattle.bplist_objects.specs.Safe.{ref_count}
 use Rattle.bplist_objects.specs.Scan.{nth_number}
-use Rattle.bplist_objects.proofs.BodyLaws.{refs_fit}
 use Rattle.bplist_objects.proofs.References.{length-refs, nth-refs}
 use Rattle.bplist_keys.specs.Marks.{IsMarked}
 use Rattle.bplist_lint.specs.ReachSearch.{place_index, reference_at}
 use Rattle.bplist_lint.specs.declared.bit_set.BitSet.{BitSet}
 use Rattle.bplist_lint.specs.declared.reach.ReachSearch.{ReachSearch}
-use Rattle.bplist_lint.proofs.ReachSteps.{Takes, takes_new, takes_old, size_small, numbers_low, reference_at_k, all_marked}
+use Rattle.bplist_lint.proofs.ReachSteps.{Takes, takes_new, takes_old, reference_at_k, all_marked}
 use Rattle.bplist_lint.proofs.HeightSteps.{among_at}
 use Rattle.bplist_lint.proofs.BitCounts.{count_more}
 use Rattle.bplist_lint.proofs.reach.follow.Goals as goal
 use Rattle.bplist_lint.proofs.reach.follow.Goals.{then-not-index+in_ok-push, else-not-index}
-
-pub refs_of-requires : goal.refs_of-requires
-refs_of-requires g c =
-    let F : Frame = frame_in (g.P.Source.means c.args.src.now) in
-    let h = c.args.head.now in
-    let fit = refs_fit F.ref_size h.count h.kind c.frame-frame.ensures.framed.safe.safe.ref_low in
-    omega (arith, fit.1, c.requires.head.body)
-
-pub overflow_add-end : goal.overflow_add-end
-overflow_add-end g c =
-    let f = (g.P.Source.means c.args.src.now).octets in
-    let F : Frame = frame_in (g.P.Source.means c.args.src.now) in
-    let h = c.args.head.now in
-    let low = numbers_low f F h c.frame-frame.ensures.framed.safe.safe.ref_low c.requires.head in
-    let few = size_small F in
-    omega (arith, low, few, c.frame-frame.ensures.framed.safe.small, c.place_index-first.ensures, c.refs_of.ensures, c.frame-frame.ensures.framed.safe.safe.ref_high)
-
-pub next_outside-number-requires : goal.next_outside-number-requires
-next_outside-number-requires g c =
-    let f = (g.P.Source.means c.args.src.now).octets in
-    let F : Frame = frame_in (g.P.Source.means c.args.src.now) in
-    let h = c.args.head.now in
-    let low = numbers_low f F h c.frame-frame.ensures.framed.safe.safe.ref_low c.requires.head in
-    omega (arith, low, c.place_index-first.ensures, c.requires.ready.followed_size)
-
-pub insert-requires : goal.insert-requires
-insert-requires g c =
-    let f = (g.P.Source.means c.args.src.now).octets in
-    let F : Frame = frame_in (g.P.Source.means c.args.src.now) in
-    let h = c.args.head.now in
-    let low = numbers_low f F h c.frame-frame.ensures.framed.safe.safe.ref_low c.requires.head in
-    let same : c.if-not-index.search.followed.size ≡ c.loop-number.search.followed.size = elim c.if-not-index.branch [
-      | then-not-index+in_ok-push w ↦ ap (λ (s : ReachSearch). s.followed.size) w.search-is
-      | else-not-index w ↦ ap (λ (s : ReachSearch). s.followed.size) w.search-is
-    ] in
-    omega (arith, low, same, c.loop-number-test.true, c.place_index-first.ensures, c.refs_of.ensures, c.loop-number.invariant.ready.followed_size)
-
-pub next_outside-number-requires-in-loop-number : goal.next_outside-number-requires-in-loop-number
-next_outside-number-requires-in-loop-number g c =
-    let f = (g.P.Source.means c.args.src.now).octets in
-    let F : Frame = frame_in (g.P.Source.means c.args.src.now) in
-    let h = c.args.head.now in
-    let low = numbers_low f F h c.frame-frame.ensures.framed.safe.safe.ref_low c.requires.head in
-    let same : c.if-not-index.search.followed.size ≡ c.loop-number.search.followed.size = elim c.if-not-index.branch [
-      | then-not-index+in_ok-push w ↦ ap (λ (s : ReachSearch). s.followed.size) w.search-is
-      | else-not-index w ↦ ap (λ (s : ReachSearch). s.followed.size) w.search-is
-    ] in
-    omega (arith, low, same, c.loop-number-test.true, c.place_index-first.ensures, c.refs_of.ensures, c.insert.ensures.size, c.loop-number.invariant.ready.followed_size)
 
 pub loop-number-preserved : goal.loop-number-preserved
 loop-number-preserved g c =
@@ -74,9 +24,9 @@ loop-number-preserved g c =
     let h = c.args.head.now in
     let i = c.loop-number.invariant in
     let j = c.loop-number.number in
-    let k = j - c.place_index-first.result in
-    let low : k < ref_count h.kind h.count = omega (arith, c.loop-number-test.true, c.refs_of.ensures, i.from) in
-    let back : place_index F h.body + k ≡ j = omega (arith, c.place_index-first.ensures, i.from) in
+    let k = j - c.ref_numbers-first.result.0 in
+    let low : k < ref_count h.kind h.count = omega (arith, c.loop-number-test.true, c.ref_numbers-first.ensures.end, i.from) in
+    let back : place_index F h.body + k ≡ j = omega (arith, c.ref_numbers-first.ensures.first, i.from) in
     let at_j : reference_at f F j ≡ nth_number f h.body F.ref_size k = ap (reference_at f F) (sym back) ∙ reference_at_k f F h c.frame-frame.ensures.framed.safe.safe.ref_low c.requires.head k low in
     let before = c.loop-number.search in
     let marks = before.marks.items in
@@ -103,9 +53,8 @@ loop-number-preserved g c =
     record {
       reads = c.in_ok-reference.ensures.reads ∙ i.reads;
       asked =
-          (let low = numbers_low f F h c.frame-frame.ensures.framed.safe.safe.ref_low c.requires.head in
-          let inside : j < c.args.search.now.followed.size = omega (arith, low, c.loop-number-test.true, c.place_index-first.ensures, c.refs_of.ensures, c.requires.ready.followed_size) in
-          let more = count_more before.followed.words.items c.insert.new.self.words.items j c.args.search.now.followed.size inside (i.outside inside) put.here put.keeps put.only in
+          (let inside : j < c.args.search.now.followed.size = omega (arith, c.ref_numbers-first.ensures.within, c.loop-number-test.true, c.requires.ready.followed_size) in
+          let more = count_more before.followed.words.items c.insert.new.self.words.items j c.args.search.now.followed.size inside (i.outside inside) put.here put.keeps in
           let one = rw c.frame-frame.ensures.frame at c.in_ok-reference.ensures.asks in
           rw same (omega (arith, i.asked, more, one, c.frame-frame.ensures.framed.safe.safe.ref_high)));
       outside = rw same (λ low. next.outside (omega (arith, low, put.size, i.ready.followed_size, c.requires.ready.followed_size)));
@@ -149,9 +98,6 @@ returns-clause-exact g c = λ honest below all.
     let i = c.loop-number.invariant in
     let followed = i.followed honest below all in (
       i.looked honest below all,
-      all_marked f F h c.frame-frame.ensures.framed.safe.safe.ref_low c.requires.head c.loop-number.search.followed.words.items c.loop-number.search.marks.items followed (λ k low. i.known _ (omega (arith, c.place_index-first.ensures)) (omega (arith, low, c.loop-number-test.false, c.place_index-first.ensures, c.refs_of.ensures))),
+      all_marked f F h c.frame-frame.ensures.framed.safe.safe.ref_low c.requires.head c.loop-number.search.followed.words.items c.loop-number.search.marks.items followed (λ k low. i.known _ (omega (arith, c.ref_numbers-first.ensures.first)) (omega (arith, low, c.loop-number-test.false, c.ref_numbers-first.ensures.first, c.ref_numbers-first.ensures.end))),
       followed,
     )
-
-pub overflow_add-number : goal.overflow_add-number
-overflow_add-number g c = grind (arith, common_steps)

@@ -91,10 +91,3 @@ returns-in_err-starts-2-clause-asks g c = λ honest marks only.
     let one = (rw v.reads at c.list_object.ensures.asks) honest in
     let all = extents_on f F (is_marked marks) (n + 1) F.objects low in
     omega (arith, v.asked honest marks only, own, one, all, low)
-
-pub returns-clause-asks : goal.returns-clause-asks
-returns-clause-asks g c = λ honest marks only.
-    let F : Frame = frame_in (g.P.Source.means c.args.src.now) in
-    let last : c.loop-n.n ≡ F.objects = (let low = rw c.frame-frame.ensures.frame at c.loop-n-test.false in grind (arith, common_steps)) in
-    let told = rw last at (c.loop-n.invariant.asked honest marks only) in
-    omega (arith, told)

@@ -1,10 +1,10 @@
-use Rattle.std.proofs.Common.{◌≡◌, ◌∙◌, sym, length, arith}
+use Rattle.std.proofs.Common.{◌≡◌, ◌≤◌, ◌+◌, ◌∙◌, sym, length, arith}
 use Rattle.std.proofs.lemmas.Bool.{false≢true}
 use Rattle.std.proofs.lemmas.Option.{same_Some}
 use Rattle.std.proofs.lemmas.Result.{err_from_is_err_and}
 use Rattle.bplist_objects.specs.declared.frame.Frame.{Frame}
 use Rattle.bplist_objects.specs.declared.head.Kind.TheVariants as kinds
-use Rattle.bplist_objects.specs.Framed.{frame_in}
+use Rattle.bplist_objects.specs.Framed.{HonestlyIn, frame_in}
 use Rattle.bplist_objects.proofs.FirstFaults.{no_shape}
 use Rattle.bplist_objects.proofs.HeadTies.{announced_shape, shape_announced, shape_tie}
 use Rattle.bplist_cert.proofs.CheckSteps.{object_refused}
@@ -13,6 +13,9 @@ use Rattle.bplist_lint.proofs.ExtentBytes.{keys_bytes}
 use Rattle.bplist_lint.proofs.KeyLists.{have_ranks}
 use Rattle.bplist_cert.proofs.AcceptedCertificates.{vouched_keys}
 use Rattle.bplist_lint.proofs.ListSteps.{listed_other, listed_dict, listed_room}
+use Rattle.bplist_lint.specs.ReachWalk.{extent}
+use Rattle.bplist_lint.proofs.upgrader.list_object.Given.{Over}
+use Rattle.bplist_lint.proofs.upgrader.list_object.Goals.{After-list}
 use Rattle.bplist_lint.proofs.upgrader.list_object.Goals as goal
 
 pub returns-in_default-clause-exact : goal.returns-in_default-clause-exact
@@ -93,24 +96,20 @@ returns-in_default-kind g c = record {
       listed_other f F heights n starts c.args.lists.now.positions.items l v room head shape c.in_default-kind.not-Dict;
 }
 
-pub returns-in_err-list-in-Dict-clause-asks : goal.returns-in_err-list-in-Dict-clause-asks
-returns-in_err-list-in-Dict-clause-asks g c = λ honest.
+-- what was asked for with the key list
+asked : (g : Over) (c : After-list g) → HonestlyIn (g.P.Source.means c.args.src.now) (λ f F. g.P.Source.asked c.list.new.src ≤ g.P.Source.asked c.args.src.now + (53 + extent f F c.args.n))
+asked g c honest =
     let f = (g.P.Source.means c.args.src.now).octets in
     let F : Frame = frame_in (g.P.Source.means c.args.src.now) in
     let framed = c.frame-frame.ensures.framed in
     let head = c.in_ok-head.head in
     let has = (rw c.in_ok-kind.ensures.reads at c.in_ok-head.ensures.rules) honest in
     let shape = announced_shape f F c.args.n (framed.framed honest) c.requires.within head has.0 has.1 in
-    let read = rw (c.in_ok-head.ensures.reads, c.in_ok-kind.ensures.reads) at c.in_err-list-in-Dict.ensures.asks in
+    let read = rw (c.in_ok-head.ensures.reads, c.in_ok-kind.ensures.reads) at c.list.ensures.asks in
     omega (arith, c.in_ok-kind.ensures.asks, c.in_ok-head.ensures.asks, read, keys_bytes f F c.args.n head framed.safe.safe.ref_low c.in-Dict.is shape)
 
+pub returns-in_err-list-in-Dict-clause-asks : goal.returns-in_err-list-in-Dict-clause-asks
+returns-in_err-list-in-Dict-clause-asks g c = asked g (goal.at.returns-in_err-list-in-Dict-clause-asks g c).After-list
+
 pub returns-in_ok-list-in-Dict-clause-asks : goal.returns-in_ok-list-in-Dict-clause-asks
-returns-in_ok-list-in-Dict-clause-asks g c = λ honest.
-    let f = (g.P.Source.means c.args.src.now).octets in
-    let F : Frame = frame_in (g.P.Source.means c.args.src.now) in
-    let framed = c.frame-frame.ensures.framed in
-    let head = c.in_ok-head.head in
-    let has = (rw c.in_ok-kind.ensures.reads at c.in_ok-head.ensures.rules) honest in
-    let shape = announced_shape f F c.args.n (framed.framed honest) c.requires.within head has.0 has.1 in
-    let read = rw (c.in_ok-head.ensures.reads, c.in_ok-kind.ensures.reads) at c.in_ok-list-in-Dict.ensures.asks in
-    omega (arith, c.in_ok-kind.ensures.asks, c.in_ok-head.ensures.asks, read, keys_bytes f F c.args.n head framed.safe.safe.ref_low c.in-Dict.is shape)
+returns-in_ok-list-in-Dict-clause-asks g c = asked g (goal.at.returns-in_ok-list-in-Dict-clause-asks g c).After-list

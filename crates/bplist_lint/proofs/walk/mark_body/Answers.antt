@@ -1,5 +1,4 @@
 use Rattle.std.proofs.Common.{◌≡◌, ◌*◌, ap, ◌+◌, ◌<◌, ◌≤◌, arith, inl, inr, length, refl, sym, ◌∙◌}
-use Rattle.std.proofs.lemmas.Grind.{common_steps}
 use Rattle.bplist_objects.specs.declared.frame.Frame.{Frame}
 use Rattle.bplist_objects.specs.Framed.{frame_in}
 use Rattle.bplist_objects.specs.Heads.{content_at, refs}
@@ -50,9 +49,6 @@ loop-refs-preserved g c =
           (λ k low. block.numbers honest k low ∙ sym (nth-refs f F h.kind h.count h.body (from + k) (omega (arith, low, most))))
           (rw i.worked.current at marked.noted));
     }
-
-pub returns-clause-exact : goal.returns-clause-exact
-returns-clause-exact g c = grind (arith, common_steps)
 
 pub returns-in_err-read-clause-asks : goal.returns-in_err-read-clause-asks
 returns-in_err-read-clause-asks g c =

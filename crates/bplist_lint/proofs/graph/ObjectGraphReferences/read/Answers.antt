@@ -23,6 +23,3 @@ returns-clause-value g c = λ honest whole.
     let numbers = (rw (c.in_ok-head.ensures.reads, c.hides-hidden.ensures) at c.in_ok-read_block.ensures.numbers) honest in
     part_is _ _ _ _ _ has whole c.args.i count block (omega (arith, room, c.min-count.ensures, c.saturating_sub.ensures, c.saturating_sub-shown.ensures, c.hides-hidden.ensures, c.refs_of.ensures))
     (λ k low below. get_or_append_left part (drop count c.args.block.now) 0 k (omega (arith, low, long)) ∙ numbers k (omega (arith, low, long)) below)
-
-pub returns-clause-inside : goal.returns-clause-inside
-returns-clause-inside g c = grind (arith, common_steps)

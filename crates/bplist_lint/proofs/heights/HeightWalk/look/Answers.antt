@@ -1,80 +1,13 @@
-use Rattle.std.proofs.Common.{◌≡◌, ◌≢◌, ◌+◌, ◌-◌, ◌*◌, ◌^◌, ◌<◌, ◌≤◌, max, length, take, refl, sym, arith, ◌∙◌}
-use Rattle.std.proofs.lemmas.Bool.{cond_both, eqb-true, eqb-false}
+use Rattle.std.proofs.Common.{◌≡◌, ◌≢◌, ◌+◌, max, length, take, refl, arith, ◌∙◌}
+use Rattle.std.proofs.lemmas.Bool.{eqb-true, eqb-false}
 use Rattle.std.proofs.lemmas.Grind.{common_steps}
-use Rattle.std.proofs.lemmas.List.{length-take, get_or-take}
-use Rattle.std.proofs.lemmas.Result.{err_from_is_err_and}
+use Rattle.std.proofs.lemmas.List.{length-take}
 use Rattle.bplist_lint.specs.HeightWalks.{state_at}
 use Rattle.bplist_lint.specs.declared.heights.State.TheVariants.{Founded}
 use Rattle.bplist_lint.proofs.ReferenceParts.{contains_part, item_at, part_all, part_on}
 use Rattle.bplist_lint.proofs.HeightSteps.{greatest_part}
 use Rattle.bplist_lint.proofs.HeightCosts.{scan_more, scan_within, scan_block}
 use Rattle.bplist_lint.proofs.heights.HeightWalk.look.Goals as goal
-
-pub loop-more-init : goal.loop-more-init
-loop-more-init g c = record {
-  same = refl;
-  reads = refl;
-  width = refl;
-  behind = omega arith;
-  counted = let none : c.args.from - c.args.from ≡ 0 = omega arith in rw none (omega (arith, c.requires.some));
-  counted_more = λ _. let none : c.args.from - c.args.from ≡ 0 = omega arith in rw none (omega (arith, c.requires.some));
-  room = refl;
-  some = c.requires.some;
-  few = c.requires.few;
-  low = λ bound all. omega arith;
-  looked = λ honest whole start. rw start (omega arith, λ k low. absurd (omega (arith, low)), refl, λ less. absurd (cc less));
-  passed = λ honest whole within. (within, λ k on low. absurd (omega (arith, on, low)), λ less. absurd (cc less));
-}
-
-pub slice_bounds-buffer-end : goal.slice_bounds-buffer-end
-slice_bounds-buffer-end g c = let i = c.loop-more.invariant in omega (arith, i.few, i.room)
-
-pub read-requires-clause-n_in : goal.read-requires-clause-n_in
-read-requires-clause-n_in g c = rw c.loop-more.invariant.same c.requires.n_in
-
-pub read-requires-clause-few : goal.read-requires-clause-few
-read-requires-clause-few g c = let i = c.loop-more.invariant in omega (arith, i.few, length-take c.loop-more.portion c.loop-more.buffer)
-
-pub returns-in_err-count-clause-same : goal.returns-in_err-count-clause-same
-returns-in_err-count-clause-same g c = c.read.ensures.same ∙ c.loop-more.invariant.same
-
-pub returns-in_err-count-clause-reads : goal.returns-in_err-count-clause-reads
-returns-in_err-count-clause-reads g c =
-    let p = err_from_is_err_and c.from_residual.result c.from_residual.ensures.1 in
-    rw (p.1, p.2) (rw c.loop-more.invariant.reads at c.in_err-count.ensures.reads)
-
-pub returns-in_err-count-clause-finds : goal.returns-in_err-count-clause-finds
-returns-in_err-count-clause-finds g c =
-    let p = err_from_is_err_and c.from_residual.result c.from_residual.ensures.1 in rw p.1 tt
-
-pub returns-in_err-count-clause-shows : goal.returns-in_err-count-clause-shows
-returns-in_err-count-clause-shows g c = λ honest whole.
-    let p = err_from_is_err_and c.from_residual.result c.from_residual.ensures.1 in rw p.1 tt
-
-pub look_at-requires-clause-inside : goal.look_at-requires-clause-inside
-look_at-requires-clause-inside g c = λ k low.
-    let under : k < c.in_ok-count.count = omega (arith, low, length-take c.in_ok-count.count c.read.new.block) in
-    let inside = c.in_ok-count.ensures.inside k under in
-    rw (get_or-take c.in_ok-count.count c.read.new.block k 0 under, c.requires.all_states) (rw c.loop-more.invariant.same at inside)
-
-pub look_at-requires-clause-all : goal.look_at-requires-clause-all
-look_at-requires-clause-all g c = c.requires.all_heights ∙ sym c.requires.all_states
-
-pub overflow_add-result : goal.overflow_add-result
-overflow_add-result g c =
-    let bounded = c.in_ok-count.ensures.bounded in
-    let within = c.in-New.ensures.shows.0 in
-    omega (arith, bounded, within, length-take c.in_ok-count.count c.read.new.block)
-
-pub returns-in-New-clause-same : goal.returns-in-New-clause-same
-returns-in-New-clause-same g c = c.read.ensures.same ∙ c.loop-more.invariant.same
-
-pub returns-in-New-clause-reads : goal.returns-in-New-clause-reads
-returns-in-New-clause-reads g c = c.in_ok-count.ensures.reads ∙ c.loop-more.invariant.reads
-
-pub returns-in-New-clause-finds : goal.returns-in-New-clause-finds
-returns-in-New-clause-finds g c =
-    let finds = c.in-New.ensures.finds in (omega (arith, finds.0, c.requires.all_states), finds.1)
 
 pub returns-in-New-clause-shows : goal.returns-in-New-clause-shows
 returns-in-New-clause-shows g c = λ honest whole.
@@ -83,33 +16,12 @@ returns-in-New-clause-shows g c = λ honest whole.
     let shows = c.in-New.ensures.shows in
     item_at _ _ _ _ part c.in-New.k c.in-New.m shows.0 shows.1
 
-pub returns-in-Circular-clause-same : goal.returns-in-Circular-clause-same
-returns-in-Circular-clause-same g c = c.read.ensures.same ∙ c.loop-more.invariant.same
-
-pub returns-in-Circular-clause-reads : goal.returns-in-Circular-clause-reads
-returns-in-Circular-clause-reads g c = c.in_ok-count.ensures.reads ∙ c.loop-more.invariant.reads
-
 pub returns-in-Circular-clause-shows : goal.returns-in-Circular-clause-shows
 returns-in-Circular-clause-shows g c = λ honest whole.
     let i = c.loop-more.invariant in
     let part = (rw (i.same, i.reads) at c.in_ok-count.ensures.value) honest whole in
     let shows = rw c.in-Circular.is at c.look_at.ensures.shows in
     (shows.0, contains_part _ _ _ _ part shows.0 shows.1, shows.2)
-
-pub overflow_add-done : goal.overflow_add-done
-overflow_add-done g c = let bounded = c.in_ok-count.ensures.bounded in omega (arith, bounded)
-
-pub overflow_mul-portion : goal.overflow_mul-portion
-overflow_mul-portion g c = let few = c.loop-more.invariant.few in omega (arith, few)
-
-pub loop-more-smaller : goal.loop-more-smaller
-loop-more-smaller g c =
-    let done = c.loop-more.done in
-    let count = c.in_ok-count.count in
-    let bounded = c.in_ok-count.ensures.bounded in
-    rw c.loop-more-test.true (cond_both _ 1 0 (λ x. 2 * (2 ^ 64 - (done + count)) + x < 2 * (2 ^ 64 - done) + 1)
-    (λ full. let all = eqb-true count c.loop-more.portion full in omega (arith, all, bounded, c.loop-more.invariant.some))
-    (λ less. omega (arith, bounded)))
 
 pub loop-more-preserved : goal.loop-more-preserved
 loop-more-preserved g c =
@@ -118,13 +30,12 @@ loop-more-preserved g c =
     let heights = c.args.self.now.heights.items in
     let best : c.max-best.result ≡ max c.loop-more.best c.in-Founded.height = grind (arith, common_steps) in
     let long : length c.read.new.block ≡ c.loop-more.portion = grind (arith, common_steps) in
-    let asked = rw i.width at c.in_ok-count.ensures.asks in
-    let scanned = scan_more _ _ _ c.args.from c.loop-more.done c.in_ok-count.count c.loop-more.portion c.min-portion.result (g.R.References.width c.args.graph.now)
+    let asked = rw i.same at c.in_ok-count.ensures.asks in
+    let scanned = scan_more _ _ _ c.args.from c.loop-more.done c.in_ok-count.count c.loop-more.portion c.min-portion.result (g.R.References.graph c.args.graph.now).width
     (i.counted_more c.loop-more-test.true) asked i.behind (omega (arith, i.few, c.min-portion.ensures)) (omega (arith, i.some, i.few, c.min-portion.ensures)) in
     record {
       same = c.read.ensures.same ∙ i.same;
       reads = c.in_ok-count.ensures.reads ∙ i.reads;
-      width = c.read.ensures.width ∙ i.width;
       behind = omega (arith, i.behind);
       counted = scanned.0;
       counted_more = λ full. scanned.1 (eqb-true c.in_ok-count.count c.loop-more.portion full);
@@ -152,34 +63,11 @@ loop-more-preserved g c =
           );
     }
 
-pub returns-clause-same : goal.returns-clause-same
-returns-clause-same g c = c.loop-more.invariant.same
-
-pub returns-clause-reads : goal.returns-clause-reads
-returns-clause-reads g c = c.loop-more.invariant.reads
-
-pub returns-clause-finds : goal.returns-clause-finds
-returns-clause-finds g c = c.loop-more.invariant.low
-
-pub returns-in_err-count-clause-width : goal.returns-in_err-count-clause-width
-returns-in_err-count-clause-width g c = c.read.ensures.width ∙ c.loop-more.invariant.width
-
-pub returns-in_err-count-clause-passes : goal.returns-in_err-count-clause-passes
-returns-in_err-count-clause-passes g c = λ honest whole within.
-    let p = err_from_is_err_and c.from_residual.result c.from_residual.ensures.1 in rw p.1 tt
-
-pub returns-in_err-count-clause-asks : goal.returns-in_err-count-clause-asks
-returns-in_err-count-clause-asks g c = λ honest whole within.
-    let p = err_from_is_err_and c.from_residual.result c.from_residual.ensures.1 in rw p.1 tt
-
 pub returns-in_err-count-clause-asks_any : goal.returns-in_err-count-clause-asks_any
 returns-in_err-count-clause-asks_any g c = λ honest whole within.
     let i = c.loop-more.invariant in
     let o = i.passed honest whole within in
-    scan_within _ _ c.args.from c.loop-more.done _ 496 (g.R.References.width c.args.graph.now) (omega (arith, i.counted_more c.loop-more-test.true, i.few, c.read.ensures.asks_any)) o.0 (omega arith)
-
-pub returns-in-New-clause-width : goal.returns-in-New-clause-width
-returns-in-New-clause-width g c = c.read.ensures.width ∙ c.loop-more.invariant.width
+    scan_within _ _ c.args.from c.loop-more.done _ 496 (g.R.References.graph c.args.graph.now).width (omega (arith, i.counted_more c.loop-more-test.true, i.few, c.read.ensures.asks_any)) o.0 (omega arith)
 
 pub returns-in-New-clause-passes : goal.returns-in-New-clause-passes
 returns-in-New-clause-passes g c = λ honest whole within.
@@ -192,47 +80,36 @@ returns-in-New-clause-passes g c = λ honest whole within.
 pub returns-in-New-clause-asks : goal.returns-in-New-clause-asks
 returns-in-New-clause-asks g c = λ honest whole within.
     let i = c.loop-more.invariant in
-    scan_within _ _ c.args.from c.loop-more.done (c.loop-more.done + c.in-New.k) 460 (g.R.References.width c.args.graph.now) (omega (arith, i.counted_more c.loop-more-test.true, i.few, c.read.ensures.asks_any)) (omega arith) (omega arith)
+    scan_within _ _ c.args.from c.loop-more.done (c.loop-more.done + c.in-New.k) 460 (g.R.References.graph c.args.graph.now).width (omega (arith, i.counted_more c.loop-more-test.true, i.few, c.read.ensures.asks_any)) (omega arith) (omega arith)
 
 pub returns-in-New-clause-asks_any : goal.returns-in-New-clause-asks_any
 returns-in-New-clause-asks_any g c = λ honest whole within.
     let i = c.loop-more.invariant in
     let o = i.passed honest whole within in
-    scan_within _ _ c.args.from c.loop-more.done _ 496 (g.R.References.width c.args.graph.now) (omega (arith, i.counted_more c.loop-more-test.true, i.few, c.read.ensures.asks_any)) o.0 (omega arith)
-
-pub returns-in-Circular-clause-width : goal.returns-in-Circular-clause-width
-returns-in-Circular-clause-width g c = c.read.ensures.width ∙ c.loop-more.invariant.width
+    scan_within _ _ c.args.from c.loop-more.done _ 496 (g.R.References.graph c.args.graph.now).width (omega (arith, i.counted_more c.loop-more-test.true, i.few, c.read.ensures.asks_any)) o.0 (omega arith)
 
 pub returns-in-Circular-clause-asks : goal.returns-in-Circular-clause-asks
 returns-in-Circular-clause-asks g c = λ honest whole within.
     let i = c.loop-more.invariant in
     let o = i.passed honest whole within in
     let part = (rw (i.same, i.reads) at c.in_ok-count.ensures.value) honest whole in
-    let asked = rw i.width at c.in_ok-count.ensures.asks in
-    scan_within _ _ c.args.from (c.loop-more.done + c.in_ok-count.count) _ 204 (g.R.References.width c.args.graph.now) (scan_block _ _ _ c.args.from c.loop-more.done c.in_ok-count.count c.loop-more.portion (g.R.References.width c.args.graph.now) (i.counted_more c.loop-more-test.true) asked i.behind i.few) (omega (arith, o.0, part.0)) (omega arith)
+    let asked = rw i.same at c.in_ok-count.ensures.asks in
+    scan_within _ _ c.args.from (c.loop-more.done + c.in_ok-count.count) _ 204 (g.R.References.graph c.args.graph.now).width (scan_block _ _ _ c.args.from c.loop-more.done c.in_ok-count.count c.loop-more.portion (g.R.References.graph c.args.graph.now).width (i.counted_more c.loop-more-test.true) asked i.behind i.few) (omega (arith, o.0, part.0)) (omega arith)
 
 pub returns-in-Circular-clause-asks_any : goal.returns-in-Circular-clause-asks_any
 returns-in-Circular-clause-asks_any g c = λ honest whole within.
     let i = c.loop-more.invariant in
     let o = i.passed honest whole within in
-    scan_within _ _ c.args.from c.loop-more.done _ 496 (g.R.References.width c.args.graph.now) (omega (arith, i.counted_more c.loop-more-test.true, i.few, c.read.ensures.asks_any)) o.0 (omega arith)
-
-pub returns-clause-width : goal.returns-clause-width
-returns-clause-width g c = c.loop-more.invariant.width
-
-pub returns-clause-passes : goal.returns-clause-passes
-returns-clause-passes g c = λ honest whole within k on low.
-    let o = c.loop-more.invariant.passed honest whole within in
-    o.1 k on (omega (arith, low, o.2 c.loop-more-test.false))
+    scan_within _ _ c.args.from c.loop-more.done _ 496 (g.R.References.graph c.args.graph.now).width (omega (arith, i.counted_more c.loop-more-test.true, i.few, c.read.ensures.asks_any)) o.0 (omega arith)
 
 pub returns-clause-asks : goal.returns-clause-asks
 returns-clause-asks g c = λ honest whole within.
     let i = c.loop-more.invariant in
     let o = i.passed honest whole within in
-    scan_within _ _ c.args.from c.loop-more.done _ 204 (g.R.References.width c.args.graph.now) (omega (arith, i.counted, i.few)) o.0 (omega arith)
+    scan_within _ _ c.args.from c.loop-more.done _ 204 (g.R.References.graph c.args.graph.now).width (omega (arith, i.counted, i.few)) o.0 (omega arith)
 
 pub returns-clause-asks_any : goal.returns-clause-asks_any
 returns-clause-asks_any g c = λ honest whole within.
     let i = c.loop-more.invariant in
     let o = i.passed honest whole within in
-    scan_within _ _ c.args.from c.loop-more.done _ 496 (g.R.References.width c.args.graph.now) (omega (arith, i.counted, i.few)) o.0 (omega arith)
+    scan_within _ _ c.args.from c.loop-more.done _ 496 (g.R.References.graph c.args.graph.now).width (omega (arith, i.counted, i.few)) o.0 (omega arith)

@@ -9,12 +9,11 @@ invariant-loop-more g l = record {
   same : g.R.References.graph l.graph ≡ g.R.References.graph l.fn.graph;
   reads : g.R.References.means l.graph ≡ g.R.References.means l.fn.graph;
   room : length l.buffer ≡ 32;
-  width : g.R.References.width l.graph ≡ g.R.References.width l.fn.graph;
   behind : l.from ≤ l.done;
   counted : g.R.References.asked l.graph + 192
-      ≤ g.R.References.asked l.fn.graph + 204 + 6 * l.portion + (l.done - l.from) * (3 + g.R.References.width l.fn.graph);
+      ≤ g.R.References.asked l.fn.graph + 204 + 6 * l.portion + (l.done - l.from) * (3 + (g.R.References.graph l.fn.graph).width);
   counted_more : l.more ≡ true → g.R.References.asked l.graph + 192
-      ≤ g.R.References.asked l.fn.graph + 168 + 6 * l.portion + (l.done - l.from) * (3 + g.R.References.width l.fn.graph);
+      ≤ g.R.References.asked l.fn.graph + 168 + 6 * l.portion + (l.done - l.from) * (3 + (g.R.References.graph l.fn.graph).width);
   some : 4 ≤ l.portion;
   few : l.portion ≤ 32;
   low : (bound : ℕ) → ((n : ℕ) → state_at l.self.states.items n ≡ Founded → slice_index l.self.heights.items n ≤ bound) → l.best ≤ bound;

@@ -1,5 +1,4 @@
-use Rattle.std.proofs.Common.{arith, ◌∙◌}
-use Rattle.std.proofs.lemmas.Grind.{common_steps}
+use Rattle.std.proofs.Common.{◌∙◌}
 use Rattle.std.proofs.lemmas.List.{length-map}
 use Rattle.bplist_objects.specs.declared.frame.Frame.{Frame}
 use Rattle.bplist_objects.specs.Framed.{frame_in}
@@ -17,6 +16,3 @@ returns-clause-exact g c = λ honest have.
     let order = in_order f F c.args.head.now c.args.self.now.ranks.table.items have _ are all _ _ s in
     listed f F c.args.head.now c.args.self.now.positions.items c.push_positions.new.positions.items _ c.push_positions.result
     (s.count ∙ (length-map _ (λ key. key.rank) ∙ all)) order (rw c.deref-2.ensures.value at c.push_positions.ensures.pushed) ((rw c.deref-2.ensures.value at c.push_positions.ensures.exact) up)
-
-pub returns-clause-more : goal.returns-clause-more
-returns-clause-more g c = grind (arith, common_steps)
