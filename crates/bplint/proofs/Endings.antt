@@ -1,6 +1,8 @@
 -- How a run ends that leaves an answer, and what its exit status says.
 use Rattle.std.proofs.Common.{◌≡◌, ◌⊎◌, inl, inr, ℕ, ◌≤◌, List, Bool, Option, Some, None, Result, Ok, Err, subst, sym, arith}
 use Rattle.std.proofs.Math.Logic.{∥∥₁_map, ∥∥₁_elim}
+use Rattle.std.proofs.Props.{props}
+use Rattle.std.proofs.lemmas.Grind.{merely}
 use Rattle.bplist_objects.specs.declared.rule.Rule.{Rule}
 use Rattle.bplist_objects.specs.declared.rule.Rule.TheVariants.{PathText}
 use Rattle.bplist_cert.specs.Sound.{IsSound}
