@@ -155,7 +155,7 @@ pub enum Ask<'a> {
 }
 
 impl<'a> Ask<'a> {
-    /// Gives the question these path texts, if it is that of `show` or `get`.
+    /// Only `show` and `get` have path texts.
     fn with_paths(self, paths: Vec<String>) -> Ask<'a> {
         match self {
             Ask::Get { .. } => Ask::Get { paths },

@@ -44,7 +44,6 @@ pub fn tip_for(words: &[String], error: &Error) -> &'static str {
     }
 }
 
-/// Makes the line of a subcommand from its matches.
 fn line_of<'a>(
     alloc: Global,
     name: &str,
@@ -59,7 +58,7 @@ fn line_of<'a>(
     }
 }
 
-/// Returns true if there are lines below a fault: as `--explain` says, or else if a person reads it on a terminal.
+/// Without `--explain` there are lines below a fault if a person reads it on a terminal.
 fn explains(matches: &ArgMatches<'_>, on_terminal: bool) -> bool {
     match matches.get_str("explain") {
         Some("always") => true,
@@ -112,7 +111,6 @@ fn printed_in(matches: &ArgMatches<'_>) -> Printed {
     Printed::Lines
 }
 
-/// Makes the line that explains the rule that these words name.
 fn explain_of<'a>(alloc: Global, words: &[&str]) -> Result<Line<'a>, Error> {
     match rule_in(alloc, words)? {
         Some(rule) => Ok(Line::Explain(rule)),
@@ -120,7 +118,6 @@ fn explain_of<'a>(alloc: Global, words: &[&str]) -> Result<Line<'a>, Error> {
     }
 }
 
-/// Makes the line of a subcommand for one FILE.
 fn run_of<'a>(
     alloc: Global,
     name: &str,
@@ -142,7 +139,6 @@ fn run_of<'a>(
     })
 }
 
-/// Returns which files at OUT are replaced.
 fn replaces_in(matches: &ArgMatches<'_>) -> Replaces {
     if matches.get_flag("force") {
         return Replaces::All;
@@ -153,7 +149,6 @@ fn replaces_in(matches: &ArgMatches<'_>) -> Replaces {
     Replaces::Certificates
 }
 
-/// Returns what a subcommand asks about FILE.
 fn ask_of<'a>(alloc: Global, name: &str, matches: &ArgMatches<'a>) -> Result<Ask<'a>, Error> {
     match name {
         "certify" => Ok(Ask::Certify {
@@ -161,7 +156,7 @@ fn ask_of<'a>(alloc: Global, name: &str, matches: &ArgMatches<'a>) -> Result<Ask
         }),
         "check" => Ok(Ask::Check),
         "get" => Ok(Ask::Get {
-            paths: all_paths(alloc, texts_in(matches))?,
+            paths: all_paths(alloc, matches.get_strs("PATH").unwrap_or(&[]))?,
         }),
         "print" => Ok(Ask::Print {
             path: path_in(matches),
@@ -176,12 +171,12 @@ fn ask_of<'a>(alloc: Global, name: &str, matches: &ArgMatches<'a>) -> Result<Ask
     }
 }
 
-/// Returns what `show` asks for. With `--text` or `--raw` it takes at most one path; without them no path means the
-/// empty one, which is the whole value.
+/// With `--text` or `--raw` there is at most one path. Without them no path means the empty one, which is the whole
+/// value.
 fn show_of<'a>(alloc: Global, matches: &ArgMatches<'a>) -> Result<Ask<'a>, Error> {
     let (text, raw) = (matches.get_flag("text"), matches.get_flag("raw"));
     let (path, limit) = (path_in(matches), limit_in(matches));
-    match texts_in(matches) {
+    match matches.get_strs("PATH").unwrap_or(&[]) {
         [_, _, ..] if text || raw => {
             let message = "--text and --raw take one PATH";
             Err(refusal(alloc, ErrorKind::TooManyValues, message)?)
@@ -199,7 +194,6 @@ fn show_of<'a>(alloc: Global, matches: &ArgMatches<'a>) -> Result<Ask<'a>, Error
     }
 }
 
-/// Returns what `ls` asks for.
 fn ls_of<'a>(matches: &ArgMatches<'a>) -> Ask<'a> {
     let (path, limit, style) = (path_in(matches), limit_in(matches), style_in(matches));
     let recursive = matches.get_flag("recursive");
@@ -222,7 +216,6 @@ fn ls_of<'a>(matches: &ArgMatches<'a>) -> Ask<'a> {
     Ask::List { path, style }
 }
 
-/// Returns how texts are written.
 fn style_in(matches: &ArgMatches<'_>) -> Style {
     if matches.get_flag("utf8") {
         return Style::Utf8;
@@ -238,12 +231,7 @@ fn all_paths(alloc: Global, texts: &[&str]) -> Result<Vec<String>, AllocError> {
     Ok(paths)
 }
 
-/// Returns the texts of all PATHs.
-fn texts_in<'m, 'a>(matches: &'m ArgMatches<'a>) -> &'m [&'a str] {
-    matches.get_strs("PATH").unwrap_or(&[])
-}
-
-/// Returns the first PATH, or the empty path for the whole value.
+/// Without a PATH it is the empty one, for the whole value.
 fn path_in<'a>(matches: &ArgMatches<'a>) -> &'a str {
     matches.get_str("PATH").unwrap_or("")
 }
@@ -252,7 +240,7 @@ fn limit_in(matches: &ArgMatches<'_>) -> u64 {
     matches.get_one::<u64>("LIMIT").unwrap_or(0)
 }
 
-/// Makes an error that `clap` does not find by itself.
+/// `clap` does not find such an error by itself.
 fn refusal(alloc: Global, kind: ErrorKind, message: &str) -> Result<Error, AllocError> {
     let mut command = bplint(alloc)?;
     command.error(kind, message)

@@ -2,7 +2,7 @@
 
 ghost use Rattle.std.specs.Prelude.{◌≡◌, ◌≤◌, Err, Ok};
 ghost use Rattle.bplint.specs.ExitStatuses.{EndsWith, IsPrintedWith, IsRefusedWith};
-ghost use Rattle.bplint.specs.Questions.{answer_of, answer_of_led};
+ghost use Rattle.bplint.specs.Questions.{answer_of, answer_of_led, led_of};
 ghost use Rattle.clap.specs.Values.{kind_of};
 
 use crate::output::{OutFault, OutFile};
@@ -46,6 +46,16 @@ impl Ending {
         }
     }
 
+    /// The same of a run whose faults are those of other commands.
+    pub fn of_text(alloc: Global, led: Result<Led, RunFault>) -> Ending
+        ensures { result.answer ≡ answer_of_led (led_of led) }
+    {
+        match led {
+            Ok(led) => Ending::of_led(alloc, Ok(led)),
+            Err(fault) => Ending::with(alloc, fault),
+        }
+    }
+
     /// The end of a run with this fault, with nothing below it.
     pub fn with(alloc: Global, fault: RunFault) -> Ending
         ensures { result.answer ≡ Err (RawFault.Run fault) }
@@ -65,7 +75,7 @@ impl Ending {
     }
 }
 
-/// Returns the text of these bytes, which are a line.
+/// A line is always UTF-8.
 fn text_of(alloc: Global, line: Vec<u8>) -> String {
     match String::from_utf8(line) {
         Ok(text) => text,
@@ -102,7 +112,7 @@ pub fn end<R: Eprint>(rt: &R, alloc: Global, prefix: &str, ending: Ending) -> u8
     }
 }
 
-/// Prints lines that stand below no fault.
+/// The lines stand below no fault.
 fn print_alone<R: Eprint>(rt: &R, prefix: &str, lines: &str) {
     if !lines.is_empty() {
         let _ = rt.eprint(prefix);
@@ -110,7 +120,6 @@ fn print_alone<R: Eprint>(rt: &R, prefix: &str, lines: &str) {
     }
 }
 
-/// Returns the exit status of an answer.
 fn status_of(said: Said) -> u8
     ensures { EndsWith (Ok said) result }
 {
@@ -120,7 +129,6 @@ fn status_of(said: Said) -> u8
     }
 }
 
-/// Returns the line of a fault after the prefix, and the lines below it.
 fn lines_of(
     alloc: Global,
     prefix: &str,

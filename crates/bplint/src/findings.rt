@@ -71,7 +71,6 @@ impl<'a, R: Files<File = File> + Print + Eprint> Findings<'a, R> {
         self.end(&line.prefix, ending);
     }
 
-    /// Returns what is asked about a file with this name.
     fn line_of<'n>(&self, name: &'n str, prefix: String) -> Run<'n> {
         Run {
             ask: Ask::Lint,
@@ -87,7 +86,7 @@ impl<'a, R: Files<File = File> + Print + Eprint> Findings<'a, R> {
         }
     }
 
-    /// Returns true if the name of a file is all that is said of how its run ended.
+    /// With `--list`, a file that breaks a rule has no other line.
     fn is_named_alone(&self, ending: &Ending) -> bool
         ensures { IsTrue result → EndsWithOne ending.now.answer }
     {
@@ -97,7 +96,7 @@ impl<'a, R: Files<File = File> + Print + Eprint> Findings<'a, R> {
         }
     }
 
-    /// Prints the name of a file that is not sound, and counts the file.
+    /// Counts the file, which is not sound.
     fn print_name(&mut self, name: &str)
         ensures { CountsOr 1 self.old.tally self.new.tally }
     {
@@ -107,7 +106,7 @@ impl<'a, R: Files<File = File> + Print + Eprint> Findings<'a, R> {
         }
     }
 
-    /// Returns the line with the name of a file alone. If a zero byte ends it, it is the name as it is.
+    /// If a zero byte ends it, it is the name as it is.
     fn name_line(&self, name: &str) -> Result<Vec<u8>, AllocError> {
         let mut line = Vec::new(self.alloc);
         if self.lint.zero {
@@ -127,7 +126,7 @@ impl<'a, R: Files<File = File> + Print + Eprint> Findings<'a, R> {
         }
     }
 
-    /// Prints the JSON line of a finding about the file with this name, and counts the file.
+    /// Counts the file too.
     fn print_finding(&mut self, name: &[u8], finding: &Finding)
         ensures { CountsOr (status_of finding.now) self.old.tally self.new.tally }
     {
@@ -137,7 +136,7 @@ impl<'a, R: Files<File = File> + Print + Eprint> Findings<'a, R> {
         }
     }
 
-    /// Prints a line to standard output, and counts a file whose run ended with this status.
+    /// Counts a file whose run ended with this status.
     fn print(&mut self, line: &[u8], status: u8)
         requires { status ≤ 4 }
         ensures { CountsOr status self.old.tally self.new.tally }
@@ -193,7 +192,7 @@ impl<'a, R: Files<File = File> + Print + Eprint> Findings<'a, R> {
         }
     }
 
-    /// Prints how a run ended, and counts it.
+    /// Counts the file too.
     fn end(&mut self, prefix: &str, ending: Ending)
         ensures { (status : ℕ) × EndsWith ending.answer status × (self.new.tally ≡ max self.old.tally status) }
     {
@@ -206,20 +205,19 @@ impl<'a, R: Files<File = File> + Print + Eprint> Findings<'a, R> {
         }
     }
 
-    /// Ends the run after memory for its lines was refused.
+    /// Memory for the lines of a file was refused.
     fn end_without_memory(&mut self)
         ensures { self.new.tally ≡ max self.old.tally 4 }
     {
         self.end("", Ending::with(self.alloc, RunFault::Memory));
     }
 
-    /// Returns what begins the lines of a file.
     fn prefix_of(&self, name: &str) -> Result<String, AllocError> {
         prefix_of(self.alloc, name, self.lint.named)
     }
 }
 
-/// Returns the prefix of the lines for a path that is not UTF-8, and how its run ends.
+/// The path is not UTF-8.
 fn unnamed_ending(
     alloc: Global,
     path: &[u8],

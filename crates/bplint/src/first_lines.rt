@@ -47,7 +47,7 @@ impl<'a, W> FirstLines<'a, W> {
         self.inside
     }
 
-    /// Counts these bytes and their lines. Returns how many of the bytes it takes.
+    /// Returns how many of the bytes are taken.
     fn taken(&mut self, buf: &[u8]) -> usize
         ensures { result ≤ length buf.now }
     {

@@ -61,7 +61,7 @@ impl Folders for HostRuntime {
     }
 }
 
-/// Returns the paths of these names, each of which ends with a zero byte, except `.` and `..`.
+/// A zero byte ends each name. `.` and `..` are left out.
 fn joined_all(alloc: Global, front: &str, names: &[u8]) -> Result<Vec<Vec<u8>>, AllocError> {
     let mut paths = Vec::new(alloc);
     for name in names.split(|octet| *octet == 0) {
@@ -73,7 +73,6 @@ fn joined_all(alloc: Global, front: &str, names: &[u8]) -> Result<Vec<Vec<u8>>, 
     Ok(paths)
 }
 
-/// Returns the name of a folder with a slash after it.
 fn with_slash(alloc: Global, folder: &str) -> Result<String, AllocError> {
     let mut front = String::from_str(alloc, folder)?;
     if !folder.ends_with('/') {

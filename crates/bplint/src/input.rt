@@ -114,7 +114,6 @@ impl Source for Operand {
 }
 
 impl Operand {
-    /// Decodes the input as hexadecimal text.
     fn undo_hex(self, alloc: Global) -> Result<Operand, InputFault>
         ensures { OfWhole (λ text. IfOk result (OfWhole (λ bytes. spelled text ≡ Ok bytes))) self }
     {
@@ -126,7 +125,6 @@ impl Operand {
         }
     }
 
-    /// Returns all bytes of the input.
     fn into_bytes(self, alloc: Global) -> Result<Vec<u8>, InputFault>
         ensures whole { OfWhole (λ text. MatchResult result (λ bytes. bytes.items ≡ text) (λ _. ⊥)) self }
         ensures faults { IfErr result (λ fault. (fault ≡ InputFault.Memory) ⊎ IsReadFault fault) }
@@ -180,7 +178,6 @@ pub fn decode<S: Source>(
     }
 }
 
-/// Returns where a text is not hexadecimal.
 fn hex_fault(text: &[u8]) -> InputFault {
     let digits = match text {
         [digits @ .., b'\n'] => digits,
@@ -232,7 +229,7 @@ pub fn open_inputs<'a, R: Files<File = File> + Input>(
     })
 }
 
-/// Opens an input, where `-` is standard input, which is read as a whole.
+/// `-` is standard input, which is read as a whole.
 fn open_operand<R: Files<File = File> + Input>(
     rt: &R,
     alloc: Global,
@@ -249,8 +246,8 @@ fn open_operand<R: Files<File = File> + Input>(
     open_file(rt, alloc, name, whole)
 }
 
-/// Opens a file. It is read as a whole if that is wanted, or if it has no reliable length: pipes and devices have none,
-/// and files of /proc claim to be empty.
+/// The file is read as a whole if that is wanted, or if it has no reliable length: pipes and devices have none, and
+/// files of /proc claim to be empty.
 fn open_file<R: Files<File = File>>(
     rt: &R,
     alloc: Global,

@@ -44,7 +44,6 @@ impl<'a, 'l, W> Labelled<'a, 'l, W> {
         self.refused
     }
 
-    /// Adds the label of the next line.
     fn add_label(&mut self, lines: &mut Vec<u8>) -> Result<(), AllocError> {
         lines.extend_from_slice(self.labels.prefix.as_bytes())?;
         if let Some(path) = self.labels.paths.get(self.lines) {
@@ -55,7 +54,6 @@ impl<'a, 'l, W> Labelled<'a, 'l, W> {
         Ok(())
     }
 
-    /// Returns these bytes with a label at the beginning of each line.
     fn labelled(&mut self, buf: &[u8]) -> Result<Vec<u8>, AllocError> {
         let mut lines = Vec::new(self.alloc);
         for part in buf.split_inclusive(|octet| *octet == b'\n') {

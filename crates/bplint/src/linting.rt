@@ -47,7 +47,6 @@ struct Linter<'a, R> {
 }
 
 impl<'a, R: Files<File = File> + Folders + Input + Print + Eprint> Linter<'a, R> {
-    /// Lints the FILEs of this list.
     fn lint_listed(&self, findings: &mut Findings<'_, R>, list: &str) {
         if findings.tally.is_closed() {
             return;
@@ -58,7 +57,7 @@ impl<'a, R: Files<File = File> + Folders + Input + Print + Eprint> Linter<'a, R>
         }
     }
 
-    /// Lints the FILEs with these names, each of which ends with a line feed or, with `-0`, with a zero byte.
+    /// Each name ends with a line feed or, with `-0`, with a zero byte.
     fn lint_names(&self, findings: &mut Findings<'_, R>, names: &[u8]) {
         let end = if self.lint.zero { 0 } else { b'\n' };
         for name in names.split(|octet| *octet == end) {
@@ -66,7 +65,7 @@ impl<'a, R: Files<File = File> + Folders + Input + Print + Eprint> Linter<'a, R>
         }
     }
 
-    /// Lints the FILE with a name of a list. Nothing is no name.
+    /// Nothing is no name.
     fn lint_name(&self, findings: &mut Findings<'_, R>, name: &[u8]) {
         match std::str::from_utf8(name) {
             Ok("") => {}
@@ -76,7 +75,7 @@ impl<'a, R: Files<File = File> + Folders + Input + Print + Eprint> Linter<'a, R>
         }
     }
 
-    /// Lints a FILE. If it is a folder and `--recursive` is given, lints the files below it.
+    /// With `--recursive`, a folder means the files below it.
     fn lint_operand(&self, findings: &mut Findings<'_, R>, name: &str) {
         if findings.tally.is_closed() {
             return;
@@ -88,7 +87,7 @@ impl<'a, R: Files<File = File> + Folders + Input + Print + Eprint> Linter<'a, R>
         }
     }
 
-    /// Lints the files below a folder, in the order of their names.
+    /// Takes the files below a folder in the order of their names.
     fn lint_folder(&self, findings: &mut Findings<'_, R>, folder: &str) {
         let mut pending = Vec::new(self.alloc);
         self.enter(findings, folder, &mut pending);
@@ -103,7 +102,7 @@ impl<'a, R: Files<File = File> + Folders + Input + Print + Eprint> Linter<'a, R>
         }
     }
 
-    /// Puts all entries of a folder on the stack of pending paths, or says that they cannot be read.
+    /// If the entries cannot be read, the folder has a fault.
     fn enter(&self, findings: &mut Findings<'_, R>, folder: &str, pending: &mut Vec<Vec<u8>>) {
         if let Err(fault) = self.push_entries(folder, pending) {
             findings.add_unread(Unread::new(folder, fault));
@@ -116,7 +115,6 @@ impl<'a, R: Files<File = File> + Folders + Input + Print + Eprint> Linter<'a, R>
         Ok(())
     }
 
-    /// Lints a pending path, or enters it if it is a folder.
     fn look_at(&self, findings: &mut Findings<'_, R>, path: &[u8], pending: &mut Vec<Vec<u8>>) {
         let Ok(name) = std::str::from_utf8(path) else {
             return findings.add_unnamed(path);
@@ -129,7 +127,7 @@ impl<'a, R: Files<File = File> + Folders + Input + Print + Eprint> Linter<'a, R>
         }
     }
 
-    /// Lints a file, unless it has another form or is passed over. `found` says that it was found in a folder.
+    /// `found` says that the file was found in a folder.
     fn lint_file(&self, findings: &mut Findings<'_, R>, name: &str, found: bool) {
         let mut file = match open_input(self.rt, self.alloc, name, self.lint.choice.hex) {
             Ok(file) => file,
@@ -154,7 +152,7 @@ impl<'a, R: Files<File = File> + Folders + Input + Print + Eprint> Linter<'a, R>
         Ok(Look::Lint)
     }
 
-    /// Prints the counts if they are asked for and somebody reads them.
+    /// Says nothing if nobody reads the counts.
     fn tell_counts(&self, findings: &mut Findings<'_, R>, on_terminal: bool) {
         let wanted = self.lint.summary || (self.lint.choice.recursive && on_terminal);
         if wanted && !findings.tally.is_closed() {

@@ -49,7 +49,6 @@ fn read_paths<R: Files<File = File> + Input>(
     }
 }
 
-/// Returns the lines of a text.
 fn lines_of(alloc: Global, text: &str) -> Result<Vec<String>, AllocError> {
     let mut lines = Vec::new(alloc);
     for line in text.split_terminator('\n') {
@@ -58,7 +57,7 @@ fn lines_of(alloc: Global, text: &str) -> Result<Vec<String>, AllocError> {
     Ok(lines)
 }
 
-/// Returns the number of the line at this place, counted from 1.
+/// The first line has the number 1.
 fn line_number(octets: &[u8], place: usize) -> usize {
     let mut number = 1usize;
     for octet in octets.iter().take(place) {

@@ -47,7 +47,6 @@ pub fn look_at<S: Source>(file: &mut S, name: &str) -> Result<Look, ReadFault> {
     })
 }
 
-/// Returns true if the name of a file ends as those of property lists do.
 fn has_usual_ending(name: &str) -> bool {
     ENDINGS.iter().any(|ending| name.ends_with(*ending))
 }

@@ -82,7 +82,6 @@ fn open_standard(rt: &HostRuntime) {
     }
 }
 
-/// Writes the explanation of a rule. Returns the exit status.
 fn explain<R: Files<File = File> + Print + Eprint>(rt: &R, alloc: Global, rule: Rule) -> u8
     ensures { result ≤ 4 }
 {
@@ -92,8 +91,7 @@ fn explain<R: Files<File = File> + Print + Eprint>(rt: &R, alloc: Global, rule: 
     }
 }
 
-/// Does what the words of a command line ask for. Returns the exit status. `on_terminal` says whether standard error is
-/// a terminal.
+/// `on_terminal` says whether standard error is a terminal.
 fn start<R: Files<File = File> + Folders + Input + Print + Eprint>(
     rt: &R,
     alloc: Global,
@@ -110,8 +108,8 @@ fn start<R: Files<File = File> + Folders + Input + Print + Eprint>(
     }
 }
 
-/// Says what is wrong with a command line, of which words may have characters that a line may not show. So it is read
-/// once more as it is shown. Returns the exit status.
+/// The words of a wrong command line may have characters that a line may not show. So it is read once more as it is
+/// shown.
 fn refuse_words<R: Files<File = File> + Print + Eprint>(
     rt: &R,
     alloc: Global,
@@ -135,7 +133,6 @@ fn refuse_words<R: Files<File = File> + Print + Eprint>(
     }
 }
 
-/// Returns words as a line shows them.
 fn shown_words(alloc: Global, words: &[String]) -> Result<Vec<String>, AllocError> {
     let mut shown = Vec::new(alloc);
     for word in words {

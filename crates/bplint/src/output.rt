@@ -77,7 +77,6 @@ impl<'a, R: Files> OutFile<'a, R> {
         self.fault
     }
 
-    /// Creates or empties the file.
     fn create(&self) -> io::Result<R::File> {
         if self.has_content() && !self.may_replace() {
             return Err(io::Error::from(ErrorKind::AlreadyExists));
@@ -85,7 +84,7 @@ impl<'a, R: Files> OutFile<'a, R> {
         File::create(self.rt, self.path)
     }
 
-    /// Returns true if a regular file is there that is not empty.
+    /// Only a regular file has content.
     fn has_content(&self) -> bool {
         match fs::metadata(self.rt, self.path) {
             Ok(metadata) => metadata.is_file() && metadata.len() > 0,
@@ -93,7 +92,7 @@ impl<'a, R: Files> OutFile<'a, R> {
         }
     }
 
-    /// Returns true if the file that is there may be replaced. A file that cannot be read is kept.
+    /// A file that cannot be read is kept.
     fn may_replace(&self) -> bool {
         let mut front = [0; 14];
         match self.replaces {
@@ -108,7 +107,7 @@ impl<'a, R: Files> OutFile<'a, R> {
         }
     }
 
-    /// Reads the first bytes of the file. Returns false if it cannot be read, or has fewer.
+    /// Returns false if the file cannot be read, or has fewer bytes.
     fn reads(&self, front: &mut [u8]) -> bool {
         match File::open(self.rt, self.path) {
             Ok(mut file) => file.read_exact(front).is_ok(),
@@ -128,7 +127,6 @@ impl<'a, R: Files> OutFile<'a, R> {
         }
     }
 
-    /// Keeps why a write failed.
     fn keep_fault(&mut self, kind: ErrorKind) {
         self.fault = Some(match kind {
             // The system never says so of a file that may be there already: only `create` does.

@@ -59,7 +59,7 @@ pub fn completed(alloc: Global, line: &Run<'_>, ending: Ending, out: Option<OutF
     }
 }
 
-/// Puts a line above those below a fault. If memory was refused for it, that is the fault.
+/// If memory was refused for the line, that is the fault.
 fn below(alloc: Global, ending: Ending, line: Result<String, AllocError>) -> Ending
     ensures { IsStillEnd ending.answer result.answer }
 {
@@ -76,7 +76,7 @@ fn joined(line: Result<String, AllocError>, under: &str) -> Result<String, Alloc
     Ok(lines)
 }
 
-/// Returns the name of the input whose fault ends a run: CERT, if a rule about certificates is broken.
+/// It is CERT if a rule about certificates is broken.
 fn faulty_name<'a>(line: &Run<'a>, ending: &Ending) -> &'a str {
     match &ending.answer {
         Err(RawFault::Run(RunFault::Fault(fault))) if is_about_certificates(fault.rule) => line
@@ -170,7 +170,6 @@ pub fn form_lines<S: Source>(
     Ok(lines)
 }
 
-/// Returns the line with the limit of a question, and how to have another.
 fn limit_line(alloc: Global, ask: &Ask<'_>) -> Result<String, AllocError> {
     match ask {
         Ask::Print { limit, .. } => {
@@ -195,7 +194,6 @@ pub fn most_line(alloc: Global, most: u64) -> Result<String, AllocError> {
     format!(in alloc; "  tip: there are more than {most} bytes; use --limit-bytes N\n")
 }
 
-/// Returns the first wrong path text of a question.
 fn wrong_path<'a>(alloc: Global, ask: &'a Ask<'a>) -> Option<&'a str> {
     match ask {
         Ask::Get { paths } | Ask::Show { paths, .. } => first_wrong(alloc, paths),

@@ -18,8 +18,7 @@ pub fn rule_in(alloc: Global, words: &[&str]) -> Result<Option<Rule>, AllocError
     })
 }
 
-/// Returns the rule of a fault's line: the word after the last `fault`, or rule 23 after `circle`. The name of a file
-/// may stand before it.
+/// The word is that after the last `fault`. It is rule 23 after `circle`. The name of a file may stand before.
 fn rule_of_line(parts: &[&str]) -> Option<Rule> {
     let mut found = None;
     for pair in parts.windows(2) {
@@ -43,7 +42,7 @@ fn rule_of(word: &str) -> Option<Rule> {
     }
 }
 
-/// Returns the rule whose number is this word, in decimal digits without a leading 0.
+/// The number has decimal digits without a leading 0.
 fn rule_by_number(word: &str) -> Option<Rule> {
     if word.starts_with(['+', '0']) {
         return None;
@@ -51,7 +50,7 @@ fn rule_by_number(word: &str) -> Option<Rule> {
     rule_of_number(word.parse::<u32>().ok()?)
 }
 
-/// Returns the rule with this word, in any case.
+/// The word may be in any case.
 fn rule_of_name(word: &str) -> Option<Rule> {
     for number in 1..u32::MAX {
         let rule = rule_of_number(number)?;

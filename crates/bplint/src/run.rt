@@ -45,7 +45,6 @@ pub fn run<R: Files<File = File> + Input + Print + Eprint>(
     }
 }
 
-/// Answers what is asked about inputs that are open. Returns the exit status.
 fn run_opened<
     R: Files<File = File> + Print + Eprint,
     S: Source + Drop,
@@ -85,8 +84,7 @@ fn run_opened<
     )
 }
 
-/// Returns how a run ends whose answer has more bytes than it may write. If memory for the tip is refused, it is left
-/// out.
+/// The answer has more bytes than may be written. If memory for the tip is refused, it is left out.
 fn cut_off(alloc: Global, line: &Run<'_>, most: u64) -> Ending {
     if line.explain {
         if let Ok(tip) = most_line(alloc, most) {
@@ -96,7 +94,7 @@ fn cut_off(alloc: Global, line: &Run<'_>, most: u64) -> Ending {
     Ending::with(alloc, RunFault::TooLong)
 }
 
-/// Says that OUT stays as it is, because it is no certificate. Returns the exit status.
+/// OUT is no certificate.
 fn keep_out<R: Eprint>(rt: &R, alloc: Global, line: &Run<'_>) -> u8
     ensures { (result ≡ 2) ⊎ (result ≡ 4) }
 {
@@ -106,7 +104,7 @@ fn keep_out<R: Eprint>(rt: &R, alloc: Global, line: &Run<'_>) -> u8
     }
 }
 
-/// Adds a warning to the end of a run if `certify` wrote more bytes than any other command reads.
+/// Adds a warning if `certify` wrote more bytes than any other command reads.
 fn warned(alloc: Global, line: &Run<'_>, ending: Ending, written: u64) -> Ending
     ensures { IsStillEnd ending.answer result.answer }
 {
@@ -138,16 +136,17 @@ pub fn answer<S: Source + Drop, C: Source + Drop, W: Write>(
     if out.is_refused() {
         return Ending::with(alloc, RunFault::Memory);
     }
-    match ending.answer {
+    let Ending { answer, under, .. } = ending;
+    match answer {
         Err(fault) if line.explain => {
             let under = under_fault(alloc, line, &mut file, &mut cert, &fault);
             Ending::over(Err(fault), under)
         }
-        answer => Ending { answer, ..ending },
+        answer => Ending::over(answer, under),
     }
 }
 
-/// Writes the answer to what is asked. Returns how the run ends, and FILE. CERT is empty if there is none.
+/// Returns FILE too. CERT is empty if there is none.
 fn answer_on<S: Source + Drop, C: Source, W: Write>(
     alloc: Global,
     line: &Run<'_>,
@@ -155,7 +154,7 @@ fn answer_on<S: Source + Drop, C: Source, W: Write>(
     cert: &mut C,
     out: &mut W,
 ) -> (Ending, S)
-    ensures exact { IsTrue (S.means file).honest → IsTrue (C.means cert.old).honest
+    ensures { IsTrue (S.means file).honest → IsTrue (C.means cert.old).honest
         → ∥ LeavesAsked line.now.ask line.now.hex (S.means file).octets (C.means cert.old).octets
         (W.contents out.old) (W.contents out.new) result.0.answer ∥₁ }
 {
@@ -174,7 +173,7 @@ fn answer_on<S: Source + Drop, C: Source, W: Write>(
         Ask::Show { paths, style } => of(alloc, show_on(alloc, file, paths, *style, out)),
         Ask::Text { path, limit } => {
             let (led, file) = show_text_on(alloc, file, path, *limit, out);
-            (Ending::of_led(alloc, led.map_err(RawFault::Run)), file)
+            (Ending::of_text(alloc, led), file)
         }
         Ask::Raw { path } => {
             let (led, file) = show_raw_on(alloc, file, path, out);
@@ -185,14 +184,12 @@ fn answer_on<S: Source + Drop, C: Source, W: Write>(
         Ask::Rows(listed) => of(alloc, list_rows_on(alloc, file, listed, out)),
         Ask::Map { paths } => {
             let mut file = file;
-            let answer = map_on(alloc, &mut file, *paths, out);
-            of(alloc, (answer, file))
+            (Ending::of(alloc, map_on(alloc, &mut file, *paths, out)), file)
         }
         Ask::Textconv => of(alloc, show_any(alloc, file, &line.prefix, out)),
     }
 }
 
-/// Returns how a run ends with an answer, and FILE.
 fn of<S: Source>(alloc: Global, answered: (Result<Said, RunFault>, S)) -> (Ending, S)
     ensures { result.0.answer ≡ answer_of answered.0 }
 {
@@ -200,7 +197,7 @@ fn of<S: Source>(alloc: Global, answered: (Result<Said, RunFault>, S)) -> (Endin
     (Ending::of(alloc, answer), file)
 }
 
-/// Returns the lines below a fault. If a read fails or memory is refused, there are none.
+/// If a read fails or memory is refused, there are no lines.
 fn under_fault<S: Source, C: Source>(
     alloc: Global,
     line: &Run<'_>,

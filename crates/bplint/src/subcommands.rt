@@ -169,7 +169,6 @@ static CERTIFYING: [Subcommand; 4] = [
 ];
 
 impl Subcommand {
-    /// Converts the subcommand for `clap`.
     fn to_command<'a>(&self, alloc: Global) -> Result<Command<'a>, AllocError> {
         let mut command = Command::new(alloc, self.name)
             .about(self.about)
@@ -207,7 +206,6 @@ fn certifying() -> &'static [Subcommand] {
     &CERTIFYING
 }
 
-/// Adds the subcommands of a table.
 fn with_subcommands<'a>(
     alloc: Global,
     command: Command<'a>,

@@ -49,8 +49,8 @@ pub fn show_any<S: Source + Drop, W: Write>(
     }
 }
 
-/// Shows a source that begins as a binary property list does. If there are more lines or bytes than are shown, a last
-/// line says so.
+/// The source begins as a binary property list does. If there are more lines or bytes than are shown, a last line says
+/// so.
 fn show_bplist<S: Source + Drop, W: Write>(
     alloc: Global,
     src: S,
@@ -75,7 +75,7 @@ fn show_bplist<S: Source + Drop, W: Write>(
     (send(more, out), src)
 }
 
-/// Writes a text, for which memory may have been refused.
+/// Memory for the text may have been refused.
 fn send<W: Write>(text: Result<String, AllocError>, out: &mut W) -> Result<Said, RunFault> {
     let mut sink = Sink::new();
     sink.put(out, text?.as_bytes())?;
@@ -83,7 +83,7 @@ fn send<W: Write>(text: Result<String, AllocError>, out: &mut W) -> Result<Said,
     Ok(Said::All)
 }
 
-/// Shows a source that begins as a binary property list does: its lines, or its fault and its first bytes.
+/// Writes the lines of a sound file, or the fault and the first bytes of another.
 fn show_lines<S: Source + Drop, W: Write>(
     alloc: Global,
     src: S,
@@ -100,8 +100,7 @@ fn show_lines<S: Source + Drop, W: Write>(
     }
 }
 
-/// Lists a binary property list. If there are too many lines to be counted, only the members of the top have lines, and
-/// a last line says so.
+/// If there are too many lines to be counted, only the members of the top have lines, and a last line says so.
 fn list<S: Source + Drop, W: Write>(
     alloc: Global,
     src: S,
@@ -126,7 +125,7 @@ fn list<S: Source + Drop, W: Write>(
     }
 }
 
-/// Returns the first bytes of a source, as many as are shown of a file that is not sound.
+/// The bytes are as many as are shown of a file that is not sound.
 fn front_of<S: Source>(alloc: Global, src: &mut S) -> Result<Vec<u8>, RunFault> {
     let count = src.len().min(SHOWN) as usize;
     let mut front = vec![in alloc; 0u8; count]?;
@@ -134,7 +133,7 @@ fn front_of<S: Source>(alloc: Global, src: &mut S) -> Result<Vec<u8>, RunFault> 
     Ok(front)
 }
 
-/// Returns the line of a fault, and below it the first bytes of the file in hexadecimal.
+/// The line of the fault comes first.
 fn dump(alloc: Global, fault: &RunFault, front: &[u8], length: u64) -> Result<String, AllocError> {
     let mut text = fault.line(alloc)?;
     text.push('\n')?;
@@ -149,7 +148,6 @@ fn dump(alloc: Global, fault: &RunFault, front: &[u8], length: u64) -> Result<St
     Ok(text)
 }
 
-/// Writes all bytes of a source.
 fn copy_from<S: Source, W: Write>(src: &mut S, out: &mut W) -> Result<Said, RunFault> {
     let length = src.len();
     let mut buffer = [0u8; BLOCK];

@@ -58,13 +58,11 @@ impl<'a> Unread<'a> {
         }
     }
 
-    /// Returns the line with the name and the reason.
     fn line(&self, alloc: Global) -> Result<String, AllocError> {
         let why = self.why(alloc)?;
         file_line(alloc, self.name, &why)
     }
 
-    /// Returns the reason.
     fn why(&self, alloc: Global) -> Result<String, AllocError> {
         let why = match self.fault {
             InputFault::Open(ErrorKind::NotFound) => "no such file",

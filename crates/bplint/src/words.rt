@@ -39,7 +39,7 @@ pub fn words_of(rt: &HostRuntime) -> Result<Vec<String>, WordFault> {
     }
 }
 
-/// Returns the words of a command line that has one that is not UTF-8.
+/// One of the words is not UTF-8.
 fn words_by_bytes<R: Env>(rt: &R, alloc: Global) -> Result<Vec<String>, WordFault> {
     let mut words: Vec<String> = Vec::new(alloc);
     let mut octets: Vec<u8> = Vec::new(alloc);
@@ -66,8 +66,8 @@ fn not_utf8(alloc: Global, octets: &[u8]) -> Result<WordFault, AllocError> {
     Ok(WordFault::NotUtf8(format!(in alloc; "an argument is not UTF-8: {shown}")?))
 }
 
-/// Returns a text that stands for a name that is not UTF-8: a zero byte, which no name has, and the bytes of the name
-/// in hexadecimal. No file can be opened by it.
+/// The text for a name that is not UTF-8 is a zero byte, which no name has, and the bytes of the name in hexadecimal.
+/// No file can be opened by it.
 fn stand_in(alloc: Global, octets: &[u8]) -> Result<String, AllocError> {
     let digits = hex::encode(alloc, octets)?;
     format!(in alloc; "\0{digits}")

@@ -34,8 +34,7 @@ pub fn certify_on<S: Source, W: Write>(
     }
 }
 
-/// Writes the bytes of a certificate. With `hex` it writes their hexadecimal text and a line feed, which is made in
-/// memory first.
+/// With `hex` the hexadecimal text is made in memory first. A line feed follows it.
 fn send_certificate<W: Write>(
     alloc: Global,
     certificate: &Certificate,
@@ -53,7 +52,7 @@ fn send_certificate<W: Write>(
     Ok(Said::All)
 }
 
-/// Returns the hexadecimal text of a certificate and a line feed.
+/// A line feed follows the text.
 fn hex_text(alloc: Global, certificate: &Certificate) -> Result<Vec<u8>, AllocError>
     ensures { IfOk result (λ text. IsCertificate certificate.now × (text.items ≡ written true (octets_of certificate.now))) }
 {

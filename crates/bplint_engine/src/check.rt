@@ -26,7 +26,6 @@ pub fn check_on<S: Source, W: Write>(
     send_made(check_output(alloc, src, decoded), out)
 }
 
-/// Returns the line of `check`, and the source.
 fn check_output<S: Source>(
     alloc: Global,
     src: S,

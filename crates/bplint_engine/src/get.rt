@@ -37,7 +37,6 @@ pub fn get_on<S: Source, W: Write>(
     send_made(get_output(alloc, src, decoded, paths), out)
 }
 
-/// Returns the lines of `get`, one for each path text, and the source.
 fn get_output<S: Source>(
     alloc: Global,
     src: S,
@@ -70,7 +69,7 @@ fn get_output<S: Source>(
     }
 }
 
-/// Checks the file against a certificate. Returns it with a certificate that suits these queries.
+/// The certificate of what is returned suits these queries.
 fn checked_for<S: Source>(
     alloc: Global,
     src: S,
@@ -90,7 +89,7 @@ fn checked_for<S: Source>(
     }
 }
 
-/// Turns the replies into lines, or the cursor's fault into that of the run.
+/// A fault of the cursor becomes that of the run.
 fn lines_told(alloc: Global, told: Result<Vec<Reply>, AnswerFault>) -> Result<Output, RunFault>
     ensures reads { read_failed result ≡ answer_read told }
     ensures exact { MatchResult told
@@ -119,7 +118,7 @@ pub(crate) fn lines_for<S: Source>(
     Ok(lines_of(alloc, style, &replies)?)
 }
 
-/// Returns the lines of the replies, and whether one of them says that a path leads nowhere.
+/// It also says whether a path leads nowhere.
 fn lines_of(alloc: Global, style: Style, replies: &[Reply]) -> Result<Output, AllocError>
     ensures { IfOk result (λ output. (output.said ≡ spec.replies_said replies.now)
         × (output.bytes.items ≡ flat_map (reply_line style) replies.now)) }
@@ -156,8 +155,7 @@ fn is_missing(reply: &Reply) -> bool
     matches!(reply, Reply::Missing { .. })
 }
 
-/// Adds the line of a reply, with its line feed. Every query asks for a face, so the other replies do not occur; they
-/// add nothing.
+/// Every query asks for a face, so the other replies do not occur; they add nothing.
 fn add_reply(
     alloc: Global,
     style: Style,

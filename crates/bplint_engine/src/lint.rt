@@ -30,7 +30,6 @@ pub fn lint_on<S: Source, W: Write>(
     send_made(lint_output(alloc, src), out)
 }
 
-/// Returns the line of `lint`, and the source.
 fn lint_output<S: Source>(alloc: Global, src: S) -> (Result<Output, RunFault>, S)
     ensures source { OnlyReads (read_failed result.0) (S.means src) (S.means result.1) }
     ensures exact { IsTrue (S.means src).honest → Answers (LintSays (S.means src).octets) result.0 }
@@ -44,8 +43,7 @@ fn lint_output<S: Source>(alloc: Global, src: S) -> (Result<Output, RunFault>, S
     }
 }
 
-/// Returns the line of a sound file that has this number of reachable objects. The linter does not keep the kind of the
-/// top, so the top's marker is read again.
+/// The linter does not keep the kind of the top, so the top's marker is read again.
 fn yes_output<S: Source>(
     alloc: Global,
     checked: &mut Checked<S>,
@@ -67,7 +65,6 @@ fn yes_output<S: Source>(
     })
 }
 
-/// Returns the line of a sound file, with its line feed.
 fn yes_of(alloc: Global, reached: u64, height: u32, top: Kind) -> Result<Vec<u8>, AllocError>
     ensures { IfOk result (λ line. line.items ≡ lint_line reached height top ++ codes "\n") }
 {

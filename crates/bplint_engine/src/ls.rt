@@ -94,7 +94,6 @@ struct Title<'a> {
     style: Style,
 }
 
-/// Lists what a checked file has under a path.
 fn list_path<S: Source, W: Write>(
     alloc: Global,
     checked: &mut Checked<S>,
@@ -116,7 +115,6 @@ fn list_path<S: Source, W: Write>(
     }
 }
 
-/// Writes the lines for the value of a node.
 fn list_node<S: Source, W: Write>(
     alloc: Global,
     checked: &mut Checked<S>,
@@ -150,7 +148,6 @@ fn list_node<S: Source, W: Write>(
     }
 }
 
-/// Returns the line of a leaf with this face.
 fn line_of_leaf(alloc: Global, title: Title<'_>, shown: &Face) -> Result<Vec<u8>, AllocError>
     ensures { IfOk result (λ line. line.items ≡ title.entry.path.now ++ codes "\t" ++ face_line title.entry.style shown.now ++ codes "\n") }
 {
@@ -160,7 +157,6 @@ fn line_of_leaf(alloc: Global, title: Title<'_>, shown: &Face) -> Result<Vec<u8>
     Ok(line)
 }
 
-/// Writes the lines of all members of a container, in order.
 fn list_members<S: Source, W: Write>(
     alloc: Global,
     checked: &mut Checked<S>,
@@ -180,7 +176,7 @@ fn list_members<S: Source, W: Write>(
     Ok(())
 }
 
-/// Puts the lines of all members of a container into a sink, in order. Holds one line at a time.
+/// Holds one line at a time.
 fn put_members<S: Source, W: Write>(
     alloc: Global,
     checked: &mut Checked<S>,
@@ -205,7 +201,6 @@ fn put_members<S: Source, W: Write>(
     Ok(())
 }
 
-/// Adds the line of member `i` of a container.
 fn add_member<S: Source>(
     alloc: Global,
     checked: &mut Checked<S>,
@@ -227,7 +222,6 @@ fn add_member<S: Source>(
     }
 }
 
-/// Adds the line of member `i` of an array or set.
 fn add_item<S: Source>(
     alloc: Global,
     checked: &mut Checked<S>,
@@ -248,7 +242,6 @@ fn add_item<S: Source>(
     Ok(add_value(alloc, container.style, &shown, lines)?)
 }
 
-/// Adds the name of member `i` of an array or set.
 fn add_item_name(
     alloc: Global,
     container: &Container<'_>,
@@ -263,7 +256,6 @@ fn add_item_name(
     }
 }
 
-/// Adds the line of pair `i` of a dictionary.
 fn add_pair<S: Source>(
     alloc: Global,
     checked: &mut Checked<S>,

@@ -124,7 +124,7 @@ impl Names {
     }
 }
 
-/// Returns true if the added name begins with an index in brackets, and so does not extend the name before it.
+/// A name that begins with an index in brackets does not extend the name before it.
 fn stands_alone(added: &[u8]) -> bool
     ensures { IsTrue result ↔ (slice_get added.now 0 ≡ Some 0x5B) }
 {

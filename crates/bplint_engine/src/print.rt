@@ -41,7 +41,6 @@ pub fn print_on<S: Source, W: Write>(
     }
 }
 
-/// Writes what a checked file has under a path. Returns the source too.
 fn print_checked<S: Source, W: Write>(
     alloc: Global,
     checked: Checked<S>,
@@ -60,7 +59,6 @@ fn print_checked<S: Source, W: Write>(
     (answer, checked.into_parts().0)
 }
 
-/// Writes what a checked file has under a path.
 fn print_path<S: Source, W: Write>(
     alloc: Global,
     checked: &mut Checked<S>,
@@ -117,7 +115,7 @@ pub(crate) fn missing_output(alloc: Global, step: u64, why: Why) -> Result<Outpu
     })
 }
 
-/// Writes the text of a node's value, and a line feed.
+/// A line feed follows the text.
 fn print_node<S: Source, W: Write>(
     alloc: Global,
     checked: &mut Checked<S>,
@@ -138,7 +136,6 @@ fn print_node<S: Source, W: Write>(
     Ok(Said::All)
 }
 
-/// Puts a line feed into the sink, and flushes it.
 fn end_line<W: Write>(sink: &mut Sink, out: &mut W) -> Result<(), WriteFault>
     ensures taken { OnOk result (Takes (W.contents out.old) (W.contents out.new) sink.old sink.new (codes "\n")) }
     ensures empty { OnOk result (sink.new.held ≡ []) }

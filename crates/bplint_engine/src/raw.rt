@@ -59,7 +59,6 @@ pub fn show_raw_on<S: Source, W: Write>(
     }
 }
 
-/// Writes the raw bytes of what a checked file has under a path.
 fn raw_path<S: Source, W: Write>(
     alloc: Global,
     checked: &mut Checked<S>,
@@ -78,7 +77,6 @@ fn raw_path<S: Source, W: Write>(
     }
 }
 
-/// Writes the raw bytes of a node's value.
 fn raw_node<S: Source, W: Write>(
     alloc: Global,
     checked: &mut Checked<S>,

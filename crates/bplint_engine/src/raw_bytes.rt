@@ -71,7 +71,6 @@ pub(crate) fn raw_of<S: Source>(
     }
 }
 
-/// Returns the word or the digits for a face, if these are the raw bytes of its value.
 fn word_of(alloc: Global, shown: &Face) -> Result<Option<Vec<u8>>, AllocError>
     ensures { IfOk result (λ word. option_map (λ bytes. bytes.items) word ≡ raw_word shown.now) }
 {
@@ -84,7 +83,6 @@ fn word_of(alloc: Global, shown: &Face) -> Result<Option<Vec<u8>>, AllocError>
     }
 }
 
-/// Returns true if each surrogate of the text has its other half.
 fn is_paired<S: Source>(
     alloc: Global,
     checked: &mut Checked<S>,
@@ -134,7 +132,6 @@ pub(crate) fn read_characters<S: Source>(
     }
 }
 
-/// Returns true for the first half of a surrogate pair.
 fn is_high_surrogate(unit: u16) -> bool
     ensures { result ≡ is_high_surrogate unit }
 {
@@ -161,7 +158,6 @@ pub(crate) fn send_raw<S: Source, W: Write>(
     Ok(())
 }
 
-/// Puts raw bytes into a sink.
 fn put_raw<S: Source, W: Write>(
     alloc: Global,
     checked: &mut Checked<S>,
@@ -183,7 +179,6 @@ fn put_raw<S: Source, W: Write>(
     }
 }
 
-/// Puts the bytes of data into a sink.
 fn put_data<S: Source, W: Write>(
     checked: &mut Checked<S>,
     head: &Head,
@@ -209,7 +204,7 @@ fn put_data<S: Source, W: Write>(
     Ok(())
 }
 
-/// Puts the UTF-8 of a text into a sink. Returns `Changed` if a surrogate has lost its other half.
+/// Returns `Changed` if a surrogate has lost its other half.
 fn put_text<S: Source, W: Write>(
     alloc: Global,
     checked: &mut Checked<S>,

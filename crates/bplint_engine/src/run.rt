@@ -65,7 +65,7 @@ impl Model for Command {
     } };
 }
 
-/// Runs a command over a source and a decoded certificate, which `Lint` and `Certify` ignore.
+/// `Lint` and `Certify` ignore the certificate.
 fn run_certified<S: Source, W: Write>(
     alloc: Global,
     command: &Command,
@@ -91,7 +91,6 @@ fn run_certified<S: Source, W: Write>(
     }
 }
 
-/// Returns the text of a list that has one.
 fn only_text(texts: &[String]) -> &str
     requires { length texts.now ≡ 1 }
     ensures { map (λ text. string_bytes text) texts.now ≡ result.now ∷ [] }
@@ -157,7 +156,6 @@ pub fn run_over<W: Write>(
     run_over_bytes(alloc, command, &file, &cert, out)
 }
 
-/// Returns the bytes of the certificate if the verb uses one, or else no bytes.
 fn cert_for(verb: Verb, cert: &[u8]) -> &[u8]
     ensures { result.now ≡ (if takes_cert verb then cert.now else []) }
 {

@@ -36,7 +36,6 @@ pub fn show_on<S: Source, W: Write>(
     send_made(show_output(alloc, src, paths, style), out)
 }
 
-/// Returns the lines of `show`, one for each path text, and the source.
 fn show_output<S: Source>(
     alloc: Global,
     src: S,
@@ -61,7 +60,7 @@ fn show_output<S: Source>(
     }
 }
 
-/// Lints the file. Returns it with a certificate that suits these queries.
+/// The certificate of what is returned suits these queries.
 fn checked_for<S: Source>(
     alloc: Global,
     src: S,

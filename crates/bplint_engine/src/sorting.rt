@@ -61,7 +61,7 @@ fn pays_to_sort<S: Source>(checked: &mut Checked<S>, queries: &[Query]) -> Resul
     Ok(false)
 }
 
-/// Returns how many keys are compared to follow the path of a query for a face.
+/// Counts the keys that are compared to follow the path of a query for a face.
 fn comparisons_of<S: Source>(checked: &mut Checked<S>, query: &Query) -> Result<u64, CursorFault>
     ensures reads { OnlyReadsFile (cursor_read result) checked.old checked.new }
     ensures unchanged { IsTrue checked.old.source.honest → GivesCursor (λ _. ⊤) result }
@@ -75,7 +75,7 @@ fn comparisons_of<S: Source>(checked: &mut Checked<S>, query: &Query) -> Result<
     }
 }
 
-/// Returns a checked file with the key lists of its dictionaries, by which a key is found by halving.
+/// By key lists a key is found by halving.
 fn with_key_lists<S: Source>(
     alloc: Global,
     checked: Checked<S>,

@@ -70,7 +70,6 @@ pub fn list_all_on<S: Source, W: Write>(
     }
 }
 
-/// Lists what a checked file has under a path.
 fn tree_path<S: Source, W: Write>(
     alloc: Global,
     checked: &mut Checked<S>,
@@ -90,7 +89,6 @@ fn tree_path<S: Source, W: Write>(
     }
 }
 
-/// Lists a node's value.
 fn tree_node<S: Source, W: Write>(
     alloc: Global,
     checked: &mut Checked<S>,

@@ -90,7 +90,6 @@ pub(crate) fn write_tree<S: Source, W: Write>(
     Ok(())
 }
 
-/// Puts the lines of a node's value and of everything inside it into the sink.
 fn list<S: Source, W: Write>(
     checked: &mut Checked<S>,
     top: Named,
@@ -113,7 +112,7 @@ fn list<S: Source, W: Write>(
     Ok(())
 }
 
-/// Puts the line of a node into the sink. Pushes the node on the stack if it is a container.
+/// If the node is a container, it goes on the stack.
 fn begin<S: Source, W: Write>(
     checked: &mut Checked<S>,
     at: Named,
@@ -150,7 +149,7 @@ fn begin<S: Source, W: Write>(
     Ok(())
 }
 
-/// Puts the line of a node into the sink. Returns the kind and number of its members if it is a container.
+/// Returns kind and number of the members if the node is a container.
 fn write_line<S: Source, W: Write>(
     checked: &mut Checked<S>,
     at: Named,
@@ -183,7 +182,7 @@ fn write_line<S: Source, W: Write>(
     Ok(members_of(&shown, length))
 }
 
-/// Lists the next member of a container that was just popped from the stack.
+/// The container was just popped from the stack.
 fn step<S: Source, W: Write>(
     checked: &mut Checked<S>,
     opened: Opened,
@@ -213,7 +212,6 @@ fn step<S: Source, W: Write>(
     begin(checked, at, listing, style, out)
 }
 
-/// Returns the next member of a container, with its name.
 fn name_member<S: Source>(
     checked: &mut Checked<S>,
     opened: &Opened,
@@ -249,7 +247,6 @@ fn name_member<S: Source>(
     }
 }
 
-/// Returns the value of the next key of a dictionary, with its name.
 fn name_value<S: Source>(
     checked: &mut Checked<S>,
     opened: &Opened,
@@ -296,7 +293,6 @@ impl Listing {
         })
     }
 
-    /// Makes the line of a value with this name and this face.
     fn make_line(&mut self, style: Style, name: Name, shown: &Face) -> Result<(), AllocError>
         requires { IsNameIn self.old.names name }
         ensures line { OnOk result (self.new.line.items

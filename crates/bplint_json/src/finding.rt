@@ -27,7 +27,6 @@ pub struct Way {
 }
 
 impl Way {
-    /// No path, for this reason.
     fn missing(why: &'static str) -> Way {
         Way {
             path: None,
@@ -136,7 +135,7 @@ fn kind_of_top<S: Source>(src: &mut S) -> Result<Kind, ObjectFault> {
     Ok(shape_of(src, &frame, frame.top)?.kind)
 }
 
-/// Returns what a file that is not sound looks like, if that is known and memory for the words is not refused.
+/// If memory for the words is refused, there are none.
 fn looks_of<S: Source>(alloc: Global, src: &mut S) -> Result<Option<String>, Failure> {
     match hint_of(src)? {
         Some(hint) => Ok(hint.words(alloc).ok()),

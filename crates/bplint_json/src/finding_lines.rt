@@ -136,7 +136,7 @@ impl Finding {
     }
 }
 
-/// Returns the line for a file that breaks this rule, without the object and place.
+/// The line is without the object and the place.
 fn broken_line<'a>(name: Name<'a>, rule: Rule, way: &'a Way) -> BrokenLine<'a> {
     let (sentence, _) = texts_of(rule);
     let text = way.path.as_ref().map(|path| path.as_str());
@@ -160,7 +160,7 @@ fn broken_line<'a>(name: Name<'a>, rule: Rule, way: &'a Way) -> BrokenLine<'a> {
     }
 }
 
-/// Returns the bytes of a name in hexadecimal if it is not UTF-8.
+/// A name that is UTF-8 has no hexadecimal form.
 fn hex_of_name(alloc: Global, name: &[u8]) -> Result<Option<String>, AllocError> {
     match std::str::from_utf8(name) {
         Ok(_) => Ok(None),

@@ -41,8 +41,8 @@ pub use listing::{Depth, Form, Listed, list_rows_on};
 use serde::Serialize;
 use std::alloc::{AllocError, Global};
 
-/// Returns a value as JSON, in which each character that a line may not show is `\u` and four digits. The only error is
-/// refused memory, since each key is a text.
+/// A character that a line may not show is `\u` and four digits. The only error is refused memory, since each key is a
+/// text.
 fn json_of<T: Serialize>(alloc: Global, value: &T) -> Result<Vec<u8>, AllocError> {
     let json = serde_json::to_vec(alloc, value).map_err(|_| AllocError)?;
     if json.iter().all(|octet| *octet < 0x7F) {
@@ -54,7 +54,7 @@ fn json_of<T: Serialize>(alloc: Global, value: &T) -> Result<Vec<u8>, AllocError
     }
 }
 
-/// Returns a JSON text without the characters that a line may not show. They stand between quotes.
+/// Characters that a line may not show stand between quotes.
 fn escaped(alloc: Global, json: &str) -> Result<Vec<u8>, AllocError> {
     let mut text = String::new(alloc);
     for c in json.chars() {

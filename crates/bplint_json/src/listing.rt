@@ -174,8 +174,7 @@ impl<'a, W: Write> Listing<'a, W> {
         Ok(())
     }
 
-    /// Puts the lines of everything inside the containers on the stack into the sink. The number of turns is bounded by
-    /// the number of nodes, which was counted before.
+    /// The number of turns is bounded by the number of nodes, which was counted before.
     fn list_stack<S: Source>(&mut self, checked: &mut Checked<S>) -> Result<(), RunFault> {
         for _ in 0..u64::MAX {
             let Some(opened) = self.stack.pop() else {
@@ -193,7 +192,7 @@ impl<'a, W: Write> Listing<'a, W> {
         Err(RunFault::Changed)
     }
 
-    /// Puts the line of a node into the sink. Pushes the node on the stack if it is a container.
+    /// If the node is a container, it goes on the stack.
     fn begin<S: Source>(
         &mut self,
         checked: &mut Checked<S>,
@@ -280,7 +279,7 @@ impl<'a, W: Write> Listing<'a, W> {
     }
 }
 
-/// Returns a node with this face as a container none of whose members are listed, or `None` for a leaf.
+/// A leaf is no container.
 fn opened_by(node: Node, shown: &Face, name: Name) -> Option<Opened> {
     let (members, count) = match shown {
         Face::Array(count) => (Members::Array, *count),

@@ -87,8 +87,7 @@ impl Names {
         }
     }
 
-    /// Returns the name of a pair's value in JSON. It has no path if the key has half of a surrogate pair: then the key
-    /// stands before it.
+    /// The name has no path if the key has half of a surrogate pair: then the key stands before it.
     fn push_whole_key(&mut self, dict: Name, pair: &Pair<'_>) -> Result<Name, AllocError> {
         self.text.truncate(dict.end);
         if add_whole_key_name(self.alloc, pair.key, &mut self.text)? {
@@ -101,7 +100,7 @@ impl Names {
         })
     }
 
-    /// Returns the name of a pair's value in columns. It has no path if the key cannot be shown in one.
+    /// The name has no path if the key cannot be shown in a column.
     fn push_shown_key(
         &mut self,
         dict: Name,
@@ -116,7 +115,7 @@ impl Names {
         }
     }
 
-    /// Returns the name that begins at this place, as that of member `i` of its container.
+    /// `i` is the index of the member in its container.
     fn beginning(&self, start: usize, i: u64) -> Name {
         Name {
             start,

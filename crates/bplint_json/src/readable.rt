@@ -52,7 +52,7 @@ fn date_at(alloc: Global, decimal: &str, before: bool) -> Result<Option<String>,
     Ok(Some(format!(in alloc; "{time}.{fraction}Z")?))
 }
 
-/// Returns the last whole second at or before so many seconds, of which `exact` says that no fraction is behind them.
+/// Takes the last whole second at or before so many seconds. `exact` says that no fraction is behind them.
 fn time_at(seconds: &str, before: bool, exact: bool) -> Option<DateTime> {
     let seconds = seconds.parse::<u64>().ok()?;
     if seconds >= TOO_FAR {
@@ -72,7 +72,7 @@ fn time_at(seconds: &str, before: bool, exact: bool) -> Option<DateTime> {
     Some(time)
 }
 
-/// Returns the digits of one less the fraction with these digits, the last of which is not 0.
+/// These are the digits of one less the fraction with the given digits, the last of which is not 0.
 fn rest_of_second(alloc: Global, digits: &str) -> Result<String, AllocError> {
     let mut rest = String::new(alloc);
     for (i, digit) in digits.bytes().enumerate() {

@@ -149,7 +149,7 @@ fn container<'a>(named: Named<'a>, kind: &'a str, count: u64, site: Site) -> Con
     }
 }
 
-/// Returns the line of a leaf whose value is its bytes in hexadecimal.
+/// The value is written in hexadecimal.
 fn octets_row(
     alloc: Global,
     named: Named<'_>,
@@ -231,8 +231,7 @@ fn text_row(
     }
 }
 
-/// Returns the line of a text that has halves of surrogate pairs. A Rust text cannot hold one, so the JSON text is put
-/// together from the parts between them.
+/// A Rust text cannot hold half of a surrogate pair, so the JSON text is put together from the parts between them.
 fn broken_text_row(
     alloc: Global,
     named: Named<'_>,
@@ -295,7 +294,7 @@ pub(crate) fn add_broken_text(
     add_part(alloc, &part, row)
 }
 
-/// Adds a text as it stands between the quotes of a JSON text.
+/// The part stands between the quotes of a JSON text.
 fn add_part(alloc: Global, part: &str, row: &mut Vec<u8>) -> Result<(), AllocError> {
     let quoted = json_of(alloc, &part)?;
     match quoted.as_slice() {

@@ -66,7 +66,6 @@ pub fn explain<S: Source>(
     }
 }
 
-/// Returns the line of a rule, followed by these lines.
 fn behind_rule(alloc: Global, rule: Rule, lines: &str) -> Result<String, AllocError>
     ensures { IfOk result (λ text. string_bytes text ≡ rule_line rule ++ lines.now) }
 {
@@ -75,7 +74,6 @@ fn behind_rule(alloc: Global, rule: Rule, lines: &str) -> Result<String, AllocEr
     Ok(text)
 }
 
-/// Returns the line of a rule that explains a fault.
 pub(crate) fn rule_line_of(alloc: Global, rule: Rule) -> Result<String, AllocError>
     ensures { IfOk result (λ text. string_bytes text ≡ rule_line rule) }
 {
@@ -83,7 +81,6 @@ pub(crate) fn rule_line_of(alloc: Global, rule: Rule) -> Result<String, AllocErr
     format!(in alloc; "  rule {number}: {demand}\n")
 }
 
-/// Returns the lines about the place of a broken rule.
 fn fault_lines<S: Source>(
     alloc: Global,
     src: &mut S,
@@ -102,7 +99,7 @@ fn fault_lines<S: Source>(
     Ok(text)
 }
 
-/// Returns the line with the bytes around the place of a fault, which is in the certificate for some rules.
+/// For some rules the place is in the certificate.
 fn place_line<S: Source>(
     alloc: Global,
     src: &mut S,
@@ -132,7 +129,6 @@ pub fn is_about_certificates(rule: Rule) -> bool
     }
 }
 
-/// Returns the lines about a circle that begins with this object.
 fn circle_lines<S: Source>(alloc: Global, src: &mut S, first: ObjectNo) -> Result<String, Failure>
     ensures reads { OnlyReads (failed_to_read result) (S.means src.old) (S.means src.new) }
 {
@@ -156,7 +152,7 @@ pub fn describe<S: Source>(alloc: Global, src: &mut S, object: ObjectNo) -> Resu
     }
 }
 
-/// Returns the frame of a file if it keeps the rules of frames.
+/// Returns None if the file breaks a rule of frames.
 fn frame_in<S: Source>(src: &mut S) -> Result<Option<Frame>, Failure>
     ensures reads { OnlyReads (failed_to_read result) (S.means src.old) (S.means src.new) }
     ensures safe { IfOk result (λ found. IfSome found (IsSafeFrame (length (S.means src.old).octets))) }
@@ -168,7 +164,7 @@ fn frame_in<S: Source>(src: &mut S) -> Result<Option<Frame>, Failure>
     }
 }
 
-/// Returns the lines about the object that breaks a rule: what it is, which key is wrong, and the path to it.
+/// The lines say what the object is, which key is wrong, and the path to it.
 fn object_lines<S: Source>(
     alloc: Global,
     src: &mut S,
@@ -190,7 +186,7 @@ fn object_lines<S: Source>(
     Ok(text)
 }
 
-/// Returns number, kind, count and place of an object, as far as they are known.
+/// The line has number, kind, count and place, as far as they are known.
 fn object_line<S: Source>(
     alloc: Global,
     src: &mut S,
@@ -222,7 +218,7 @@ fn head_line(
     }
 }
 
-/// Returns number and text of the key whose reference is at this place.
+/// `place` is that of the reference to the key.
 fn key_line<S: Source>(
     alloc: Global,
     src: &mut S,
@@ -245,8 +241,7 @@ fn key_line<S: Source>(
     Ok(key_text(alloc, index, key.as_ref())?)
 }
 
-/// Formats number and text of a key. ` ..` marks a text that is cut. No whole text ends so, because a text with a blank
-/// is in quotes.
+/// ` ..` marks a text that is cut. No whole text ends so, because a text with a blank is in quotes.
 fn key_text(alloc: Global, index: u64, key: Option<&KeyFront>) -> Result<String, AllocError> {
     let Some(key) = key else {
         return format!(in alloc; "  key {index}: no text\n");
@@ -259,8 +254,7 @@ fn key_text(alloc: Global, index: u64, key: Option<&KeyFront>) -> Result<String,
     Ok(line)
 }
 
-/// Returns the line with the path to an object. Finding the path takes more memory than `lint`: if memory is refused,
-/// the line says so.
+/// Finding the path takes more memory than `lint`: if memory is refused, the line says so.
 fn path_line<S: Source>(
     alloc: Global,
     src: &mut S,
@@ -299,8 +293,7 @@ fn written_path(alloc: Global, path: &WrittenPath) -> Result<String, AllocError>
     }
 }
 
-/// Returns the line with the bytes around a place, after the place of the first of them. The place is in brackets; at
-/// the end of the file the brackets are empty.
+/// The byte at the place is in brackets; at the end of the file the brackets are empty.
 fn bytes_line<S: Source>(alloc: Global, src: &mut S, place: u64) -> Result<String, Failure>
     ensures reads { OnlyReads (failed_to_read result) (S.means src.old) (S.means src.new) }
 {
@@ -315,7 +308,7 @@ fn bytes_line<S: Source>(alloc: Global, src: &mut S, place: u64) -> Result<Strin
     Ok(dump(alloc, start, shown, (place - start) as usize)?)
 }
 
-/// Formats bytes that begin at `start`, with byte number `marked` in brackets.
+/// `marked` is the index of the byte in brackets.
 fn dump(alloc: Global, start: u64, octets: &[u8], marked: usize) -> Result<String, AllocError> {
     let mut line = format!(in alloc; "  bytes at {start}:")?;
     for (k, octet) in octets.iter().enumerate() {
@@ -345,7 +338,6 @@ pub fn rule_text(alloc: Global, rule: Rule) -> Result<String, AllocError>
     format!(in alloc; "rule {number} {word}: {demand}\nbroken by: {breach}\nbasis: {basis}\n")
 }
 
-/// Returns the basis of a rule in words.
 fn basis_words(rule: Rule) -> &'static str
     ensures { result.now ≡ basis_words rule }
 {

@@ -81,7 +81,6 @@ pub fn add_whole_key_name(
     }
 }
 
-/// Adds the name of the value of a pair whose key cannot be shown.
 fn add_unshown(
     alloc: Global,
     style: Style,
@@ -97,14 +96,13 @@ fn add_unshown(
     }
 }
 
-/// Are all units ASCII? Then each is a byte of the text.
+/// If they are, each unit is a byte of the text.
 fn are_ascii(units: &[u16]) -> bool
     ensures { result ≡ list_all spec.is_ascii units.now }
 {
     units.iter().all(|unit| *unit < 0x80)
 }
 
-/// Adds a path text, `/` and a token. In the token, `~` becomes `~0` and `/` becomes `~1`.
 fn add_path(path: &str, token: &[u8], lines: &mut Vec<u8>) -> Result<(), AllocError>
     ensures { OnOk result (lines.new.items ≡ lines.old.items ++ (path.now ++ 0x2F ∷ flat_map escaped token.now)) }
 {
@@ -122,7 +120,7 @@ fn add_token(token: &[u8], lines: &mut Vec<u8>) -> Result<(), AllocError>
     Ok(())
 }
 
-/// Adds a path text, `/` and the escaped token of these units. They are ASCII, so no `String` is made of them.
+/// The units are ASCII, so no `String` is made of them.
 fn add_ascii_path(path: &str, units: &[u16], lines: &mut Vec<u8>) -> Result<(), AllocError>
     requires { list_all spec.is_ascii units.now ≡ true }
     ensures { OnOk result (lines.new.items ≡ lines.old.items ++ (path.now ++ 0x2F ∷ flat_map escaped units.now)) }
@@ -142,7 +140,6 @@ fn add_ascii_token(units: &[u16], lines: &mut Vec<u8>) -> Result<(), AllocError>
     Ok(())
 }
 
-/// Adds a byte of a token.
 fn add_escaped(byte: u8, lines: &mut Vec<u8>) -> Result<(), AllocError>
     ensures { OnOk result (lines.new.items ≡ lines.old.items ++ escaped byte) }
 {

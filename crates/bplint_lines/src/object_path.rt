@@ -98,7 +98,6 @@ impl WrittenPath {
         })
     }
 
-    /// Returns true if no more steps are written.
     fn is_full(&self) -> bool {
         self.more > 0 || self.steps >= MOST_STEPS || self.text.len() > MOST_BYTES
     }
@@ -167,7 +166,7 @@ impl ObjectPaths {
         })
     }
 
-    /// Searches from the top for an object, or for all objects, breadth first.
+    /// Searches breadth first, for all objects if `target` is None.
     fn search<S: Source>(
         &mut self,
         alloc: Global,
@@ -223,8 +222,7 @@ impl ObjectPaths {
         Ok(())
     }
 
-    /// Records the step to an object if it was not found before. No file in which objects do not overlap has so many
-    /// references that an index does not fit.
+    /// No file in which objects do not overlap has so many references that an index does not fit.
     fn meet(
         &mut self,
         object: u64,
@@ -278,7 +276,6 @@ impl ObjectPaths {
         Ok(ObjectPath::Path(path))
     }
 
-    /// Returns what is said of an object that was not found.
     fn without_path(&self) -> ObjectPath {
         if self.budget == 0 {
             ObjectPath::Unknown
@@ -287,7 +284,7 @@ impl ObjectPaths {
         }
     }
 
-    /// Returns the last step to an object that was found and is not the top.
+    /// Returns None for the top and for an object that was not found.
     fn step_to(&self, object: u32) -> Option<Step> {
         match self.steps.get(object as usize) {
             Some(step) if step.from != object => Some(*step),
@@ -295,8 +292,7 @@ impl ObjectPaths {
         }
     }
 
-    /// Returns the steps from an object back to the top, the last step first, or nothing if the object was not found or
-    /// has too many.
+    /// The last step comes first. Returns None if the object was not found or has too many steps.
     fn steps_back(&self, alloc: Global, object: u32) -> Result<Option<Vec<Step>>, AllocError> {
         let mut steps = Vec::new(alloc);
         let mut n = object;
@@ -316,7 +312,7 @@ impl ObjectPaths {
     }
 }
 
-/// Returns the path of these steps, of which the last comes first.
+/// The last of the steps comes first.
 fn path_of<S: Source>(
     alloc: Global,
     src: &mut S,
@@ -335,7 +331,7 @@ fn path_of<S: Source>(
     Ok(path)
 }
 
-/// Adds a step to a path, or counts it if the path is full.
+/// If the path is full, the step is only counted.
 fn add_step<S: Source>(
     alloc: Global,
     src: &mut S,
@@ -366,8 +362,7 @@ fn add_step<S: Source>(
     Ok(add_index_name(alloc, "", index, &mut path.text)?)
 }
 
-/// Adds the step to the value of a pair with this key. A key that was cut is given by its index, because its start
-/// could be another key.
+/// A key that was cut is given by its index, because its start could be another key.
 fn add_key(
     alloc: Global,
     naming: Naming,
@@ -394,7 +389,7 @@ fn add_key(
     }
 }
 
-/// Returns the first 4,096 units of a key, or all if it has fewer, if the key is a text.
+/// Reads at most 4,096 units. Returns None if the key is not a text.
 pub(crate) fn key_front<S: Source>(
     alloc: Global,
     src: &mut S,
@@ -423,7 +418,7 @@ pub(crate) fn key_front<S: Source>(
     }
 }
 
-/// Returns the head of an object if it keeps the rules about markers and counts.
+/// Returns None if the object breaks a rule about markers or counts.
 pub(crate) fn head_in<S: Source>(
     src: &mut S,
     frame: &Frame,

@@ -105,7 +105,6 @@ fn add_number(
     lines.extend_from_slice(digits.as_bytes())
 }
 
-/// Adds a word and the hexadecimal digits of bytes.
 pub(crate) fn add_hexadecimal(
     alloc: Global,
     word: &[u8],

@@ -22,7 +22,6 @@ pub enum Style {
     Utf8,
 }
 
-/// Adds a text with these units.
 pub(crate) fn add_text(
     alloc: Global,
     style: Style,
@@ -37,7 +36,6 @@ pub(crate) fn add_text(
     }
 }
 
-/// Adds a text in UTF-8, in quotes unless it has units and all of them are ASCII letters and digits.
 pub(crate) fn add_utf8_text(
     alloc: Global,
     units: &[u16],
@@ -53,7 +51,7 @@ pub(crate) fn add_utf8_text(
     Ok(lines.push(b'"')?)
 }
 
-/// Adds units as they stand between quotes.
+/// The units stand between quotes.
 fn add_units(alloc: Global, units: &[u16], lines: &mut Vec<u8>) -> Result<(), AllocError>
     ensures { OnOk result (lines.new.items ≡ lines.old.items ++ utf8_units units.now) }
 {
@@ -64,8 +62,7 @@ fn add_units(alloc: Global, units: &[u16], lines: &mut Vec<u8>) -> Result<(), Al
     Ok(())
 }
 
-/// Adds the character that begins at unit `at`, or the form of that unit if it is in no pair. Returns the index of the
-/// unit after it.
+/// Returns the index of the unit after the character.
 fn add_character(
     alloc: Global,
     units: &[u16],
@@ -89,14 +86,13 @@ fn add_character(
     }
 }
 
-/// Returns the unit at an index, or 0 after the last one.
+/// Returns 0 after the last unit.
 fn unit_at(units: &[u16], at: usize) -> u16
     ensures { result ≡ slice_index units.now at }
 {
     if at < units.len() { units[at] } else { 0 }
 }
 
-/// Returns the character of a surrogate pair, or `None` if these units are no pair.
 fn character_of(first: u16, second: u16) -> Option<char>
     ensures { MatchOption result (starts_pair first second ≡ false)
         (λ character. (starts_pair first second ≡ true) × (character ≡ surrogate_pair_char first second)) }
@@ -108,14 +104,13 @@ fn character_of(first: u16, second: u16) -> Option<char>
     char::from_u32(0x1_0000 + over)
 }
 
-/// Returns true if these are the two halves of a surrogate pair.
 fn is_pair(first: u16, second: u16) -> bool
     ensures { result ≡ starts_pair first second }
 {
     matches!(first, 0xD800..=0xDBFF) && matches!(second, 0xDC00..=0xDFFF)
 }
 
-/// Adds the form of a unit that is in no pair.
+/// The unit is in no pair.
 fn add_unit(alloc: Global, unit: u16, lines: &mut Vec<u8>) -> Result<(), AllocError>
     ensures { OnOk result (lines.new.items ≡ lines.old.items ++ utf8_unit unit) }
 {
@@ -133,7 +128,6 @@ fn add_unit(alloc: Global, unit: u16, lines: &mut Vec<u8>) -> Result<(), AllocEr
     }
 }
 
-/// Adds the UTF-8 of a character.
 fn add_encoded(character: char, lines: &mut Vec<u8>) -> Result<(), AllocError>
     ensures { OnOk result (lines.new.items ≡ lines.old.items ++ encode_utf8 character) }
 {
@@ -141,7 +135,6 @@ fn add_encoded(character: char, lines: &mut Vec<u8>) -> Result<(), AllocError>
     lines.extend_from_slice(character.encode_utf8(&mut buffer).as_bytes())
 }
 
-/// Returns true if a line cannot show one of the units.
 pub(crate) fn have_unshown(units: &[u16]) -> bool
     ensures { result ≡ list_any spec.is_unshown units.now }
 {

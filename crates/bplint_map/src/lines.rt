@@ -76,7 +76,7 @@ impl<'a, W: Write> MapLines<'a, W> {
         Ok(())
     }
 
-    /// Puts the line into the sink, with this last column if there are seven.
+    /// `path` is the seventh column, if there is one.
     fn put(&mut self, path: &str) -> Result<(), RunFault>
         ensures { read_failed result ≡ None }
     {
@@ -90,7 +90,6 @@ impl<'a, W: Write> MapLines<'a, W> {
     }
 }
 
-/// Adds the six columns of an object.
 fn add_object(line: &mut String, row: &Row, verdict: &Verdict) -> Result<(), AllocError> {
     let (place, number) = (row.place, row.number);
     match &row.finding {
@@ -109,14 +108,13 @@ fn add_object(line: &mut String, row: &Row, verdict: &Verdict) -> Result<(), All
     }
 }
 
-/// Adds the first five columns of an object with this head.
 fn add_head(line: &mut String, row: &Row, head: &Head) -> Result<(), AllocError> {
     let (place, number) = (row.place, row.number);
     let (end, kind, count) = (head.end, head.kind, head.count);
     write!(line, "{place}\t{end}\t{number}\t{kind}\t{count}\t")
 }
 
-/// Adds the sixth column of an object that breaks no rule by itself.
+/// The object breaks no rule by itself.
 fn add_note(line: &mut String, verdict: &Verdict, number: u32) -> Result<(), AllocError> {
     match verdict {
         Verdict::Heights(heights) => match heights.get(number as usize) {

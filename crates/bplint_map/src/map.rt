@@ -68,7 +68,6 @@ pub fn map_on<S: Source, W: Write>(
     Ok(Said::All)
 }
 
-/// Returns the paths to all objects, if they are wanted.
 fn found_paths<S: Source>(
     alloc: Global,
     src: &mut S,
@@ -112,7 +111,6 @@ fn put_map<P: Framed, W: Write>(
     lines.put_region(end, src.len(), "trailer")
 }
 
-/// Returns the path of an object, if paths are wanted.
 fn path_text<P: Framed>(
     alloc: Global,
     src: &mut P,

@@ -138,7 +138,7 @@ pub(crate) fn row_of<P: Framed>(
     })
 }
 
-/// Returns what an object with this head breaks. The head keeps rules 14 to 17.
+/// The head keeps rules 14 to 17.
 fn finding_of<P: Framed>(
     src: &mut P,
     object: ObjectOffset,

@@ -116,7 +116,7 @@ fn changes_of_one_byte_by_counts(rt: HostRuntime) -> Result<(), Fail> {
     Ok(())
 }
 
-/// Runs a command over the row's file. After some reads the source becomes another file of the same length.
+/// After some reads the source becomes the other file, which has the same length.
 fn outcome_of_shifting(
     alloc: Global,
     command: &Command,

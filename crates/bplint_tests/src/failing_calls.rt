@@ -23,7 +23,7 @@ struct Turn {
     again: String,
 }
 
-/// Checks a source with this read, and then checks again what the first check handed back.
+/// The second check takes what the first handed back.
 fn check_turn(alloc: Global, row: &Row, read: FailingRead) -> Result<Turn, Fail> {
     let source = FailingSource::new(&row.octets, read);
     match check(alloc, source, row.certificate(alloc)?) {
@@ -38,7 +38,6 @@ fn check_turn(alloc: Global, row: &Row, read: FailingRead) -> Result<Turn, Fail>
     }
 }
 
-/// Returns the result of a check without a failing read.
 fn accepted_text<S: Source + Drop>(
     alloc: Global,
     name: &'static str,
@@ -51,7 +50,6 @@ fn accepted_text<S: Source + Drop>(
     }
 }
 
-/// Makes a call twice on a file that is checked over a source with this read.
 fn call_turn(alloc: Global, row: &Row, call: &Call, read: FailingRead) -> Result<Turn, Fail> {
     let mut checked = row.checked(alloc, FailingSource::new(&row.octets, read))?;
     let first = call.answer_text(alloc, &mut checked)?;
@@ -69,7 +67,7 @@ fn is_whole(rt: &impl Abort, name: &str, turn: &Turn, read: FailingRead, want: &
     false
 }
 
-/// Lets each read of a check fail in its turn. Returns how many reads the check makes.
+/// Returns how many reads the check makes.
 fn check_at_each_turn(
     rt: &impl Abort,
     alloc: Global,
@@ -92,7 +90,7 @@ fn whole_answer(alloc: Global, row: &Row, call: &Call) -> Result<String, Fail> {
     Ok(call.answer_text(alloc, &mut whole)?)
 }
 
-/// Lets each read of a call fail in its turn, after the check has ended. Returns how many reads the call makes.
+/// The reads fail after the check has ended. Returns how many reads the call makes.
 fn call_at_each_turn(
     rt: &impl Abort,
     alloc: Global,
@@ -134,7 +132,6 @@ fn row_at_each_turn(
     Ok(())
 }
 
-/// Lets each read of the check, and of each call on these files, fail in its turn.
 fn rows_at_each_turn(
     rt: &impl Abort,
     alloc: Global,
@@ -186,7 +183,6 @@ fn refusal<S: Source>(alloc: Global, source: &mut S) -> Result<String, AllocErro
     format!(in alloc; "{refused:?}")
 }
 
-/// Lints over a source with this read, and then once more.
 fn lint_turn(alloc: Global, octets: &[u8], read: FailingRead) -> Result<Turn, AllocError> {
     let mut source = FailingSource::new(octets, read);
     let first = refusal(alloc, &mut source)?;
@@ -194,7 +190,7 @@ fn lint_turn(alloc: Global, octets: &[u8], read: FailingRead) -> Result<Turn, Al
     Ok(Turn { first, again })
 }
 
-/// Lets each read of the linter on a file that it refuses fail in its turn. Returns how many reads the linter makes.
+/// The linter refuses the file. Returns how many reads it makes.
 fn lint_at_each_turn(
     rt: &impl Abort,
     alloc: Global,

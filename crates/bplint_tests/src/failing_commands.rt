@@ -26,7 +26,7 @@ fn outcome_of(
     outcome(alloc, answer, &out)
 }
 
-/// Lets each read of a command fail in its turn. Returns how many reads the command makes.
+/// Returns how many reads the command makes.
 fn run_at_each_turn(
     rt: &impl Abort,
     alloc: Global,

@@ -8,7 +8,6 @@ use std::alloc::Global;
 use std::process::Abort;
 use std::test::Fail;
 
-/// Tests that the fault has this status and this line.
 fn says(
     rt: &impl Abort,
     alloc: Global,

@@ -24,7 +24,7 @@ fn answer_of(want: Want) -> Result<Head, ObjectFault> {
     }
 }
 
-/// Returns the head of object `n`. An object number that does not exist gives a fault of rule `Top`.
+/// An object number that does not exist gives a fault of rule `Top`.
 fn head(file: &[u8], n: u32) -> Result<Head, ObjectFault> {
     let mut src = SliceSource::new(file);
     let frame = frame_of(&mut src)?;

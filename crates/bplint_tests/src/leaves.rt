@@ -32,7 +32,6 @@ enum Leaf {
     Other,
 }
 
-/// Returns the head of the top.
 #[tactic(auto, using(bplist_objects::proofs::SafeHeads::safe_body))]
 fn top_head<S: Source>(src: &mut S) -> Result<Head, ObjectFault>
     ensures reads { OnlyReads (read_failed result) (S.means src.old) (S.means src.new) }

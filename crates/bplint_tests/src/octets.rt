@@ -15,8 +15,7 @@ use std::{env, fs, io};
 /// A read: its place, the number of bytes, and its result.
 pub(crate) type Read = (u64, usize, Result<(), ReadFault>);
 
-/// Tests that the source has these bytes, and gives this result for the read. The buffer has the bytes at the place if
-/// and only if the result is `Ok`.
+/// The buffer has the bytes at the place if and only if the result is `Ok`.
 pub(crate) fn answers<S: Source>(rt: &impl Abort, source: &mut S, bytes: &[u8], read: Read) {
     let (at, count, want) = read;
     let from = at as usize;
@@ -26,7 +25,7 @@ pub(crate) fn answers<S: Source>(rt: &impl Abort, source: &mut S, bytes: &[u8], 
     assert_eq!(rt; answer, (want, want.is_ok()), "at {at}");
 }
 
-/// Returns the result of a read at this place, and whether it gives the bytes that are there.
+/// The flag says whether the read gives the bytes that are there.
 fn answer_of<S: Source>(source: &mut S, at: u64, stand: &[u8]) -> (Result<(), ReadFault>, bool)
     requires inside { at + length stand.now ≤ length (S.means source.old).octets }
     requires short { length stand.now ≤ 9000 }
@@ -37,7 +36,6 @@ fn answer_of<S: Source>(source: &mut S, at: u64, stand: &[u8]) -> (Result<(), Re
     (answer, *part == *stand)
 }
 
-/// Tests that the source has these bytes, and gives these results one after the other.
 pub(crate) fn all_answer<S: Source>(rt: &impl Abort, source: &mut S, bytes: &[u8], reads: &[Read]) {
     for read in reads {
         answers(rt, source, bytes, *read);

@@ -9,7 +9,7 @@ use bplist_octets::ReadFault;
 use std::alloc::{AllocError, Global};
 use std::test::Fail;
 
-/// Makes the command of a verb that has no operands of its own.
+/// The verb has no operands of its own.
 pub(crate) fn plain(alloc: Global, verb: Verb) -> Command
     requires { verb ≢ Verb.Print }
     ensures { PrintsOnePath result }
@@ -23,7 +23,7 @@ pub(crate) fn plain(alloc: Global, verb: Verb) -> Command
     }
 }
 
-/// Makes the command of a verb with this path, and the limit 10.
+/// The limit is 10.
 pub(crate) fn with_path(alloc: Global, verb: Verb, path: &str) -> Result<Command, AllocError>
     ensures { IfOk result PrintsOnePath }
 {
@@ -57,7 +57,7 @@ pub(crate) fn outcome(
     }
 }
 
-/// Returns the certificate of a file, made by `certify`, or `None` if it refuses the file.
+/// Returns `None` if `certify` refuses the file.
 pub(crate) fn certificate_of(alloc: Global, file: &[u8]) -> Option<Vec<u8>> {
     let mut out = Vec::new(alloc);
     let answer = run_over(alloc, &plain(alloc, Verb::Certify), file, b"", &mut out);

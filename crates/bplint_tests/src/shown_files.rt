@@ -92,7 +92,7 @@ fn shown<S: Source + Drop>(
     outcome(alloc, answer, &out)
 }
 
-/// Lets each read of a call fail in its turn. Returns how many reads the call makes.
+/// Returns how many reads the call makes.
 fn shown_at_each_turn(
     rt: &impl Abort,
     alloc: Global,

@@ -42,8 +42,7 @@ fn first_without_text<S: Source>(
     Err(Unread::Changed)
 }
 
-/// Returns the first member of a node's object whose value has no text, or `None` if the kind of the object itself has
-/// no form.
+/// Returns `None` if the kind of the object itself has no form.
 fn next_formless<S: Source>(
     checked: &mut Checked<S>,
     measures: &Measures,
@@ -72,7 +71,7 @@ fn next_formless<S: Source>(
     }
 }
 
-/// Returns the first object, in the order of writing, whose kind has no form. The value of the node must have no text.
+/// The order is that of writing. The value of the node must have no text.
 pub(crate) fn first_formless<S: Source>(
     checked: &mut Checked<S>,
     measures: &Measures,

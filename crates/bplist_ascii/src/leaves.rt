@@ -141,7 +141,6 @@ fn write_quoted<S: Source, W: Write>(
     write(sink, out, room, b"\"")
 }
 
-/// Writes a text, in quotes if it needs them.
 pub(crate) fn write_text<S: Source, W: Write>(
     checked: &mut Checked<S>,
     head: &Head,

@@ -11,8 +11,7 @@ use bplist_cursor::is_plain;
 use bplist_octets::Sink;
 use std::io::Write;
 
-/// Puts bytes into the sink. Returns `Changed` if they do not fit the room: the text was measured, so the source must
-/// have changed.
+/// Returns `Changed` if the bytes do not fit the room: the text was measured, so the source must have changed.
 pub(crate) fn write<W: Write>(
     sink: &mut Sink,
     out: &mut W,
@@ -32,8 +31,7 @@ pub(crate) fn write<W: Write>(
     Ok(())
 }
 
-/// Puts a unit into the sink in this style. If a text of this style can have the unit, the only cause of `Changed` is
-/// that there is no room.
+/// If a text of this style can have the unit, the only cause of `Changed` is that there is no room.
 fn write_unit<W: Write>(
     sink: &mut Sink,
     out: &mut W,

@@ -34,7 +34,6 @@ pub fn add_text_of_units(units: &[u16], text: &mut Vec<u8>) -> Result<(), AllocE
     Ok(text.push(b'"')?)
 }
 
-/// Adds these units, which are ASCII letters and digits, a byte for each.
 fn add_plain(units: &[u16], text: &mut Vec<u8>) -> Result<(), AllocError>
     requires { list_all is_ascii_alphanumeric units.now ≡ true }
     ensures { OnOk result (text.new.items ≡ text.old.items ++ units.now) }

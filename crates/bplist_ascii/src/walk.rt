@@ -42,7 +42,6 @@ impl PrintWalk {
     }
 }
 
-/// Returns what is written before the members of a container.
 fn opening(kind: Kind) -> &'static [u8]
     ensures { result.now ≡ opening_of kind }
 {
@@ -52,7 +51,7 @@ fn opening(kind: Kind) -> &'static [u8]
     }
 }
 
-/// Returns what is written before member `i` of a container.
+/// The separator stands before member `i`.
 fn separator(kind: Kind, i: u64) -> &'static [u8]
     ensures { result.now ≡ separator_of kind i }
 {
@@ -64,7 +63,6 @@ fn separator(kind: Kind, i: u64) -> &'static [u8]
     }
 }
 
-/// Returns what is written after the members of a container. `members` is their number.
 fn closing(kind: Kind, members: u64) -> &'static [u8]
     ensures { result.now ≡ closing_of kind members }
 {
@@ -141,7 +139,6 @@ fn step<S: Source, W: Write>(
     begin(checked, node, walk, sink, out)
 }
 
-/// Puts the text of a node's value into the sink, if the walk has room for it.
 pub(crate) fn write_value<S: Source, W: Write>(
     checked: &mut Checked<S>,
     node: Node,

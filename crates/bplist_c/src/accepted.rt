@@ -22,8 +22,7 @@ pub(crate) struct Accepted<'a> {
     pub(crate) verdict: BplistVerdict,
 }
 
-/// Adds the verdict to a checked file, with the figures of this tally. Returns the status and the verdict of another
-/// file if the file has changed since the check.
+/// Returns the status and the verdict of another file if the file has changed since the check.
 pub(crate) fn with_verdict<'a>(
     checked: Checked<SliceSource<'a>>,
     tally: &Tally,
@@ -46,8 +45,6 @@ pub(crate) fn with_verdict<'a>(
     Ok(Accepted { checked, verdict })
 }
 
-/// Lints a file. Returns it if it holds a value, with key lists if `sorted` asks for them, or the status and the verdict of
-/// one that is refused.
 pub(crate) fn accept<'a>(
     alloc: Global,
     file: &'a [u8],

@@ -11,7 +11,7 @@ use bplist_cert::Checked;
 use bplist_octets::SliceSource;
 use std::alloc::Global;
 
-/// Returns the kind and the body of an object. All numbers are 0 if the certificate does not vouch for the object.
+/// All numbers are 0 if the certificate does not vouch for the object.
 #[inline(always)]
 fn face_or_zeros(checked: &Checked<SliceSource<'_>>, object: u32) -> BplistBody
     ensures { IsFace checked.now object result }
@@ -36,7 +36,6 @@ fn fill_faces(checked: &Checked<SliceSource<'_>>, objects: &[u32], into: &mut [B
     }
 }
 
-/// Writes the kinds and bodies of these objects to a buffer, as many as fit. Writes their number to `count`.
 fn put_faces(
     checked: &Checked<SliceSource<'_>>,
     objects: &[u32],

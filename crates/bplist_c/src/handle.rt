@@ -112,7 +112,6 @@ impl BplistHandle {
         }
     }
 
-    /// A handle of this session, for a file of `length` bytes.
     pub(crate) fn open(session: Box<Session>, length: u64) -> BplistHandle
         ensures length { result.length ≡ length }
         ensures session { result.held.value ≡ Some session.value }
@@ -123,7 +122,6 @@ impl BplistHandle {
         }
     }
 
-    /// Takes the session out of an open handle.
     pub(crate) fn into_session(self) -> Box<Session>
         requires { 0 < self.length }
         ensures { Some result.value ≡ self.held.value }

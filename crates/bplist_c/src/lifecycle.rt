@@ -19,8 +19,7 @@ use bplist_octets::SliceSource;
 use std::alloc::Global;
 use std::mem;
 
-/// Adds key lists to the certificate of a checked file. Returns `Memory` if memory is refused, and `OtherFile` if an
-/// object is not what the check found: then the file has changed.
+/// Returns `OtherFile` if an object is not what the check found: then the file has changed.
 fn with_keys(
     alloc: Global,
     checked: Checked<SliceSource<'_>>,
@@ -41,7 +40,6 @@ fn with_keys(
     }
 }
 
-/// Makes the handle of a checked file. Returns `Memory` if memory is refused.
 fn handle_of(alloc: Global, checked: Checked<SliceSource<'_>>) -> Result<BplistHandle, Status>
     ensures { MatchResult result (IsOpened checked.entry.source.octets checked.entry.certificate false)
         (λ why. why ≡ Memory) }
@@ -55,8 +53,6 @@ fn handle_of(alloc: Global, checked: Checked<SliceSource<'_>>) -> Result<BplistH
     }
 }
 
-/// Makes the handle of a checked file, with key lists if `sorted` asks for them. Returns `Memory` if memory is refused,
-/// and `OtherFile` if the file has changed.
 fn sorted_handle(
     alloc: Global,
     checked: Checked<SliceSource<'_>>,
@@ -71,8 +67,7 @@ fn sorted_handle(
     handle_of(alloc, checked)
 }
 
-/// Puts the session of an accepted file into a closed handle, and tells the verdict and the status. If the file is
-/// refused, or memory is, the handle stays closed.
+/// If the file is refused, or memory is, the handle stays closed.
 fn keep(
     alloc: Global,
     handle: &mut BplistHandle,
@@ -120,7 +115,6 @@ pub extern "C" fn bplist_open(
     keep(alloc, handle, accepted, sorted, out)
 }
 
-/// Decodes a certificate and checks it against the file. Returns the checked file, or the refusal.
 fn check_pair<'a>(
     alloc: Global,
     file: &'a [u8],
@@ -141,7 +135,6 @@ fn check_pair<'a>(
     }
 }
 
-/// Returns the file that a certificate vouches for, or the status and the verdict of one that is refused.
 fn accept_pair<'a>(
     alloc: Global,
     file: &'a [u8],

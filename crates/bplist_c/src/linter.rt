@@ -34,7 +34,6 @@ pub extern "C" fn bplist_lint(alloc: Global, file: &[u8], out: &mut BplistVerdic
     status
 }
 
-/// Returns the circle for which the linter refuses a file, or why there is none.
 fn circle_of(alloc: Global, answer: Result<Lint, LintRefusal>) -> Result<Vec<u32>, Status>
     ensures { (items_of result ≡ circle_answer answer) ⊎ (result ≡ Err Memory) }
 {

@@ -14,7 +14,7 @@ use std::alloc::Global;
 use std::mem;
 
 impl Session {
-    /// Makes the checked file of these bytes. Moves the certificate out of the session.
+    /// The certificate moves out of the session.
     pub(crate) fn lend<'a>(&mut self, alloc: Global, file: &'a [u8]) -> Checked<SliceSource<'a>>
         requires { IsSessionOf file.now self.old }
         ensures checked { result ≡ checked_of file.entry self.old }
@@ -28,7 +28,6 @@ impl Session {
         Checked::new(SliceSource::new(file), self.frame, certificate)
     }
 
-    /// Moves the certificate back.
     pub(crate) fn give_back(&mut self, checked: Checked<SliceSource<'_>>)
         ensures certificate { self.new.certificate ≡ checked.entry.certificate }
         ensures frame { self.new.frame ≡ self.old.frame }
@@ -45,8 +44,7 @@ pub(crate) struct Lent<'a> {
     pub(crate) checked: Checked<SliceSource<'a>>,
 }
 
-/// Takes the session out of a handle, and makes a checked file of it. Returns why not if the handle is closed or the
-/// length differs.
+/// The session moves out of the handle.
 pub(crate) fn lend<'a>(
     alloc: Global,
     handle: &mut BplistHandle,
@@ -70,7 +68,6 @@ pub(crate) fn lend<'a>(
     Ok(Lent { session, checked })
 }
 
-/// Puts the session back into the handle.
 pub(crate) fn give_back(handle: &mut BplistHandle, lent: Lent<'_>)
     ensures length { handle.new.length ≡ length lent.entry.checked.source.octets }
     ensures session { handle.new.held.value ≡ Some (record {
@@ -87,8 +84,6 @@ pub(crate) fn give_back(handle: &mut BplistHandle, lent: Lent<'_>)
     *handle = BplistHandle::open(session, length);
 }
 
-/// Lends the checked file of a handle to a call, which leaves it as it is. Returns the answer of the call, or why the
-/// handle lends nothing.
 pub(crate) fn with_checked<'a, T, F: FnOnce(&mut Checked<SliceSource<'a>>) -> Result<T, Status>>(
     alloc: Global,
     handle: &mut BplistHandle,

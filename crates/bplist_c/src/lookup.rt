@@ -23,7 +23,6 @@ pub struct BplistFound {
     pub step: u64,
 }
 
-/// Returns the status for the reason why a step fails.
 fn status_of(why: Why) -> Status
     ensures { result ≡ why_status why }
 {
@@ -34,8 +33,7 @@ fn status_of(why: Why) -> Status
     }
 }
 
-/// Follows a path from the top. Returns `OtherFile` if an object is not what the check found: then the file has
-/// changed.
+/// Returns `OtherFile` if an object is not what the check found: then the file has changed.
 fn locate_in(checked: &mut Checked<SliceSource<'_>>, path: &Path) -> Result<Found, Status>
     ensures same { checked.new ≡ checked.old }
     ensures exact { MatchResult result (λ found. (v : value) → Holds checked.old.source.octets checked.old.frame
@@ -50,7 +48,7 @@ fn locate_in(checked: &mut Checked<SliceSource<'_>>, path: &Path) -> Result<Foun
     }
 }
 
-/// Finds the object that a path text leads to, or the place at which the text is wrong.
+/// The number returned is the place at which the path text is wrong.
 fn find(
     alloc: Global,
     checked: &mut Checked<SliceSource<'_>>,
@@ -69,7 +67,6 @@ fn find(
     }
 }
 
-/// Writes where a path leads to `out`.
 fn tell_found(answer: Result<Result<Found, u64>, Status>, out: &mut BplistFound) -> u32
     ensures { (result, out.new) ≡ told_found answer out.old }
 {

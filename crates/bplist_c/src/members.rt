@@ -38,8 +38,7 @@ fn member_of(checked: &mut Checked<SliceSource<'_>>, object: u32, i: u64) -> Res
     }
 }
 
-/// Fills `into` with the object numbers of the references from number `from` on, in the order of the file. In a
-/// dictionary all keys come before all values.
+/// The references are in the order of the file. In a dictionary all keys come before all values.
 fn read_row(checked: &Checked<SliceSource<'_>>, head: &Head, from: u64, into: &mut [u64])
     requires head { IsSafeHead checked.now.frame head.now }
     requires within { from + length into.old ≤ ref_count head.now.kind head.now.count }
@@ -52,14 +51,13 @@ fn read_row(checked: &Checked<SliceSource<'_>>, head: &Head, from: u64, into: &m
     let _read = read_refs(&mut source, &frame, head, from, into);
 }
 
-/// Converts an object number to 32 bits. Every object number fits.
+/// Every object number fits.
 fn in_32_bits(number: u64) -> u32
     ensures { result ≡ number % 2 ^ 32 }
 {
     (number % (1 << 32)) as u32
 }
 
-/// Fills a block with the members of an array or a set from number `from` on.
 fn fill_in_order(checked: &Checked<SliceSource<'_>>, head: &Head, from: u64, into: &mut [u32])
     requires kind { head.now.kind ≢ Dict }
     requires head { IsSafeHead checked.now.frame head.now }
@@ -76,7 +74,7 @@ fn fill_in_order(checked: &Checked<SliceSource<'_>>, head: &Head, from: u64, int
     }
 }
 
-/// Fills a block with the members of a dictionary from number `from` on, each key before its value.
+/// Each key comes before its value.
 fn fill_in_pairs(checked: &Checked<SliceSource<'_>>, head: &Head, from: u64, into: &mut [u32])
     requires kind { head.now.kind ≡ Dict }
     requires head { IsSafeHead checked.now.frame head.now }
@@ -116,7 +114,6 @@ fn fill_block(checked: &Checked<SliceSource<'_>>, head: &Head, from: u64, into: 
     }
 }
 
-/// Fills `into` with the members from number `from` on, block by block.
 fn fill(checked: &Checked<SliceSource<'_>>, head: &Head, from: u64, into: &mut [u32])
     requires head { IsSafeHead checked.now.frame head.now }
     requires fits { ref_count head.now.kind head.now.count < 2 ^ 64 }
@@ -136,8 +133,6 @@ fn fill(checked: &Checked<SliceSource<'_>>, head: &Head, from: u64, into: &mut [
     }
 }
 
-/// Writes the members of an object from number `from` on to a buffer, as many as there are and as fit. Writes their
-/// number to `count`.
 fn put_members(
     checked: &Checked<SliceSource<'_>>,
     object: u32,

@@ -48,8 +48,7 @@ pub struct BplistBits {
     pub length: u32,
 }
 
-/// Returns the place of object `n`, as its entry in the offset table gives it. Each usual size of an entry has an arm
-/// of its own, because a read of constant length compiles to no call.
+/// Each usual size of an entry has an arm of its own, because a read of constant length compiles to no call.
 #[inline(always)]
 fn place_of(file: &[u8], frame: &Frame, n: ObjectNo) -> u64
     requires safe { IsSafe (length file.now) frame.now }
@@ -92,7 +91,7 @@ pub(crate) fn head_of_object(
     }
 }
 
-/// Returns the number of a kind in the header.
+/// The number is that of the kind in the header.
 pub(crate) fn number_of(kind: Kind) -> u32
     ensures { result ≡ kind_number kind }
 {
@@ -112,7 +111,7 @@ pub(crate) fn face_of(checked: &Checked<SliceSource<'_>>, object: u32) -> Result
     })
 }
 
-/// Splits a number in two's complement into its halves.
+/// The halves are of the number in two's complement.
 fn halves(number: i128) -> BplistInteger
     ensures { Ok result ≡ int_answer (leaf (int number)) }
 {
@@ -123,7 +122,7 @@ fn halves(number: i128) -> BplistInteger
     }
 }
 
-/// Returns the bits of the body of a real or a date, which has 4 or 8 bytes.
+/// The object is a real or a date, whose body has 4 or 8 bytes.
 fn bits_of(file: &[u8], head: &Head) -> BplistBits
     requires body { IsSafeBody (length file.now) head.now }
     requires low { 1 ≤ head.now.count }
@@ -166,7 +165,6 @@ fn uid_of_object(checked: &Checked<SliceSource<'_>>, object: u32) -> Result<u32,
     }
 }
 
-/// Returns the bits of a real or a date.
 fn number_of_object(checked: &Checked<SliceSource<'_>>, object: u32) -> Result<BplistBits, Status>
     ensures { OnObject checked.now object Spells (λ content answer. answer ≡ number_answer content) result }
 {

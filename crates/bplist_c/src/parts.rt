@@ -13,8 +13,6 @@ use bplist_objects::{Head, Kind, read_units};
 use bplist_octets::SliceSource;
 use std::alloc::Global;
 
-/// Writes the bytes of a body from byte `from` on to a buffer, as many as there are and as fit. Writes their number to
-/// `count`.
 fn put_bytes(
     checked: &Checked<SliceSource<'_>>,
     object: u32,
@@ -39,7 +37,6 @@ fn put_bytes(
     0
 }
 
-/// Fills `into` with the units of a text from unit `from` on.
 pub(crate) fn read_part(file: &[u8], head: &Head, from: u64, into: &mut [u16])
     requires text { IsSafeText (length file.now) head.now }
     requires within { from + length into.old ≤ head.now.count }
@@ -49,8 +46,6 @@ pub(crate) fn read_part(file: &[u8], head: &Head, from: u64, into: &mut [u16])
     let _read = read_units(&mut SliceSource::new(file), head, from, into);
 }
 
-/// Writes the units of a text from unit `from` on to a buffer, as many as there are and as fit. Writes their number to
-/// `count`.
 fn put_units(
     checked: &Checked<SliceSource<'_>>,
     object: u32,

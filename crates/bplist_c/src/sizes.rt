@@ -43,8 +43,7 @@ fn sizes(nodes: u64, form: Form) -> BplistSizes
     }
 }
 
-/// Measures all values of a checked file. Returns `Memory` if memory is refused, and `OtherFile` if an object is not
-/// what the check found: then the file has changed.
+/// Returns `OtherFile` if an object is not what the check found: then the file has changed.
 pub(crate) fn measures_of(
     alloc: Global,
     checked: &mut Checked<SliceSource<'_>>,

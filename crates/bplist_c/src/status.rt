@@ -129,7 +129,7 @@ impl From<AllocError> for Status {
     }
 }
 
-/// Writes the answer to `out` and returns 0, or returns why there is none and leaves `out` unchanged.
+/// Returns 0, or why there is no answer: then `out` is unchanged.
 pub(crate) fn tell<T: Drop>(answer: Result<T, Status>, out: &mut T) -> u32
     ensures { Tells answer out.old out.new result }
 {
@@ -142,7 +142,7 @@ pub(crate) fn tell<T: Drop>(answer: Result<T, Status>, out: &mut T) -> u32
     }
 }
 
-/// Writes all items to the front of a buffer if they fit. Writes their number to `count` in any case.
+/// Writes their number to `count` even if the items do not fit.
 pub(crate) fn put_all<T: Copy>(items: &[T], buffer: &mut [T], count: &mut u64) -> u32
     ensures { PutsItems (Ok items.now) buffer.old buffer.new count.old count.new result }
 {
@@ -154,7 +154,7 @@ pub(crate) fn put_all<T: Copy>(items: &[T], buffer: &mut [T], count: &mut u64) -
     0
 }
 
-/// Writes the items to the front of a buffer, or returns why there are none and leaves everything unchanged.
+/// An answer without a list leaves everything unchanged.
 pub(crate) fn put_answer<T: Copy>(
     answer: &Result<Vec<T>, Status>,
     buffer: &mut [T],

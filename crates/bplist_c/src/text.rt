@@ -33,7 +33,6 @@ pub(crate) enum Text {
     Formless(ObjectNo),
 }
 
-/// Returns the text of the value of an object if it has at most `room` bytes.
 fn text_of(
     alloc: Global,
     checked: &mut Checked<SliceSource<'_>>,
@@ -64,8 +63,7 @@ fn text_of(
     text_outcome(printed, text, length)
 }
 
-/// Turns the result of printing into an empty list into an answer. A write to a list fails if memory is refused. A read
-/// fails only if the file has changed.
+/// A write to a list fails if memory is refused. A read fails only if the file has changed.
 fn text_outcome(printed: Result<(), PrintFault>, text: Vec<u8>, length: u64) -> Result<Text, Status>
     ensures { result ≡ printed_as printed text length }
 {
@@ -87,7 +85,6 @@ fn length_of(measures: &Measures, n: ObjectNo) -> u64
     }
 }
 
-/// Writes the text to the buffer if it fits, and its length or the reason to `out`.
 fn tell_text(answer: Result<Text, Status>, buffer: &mut [u8], out: &mut BplistWritten) -> u32
     ensures { TellsText buffer.old buffer.new out.old out.new result answer }
 {

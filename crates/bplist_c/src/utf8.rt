@@ -17,7 +17,6 @@ use bplist_objects::{Head, Kind};
 use bplist_octets::SliceSource;
 use std::alloc::Global;
 
-/// Returns the UTF-8 of a text.
 fn utf8_of_text(alloc: Global, file: &[u8], head: &Head) -> Result<Vec<u8>, Status>
     requires text { IsSafeText (length file.now) head.now }
     ensures { IsUtf8Of (units_of file.now head.now) (items_of result) }
@@ -30,7 +29,6 @@ fn utf8_of_text(alloc: Global, file: &[u8], head: &Head) -> Result<Vec<u8>, Stat
     }
 }
 
-/// Returns the UTF-8 of an object.
 fn utf8_of_object(
     alloc: Global,
     checked: &Checked<SliceSource<'_>>,
@@ -70,7 +68,6 @@ pub extern "C" fn bplist_utf8(
     put_answer(&answer, buffer, count)
 }
 
-/// Returns the UTF-16 units of a key.
 fn units_of_key(alloc: Global, key: &str) -> Result<Vec<u16>, Status>
     ensures { MatchResult result (λ units. units.items ≡ flat_map encode_utf16 (chars key.now)) (λ why. why ≡ Memory) }
 {
@@ -82,7 +79,6 @@ fn units_of_key(alloc: Global, key: &str) -> Result<Vec<u16>, Status>
     Ok(units)
 }
 
-/// Follows one step from an object, by a key in UTF-8.
 fn step_by_utf8(
     alloc: Global,
     checked: &mut Checked<SliceSource<'_>>,

@@ -65,7 +65,6 @@ pub(crate) const NO_VERDICT: BplistVerdict = BplistVerdict {
 };
 
 impl BplistVerdict {
-    /// The verdict on a file with this top. `reached` objects are reachable from it, with `references` references.
     pub(crate) fn of_top(top: Top, reached: u64, references: u64) -> BplistVerdict
         ensures { result ≡ record NO_VERDICT {
           objects = top.objects;
@@ -120,7 +119,6 @@ impl BplistVerdict {
     }
 }
 
-/// Returns the status and the verdict for a file that the linter refuses.
 pub(crate) fn refused(refusal: &LintRefusal) -> (Status, BplistVerdict)
     ensures { result ≡ refused_told refusal.now }
 {

@@ -12,7 +12,7 @@ use std::alloc::Global;
 use std::fmt::Write as _;
 use std::io::Write;
 
-/// Writes the answers to these lines, each with a line feed. The first line gives the file and the certificate for all.
+/// The first line gives the file and the certificate for all.
 pub(crate) fn answer_lines<W: Write>(alloc: Global, lines: &[String], out: &mut W) -> Result<()> {
     let Some(first) = lines.first() else {
         return Ok(());
@@ -37,7 +37,7 @@ fn answer_each<W: Write>(
     Ok(())
 }
 
-/// Checks the source with the certificate that has these bytes in hexadecimal.
+/// The bytes of the certificate are in hexadecimal.
 pub(crate) fn checked_of<S: Source + Drop>(
     alloc: Global,
     source: S,
@@ -141,7 +141,6 @@ fn bytes_text(alloc: Global, checked: &mut Checked<SliceSource<'_>>, node: Node)
     Ok(format!(in alloc; "{place} {shown}")?)
 }
 
-/// Returns the place of a body that was lent.
 fn body_place(checked: &mut Checked<SliceSource<'_>>, node: Node) -> Result<u64> {
     let frame = checked.frame();
     ensure!(node.object.0 < frame.objects, "bytes of an object outside");
@@ -151,7 +150,6 @@ fn body_place(checked: &mut Checked<SliceSource<'_>>, node: Node) -> Result<u64>
     }
 }
 
-/// Returns the bytes in hexadecimal, or `-` if there are none.
 fn hex_or_dash(alloc: Global, bytes: &[u8]) -> Result<String> {
     if bytes.is_empty() {
         return Ok(String::from_str(alloc, "-")?);

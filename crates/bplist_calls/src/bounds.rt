@@ -19,7 +19,6 @@ const HEAD: u64 = 28;
 /// The same with the reference that names the object.
 const MEMBER: u64 = 36;
 
-/// Returns the bound of the call that `asked_for` makes for this request, or None if it has none.
 pub(crate) fn bound_of<S: Source>(
     alloc: Global,
     checked: &mut Checked<S>,
@@ -72,13 +71,12 @@ fn path_bytes<S: Source>(alloc: Global, checked: &mut Checked<S>, path: &str) ->
     Ok(sum)
 }
 
-/// Returns the number of units of a step. `~0` and `~1` spell one unit.
+/// `~0` and `~1` spell one unit.
 fn units_in(step: &str) -> u64 {
     let units = step.encode_utf16().filter(|unit| *unit != 0x7E);
     units.count() as u64
 }
 
-/// Returns the head of the object to which the path with this text leads, or None if it leads to none.
 fn head_at<S: Source>(alloc: Global, checked: &mut Checked<S>, path: &str) -> Result<Option<Head>> {
     match locate(checked, &path_of(alloc, path)?).map_err(|fault| anyhow!("locate: {fault:?}"))? {
         Found::At(node) => Ok(node_head(checked, node).ok()),

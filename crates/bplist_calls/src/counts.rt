@@ -41,7 +41,6 @@ fn write_checks<W: Write>(
     Ok(())
 }
 
-/// Checks the source with this certificate.
 pub(crate) fn accepted<S: Source + Drop>(
     alloc: Global,
     source: S,
@@ -53,7 +52,6 @@ pub(crate) fn accepted<S: Source + Drop>(
     }
 }
 
-/// Makes the certificate of version 2.
 pub(crate) fn upgraded<S: Source>(alloc: Global, checked: &mut Checked<S>) -> Result<Certificate> {
     upgrade(alloc, checked).map_err(|fault| anyhow!("upgrade: {fault:?}"))
 }

@@ -46,7 +46,7 @@ use requests::has_same_file;
 use std::alloc::Global;
 use std::io::{self, BufRead, BufReader, BufWriter, Read, Write};
 
-/// Answers the lines of standard input, or counts what their calls ask for.
+/// Counts what the calls ask for instead of answering if `counts` is set.
 fn answer_requests(rt: &HostRuntime, alloc: Global, counts: bool) -> Result<()> {
     let lines: Vec<String> = BufReader::new(alloc, rt.reader())?
         .lines(alloc)

@@ -45,8 +45,7 @@ fn sorted(alloc: Global, mut checked: Checked<SliceSource<'_>>) -> Result<Vec<u8
     Ok(certificate.to_octets(alloc)?)
 }
 
-/// Reads this certificate, checks the file with it, and makes the calls on the result, each of them twice. It has six
-/// parameters because every step needs `alloc` and `out`.
+/// The function has six parameters because every step needs `alloc` and `out`.
 fn all_twice<'a, W: Write>(
     alloc: Global,
     file: &'a [u8],
@@ -74,7 +73,7 @@ fn read_twice<W: Write>(alloc: Global, octets: &[u8], out: &mut W) -> Result<Cer
     Certificate::from_octets(alloc, octets).map_err(|refusal| anyhow!("from_octets: {refusal:?}"))
 }
 
-/// Checks the file with a certificate twice, the second time with what the first check returned.
+/// The second check takes what the first returned.
 fn check_twice<'a, W: Write>(
     alloc: Global,
     source: SliceSource<'a>,

@@ -16,12 +16,11 @@ pub(crate) struct Line<'a> {
     pub(crate) operands: &'a str,
 }
 
-/// Returns true if a line is about the same file and certificate as the line before.
+/// The file and the certificate are those of the line before.
 pub(crate) fn has_same_file(line: &str) -> bool {
     line.starts_with("=\t=\t")
 }
 
-/// Splits a line into its words.
 pub(crate) fn words_of(line: &str) -> Result<Line<'_>> {
     let (file, rest) = line
         .split_once('\t')
@@ -48,7 +47,6 @@ pub(crate) enum Request {
     References,
 }
 
-/// Returns the call that a line asks for.
 pub(crate) fn request_of(alloc: Global, line: Line<'_>) -> Result<Request> {
     let operands = line.operands;
     match line.call {
@@ -91,12 +89,10 @@ fn path_text(alloc: Global, operands: &str) -> Result<String> {
     Ok(String::from_str(alloc, text)?)
 }
 
-/// Parses a path.
 pub(crate) fn path_of(alloc: Global, text: &str) -> Result<Path> {
     Path::parse(alloc, text).map_err(|fault| anyhow!("a path with the fault {fault:?}"))
 }
 
-/// Decodes hexadecimal text.
 pub(crate) fn bytes_of_hex(alloc: Global, text: &str) -> Result<Vec<u8>> {
     hex::decode(alloc, text).context("text that is not hexadecimal")
 }

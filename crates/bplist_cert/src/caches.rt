@@ -35,7 +35,6 @@ pub(crate) struct OrderedPairsCache<'a> {
 }
 
 impl<'a> OrderedPairsCache<'a> {
-    /// Returns an empty cache for a file of `len` bytes.
     pub(crate) fn new(len: u64, heights: &'a [u32]) -> OrderedPairsCache<'a>
         ensures { (f : List ℕ) (F : frame) → AreKnown f F result }
     {
@@ -46,7 +45,6 @@ impl<'a> OrderedPairsCache<'a> {
         }
     }
 
-    /// Returns whether objects `a` and `b` are known to be texts in this order.
     pub(crate) fn has(&self, a: u32, b: u32) -> bool
         ensures { (f : List ℕ) (F : frame) → AreKnown f F self.now → IsTrue result → Ascends f F a b }
     {
@@ -60,7 +58,6 @@ impl<'a> OrderedPairsCache<'a> {
         }
     }
 
-    /// Records that objects `a` and `b` are texts in this order.
     pub(crate) fn insert(&mut self, a: u32, b: u32)
         ensures { (f : List ℕ) (F : frame) → AreKnown f F self.old → Ascends f F a b → AreKnown f F self.new }
     {
@@ -86,7 +83,6 @@ pub(crate) struct LowBytesCache {
 }
 
 impl LowBytesCache {
-    /// Returns an empty cache for a file of `len` bytes.
     pub(crate) fn new(len: u64) -> LowBytesCache
         ensures { (f : List ℕ) → AreLowStretches f result.slots }
     {
@@ -96,7 +92,7 @@ impl LowBytesCache {
         }
     }
 
-    /// Returns whether all bytes of this stretch are below 128. Reads only those that are not known to be.
+    /// Reads only the bytes that are not known to be below 128.
     pub(crate) fn covers<S: Source>(
         &mut self,
         src: &mut S,
@@ -124,14 +120,13 @@ impl LowBytesCache {
     }
 }
 
-/// Packs two object numbers into one number.
 fn pair_of(a: u32, b: u32) -> u64
     ensures { result ≡ a * 4294967296 + b }
 {
     a as u64 * 4_294_967_296 + b as u64
 }
 
-/// Returns one stretch for two: both joined if they meet, else the longer.
+/// If the two do not meet, the longer one stays.
 fn joined(known: Stretch, found: Stretch) -> Stretch
     ensures { (f : List ℕ) → IsLow f known.from known.to → IsLow f found.from found.to → IsLow f result.from result.to }
 {

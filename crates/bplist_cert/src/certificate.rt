@@ -107,7 +107,7 @@ impl Certificate {
         }
     }
 
-    /// Returns how many bytes to reserve for the certificate. Nothing depends on it.
+    /// The number is only for reserving memory. Nothing depends on it.
     fn octet_count(&self) -> usize {
         let words = match &self.keys {
             None => self.heights.len(),
@@ -175,7 +175,6 @@ pub(crate) fn are_words(numbers: &[u32])
     let _count = numbers.len();
 }
 
-/// Puts the key lists into a sink, if there are some: the starts, and then the positions.
 fn put_keys<W: Write>(
     sink: &mut Sink,
     out: &mut W,
@@ -192,7 +191,6 @@ fn put_keys<W: Write>(
     Ok(())
 }
 
-/// Puts numbers of 4 bytes each into a sink.
 fn put_words<W: Write>(sink: &mut Sink, out: &mut W, numbers: &[u32]) -> Result<(), WriteFault>
     ensures taken { OnOk result (Takes (W.contents out.old) (W.contents out.new) sink.old sink.new (words numbers.now)) }
     ensures part { IfErr result (λ fault.

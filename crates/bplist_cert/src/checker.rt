@@ -26,7 +26,7 @@ fn object_of(fault: &Fault) -> u32
 }
 
 /// Checks all vouched objects, then the keys of the dictionaries among them, up to the first object that breaks a rule
-/// before those of keys. `found` has seen no keys yet. Returns how many bytes the objects take.
+/// before those of keys. `found` has seen no keys yet.
 fn check_found<P: Offsets>(
     alloc: Global,
     src: &mut P,
@@ -66,7 +66,6 @@ fn check_found<P: Offsets>(
     }
 }
 
-/// Checks all vouched objects by all rules. Returns how many bytes they take.
 fn check_objects<P: Offsets>(
     alloc: Global,
     src: &mut P,
@@ -82,7 +81,6 @@ fn check_objects<P: Offsets>(
     check_found(alloc, src, cert, &mut found)
 }
 
-/// Returns the frame of the file if the certificate is accepted.
 fn check_lists<S: Source>(alloc: Global, src: &mut S, cert: &Certificate) -> Result<Frame, Refusal>
     ensures reads { OnlyReads (refused_read result) (S.means src.old) (S.means src.new) }
     ensures memory { IfErr result (MayRefuse cert.now.keys) }

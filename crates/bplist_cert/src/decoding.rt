@@ -1,7 +1,7 @@
 //! Reads a certificate from bytes, block by block.
 
 ghost use Rattle.std.specs.Prelude.{◌≡◌, ◌≢◌, ◌+◌, ◌*◌, ◌≤◌, Bool, length, take, IfOk, MatchOption, MatchResult, ◌↔◌};
-ghost use Rattle.std.specs.Prelude.{IsTrue, ⊤, ◌++◌, drop, true, OnOk, []};
+ghost use Rattle.std.specs.Prelude.{IsTrue, ⊤, ◌++◌, drop, min, true, OnOk, []};
 ghost use Rattle.bplist_cert.specs.Prelude.{part, OnlyReads, Honestly, Gives, Never, read_failed, failed_to_read};
 ghost use Rattle.bplist_cert.specs.Prelude.{Lists, IsCertificate, AreWords, octets_of, magic, bytes_high_first, words};
 ghost use Rattle.bplist_cert.specs.Prelude.{Fits, IsOctetsFault, IsCertRefusal, CertMemory as Memory, Judges};
@@ -46,6 +46,7 @@ impl Certificate {
     /// refused; `Read` if a read failed.
     pub fn from_source<S: Source>(alloc: Global, src: &mut S) -> Result<Certificate, Refusal>
         ensures reads { OnlyReads (refused_read result) (S.means src.old) (S.means src.new) }
+        ensures asks { S.asked src.new ≤ S.asked src.old + length (S.means src.old).octets }
         ensures yes { Honestly (S.means src.old)
             (λ f. IfOk result (λ certificate. IsCertificate certificate × (f ≡ octets_of certificate))) }
         ensures exact { Honestly (S.means src.old) (λ f. (certificate : Lists) → IsCertificate certificate
@@ -85,9 +86,10 @@ impl Certificate {
     }
 }
 
-/// Reads the header and checks rules 24 and 25.
+/// Checks rules 24 and 25.
 fn header_of<S: Source>(src: &mut S) -> Result<Header, ObjectFault>
     ensures reads { OnlyReads (read_failed result) (S.means src.old) (S.means src.new) }
+    ensures asks { S.asked src.new ≤ S.asked src.old + min 16 (length (S.means src.old).octets) }
     ensures fits { IfOk result (λ header. Fits (is_keyed header.version) header.count (length (S.means src.old).octets)) }
     ensures exact { Honestly (S.means src.old) (λ f. Gives (λ header. take 16 f ≡ header_octets header) (IsOctetsFault f) result) }
 {
@@ -138,7 +140,6 @@ fn version_of(octets: &[u8]) -> Option<Version>
     None
 }
 
-/// Returns whether a certificate of this version with `count` heights can take `len` bytes.
 fn fits(version: Version, count: u64, len: u64) -> bool
     ensures { IsTrue result ↔ Fits (is_keyed version) count len }
 {
@@ -148,10 +149,10 @@ fn fits(version: Version, count: u64, len: u64) -> bool
     }
 }
 
-/// Reads the key lists of a certificate with `count` heights: as many starts, then positions up to its last byte.
 fn read_key_lists<S: Source>(alloc: Global, src: &mut S, count: usize) -> Result<KeyLists, Failure>
     requires { Fits true count (length (S.means src.old).octets) }
     ensures reads { OnlyReads (failed_to_read result) (S.means src.old) (S.means src.new) }
+    ensures asks { S.asked src.new + (16 + 4 * count) ≤ S.asked src.old + length (S.means src.old).octets }
     ensures count { IfOk result (λ keys. length keys.starts ≡ count) }
     ensures words { IfOk result (λ keys. AreWords keys.starts × AreWords keys.positions) }
     ensures spelled { Honestly (S.means src.old) (λ f. IfOk result (λ keys.
@@ -166,7 +167,6 @@ fn read_key_lists<S: Source>(alloc: Global, src: &mut S, count: usize) -> Result
     Ok(KeyLists { starts, positions })
 }
 
-/// Reads `count` numbers of 4 bytes each, from `place` on.
 fn read_words<S: Source>(
     alloc: Global,
     src: &mut S,
@@ -175,6 +175,7 @@ fn read_words<S: Source>(
 ) -> Result<Vec<u32>, Failure>
     requires { place + 4 * count ≤ length (S.means src.old).octets }
     ensures reads { OnlyReads (failed_to_read result) (S.means src.old) (S.means src.new) }
+    ensures asks { S.asked src.new ≤ S.asked src.old + 4 * count }
     ensures count { IfOk result (λ numbers. length numbers.items ≡ count) }
     ensures words { IfOk result (λ numbers. AreWords numbers.items) }
     ensures spelled { Honestly (S.means src.old) (λ f. IfOk result (λ numbers. part f place (4 * count) ≡ words numbers.items)) }
@@ -185,7 +186,6 @@ fn read_words<S: Source>(
     Ok(numbers)
 }
 
-/// Appends `count` numbers of 4 bytes each, from `place` on, to an empty vector.
 fn fill_words<S: Source>(
     src: &mut S,
     place: u64,
@@ -195,6 +195,7 @@ fn fill_words<S: Source>(
     requires within { place + 4 * count ≤ length (S.means src.old).octets }
     requires empty { numbers.old.items ≡ [] }
     ensures reads { OnlyReads (failed_to_read result) (S.means src.old) (S.means src.new) }
+    ensures asks { S.asked src.new ≤ S.asked src.old + 4 * count }
     ensures count { OnOk result (length numbers.new.items ≡ count) }
     ensures spelled { Honestly (S.means src.old) (λ f. OnOk result (part f place (4 * count) ≡ words numbers.new.items)) }
 {
@@ -213,7 +214,7 @@ fn fill_words<S: Source>(
     Ok(())
 }
 
-/// Decodes numbers of 4 bytes each into `into`. The loop does nothing else, so that the compiler can vectorize it.
+/// The loop does nothing else than decode, so that the compiler can vectorize it.
 fn spell_words(octets: &[u8], into: &mut [u32])
     requires { length octets.now ≡ 4 * length into.old }
     ensures { octets.now ≡ words into.new }

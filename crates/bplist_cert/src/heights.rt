@@ -37,7 +37,7 @@ impl Wanted {
         }
     }
 
-    /// Returns the rule that a height breaks if it is not as wanted. For `VouchedBelow` that is always 29.
+    /// For `VouchedBelow` the rule is always 29.
     fn rule(self) -> Rule
         ensures { result ≡ rule_of self }
     {
@@ -48,8 +48,7 @@ impl Wanted {
     }
 }
 
-/// Returns the entries of at most `n` objects from number `from` on, as far as the list goes. A loop over the result
-/// needs no bounds checks.
+/// A loop over the result needs no bounds checks.
 pub(crate) fn block_of(numbers: &[u32], from: u32, n: usize) -> &[u32]
     ensures few { length result.now ≤ n }
     ensures at { (k : ℕ) → k < n → slice_index result.now k ≡ slice_index numbers.now (from + k) }
@@ -59,7 +58,6 @@ pub(crate) fn block_of(numbers: &[u32], from: u32, n: usize) -> &[u32]
     &numbers[start..start + many]
 }
 
-/// Returns the index of the first of these references whose height is not as wanted.
 fn first_unmet_in(heights: &[u32], refs: &[u64], wanted: Wanted) -> Option<usize>
     ensures { MatchOption result (AreMetBy heights.now wanted refs.now (length refs.now))
         (IsFirstUnmetBy heights.now wanted refs.now) }
@@ -79,8 +77,7 @@ pub(crate) struct Container<'a> {
     pub head: &'a Head,
 }
 
-/// Stamps the keys among these references of a container, unless `names` is None. `first` is the number of the first
-/// reference.
+/// `first` is the number of the first of these references.
 #[inline(always)]
 fn collect_keys(names: &mut Option<KeyNames>, container: Container, first: u64, refs: &[u64])
     requires { container.n.0 < 2 ^ 32 - 1 }
@@ -135,7 +132,7 @@ pub(crate) fn check_refs<P: Framed>(
     Ok(())
 }
 
-/// Checks that all references of object `n` have heights by rule 28, then by rule 29. The fault is the first.
+/// Checks all references by rule 28, then by rule 29. The fault is the first.
 #[inline(always)]
 pub(crate) fn check_heights<P: Framed>(
     src: &mut P,

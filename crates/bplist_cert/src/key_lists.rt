@@ -41,7 +41,6 @@ pub(crate) struct KeyListFindings<'a> {
 }
 
 impl<'a> KeyListFindings<'a> {
-    /// Before the walk, for a file of `len` bytes.
     pub(crate) fn new(len: u64, heights: &'a [u32]) -> KeyListFindings<'a>
         ensures { (f : List ℕ) (F : frame) → AreLearnt f F result }
     {
@@ -83,7 +82,7 @@ pub(crate) struct KeyFindings<'a> {
 }
 
 impl<'a> KeyFindings<'a> {
-    /// Drops what was found. After this a walk looks at no keys.
+    /// After this a walk looks at no keys.
     pub(crate) fn forget(&mut self)
         ensures { (f : List ℕ) (F : frame) (certificate : Lists) (bound : ℕ) → AreSeen f F certificate 0 self.old
             → AreSeen f F certificate bound self.new }
@@ -114,7 +113,6 @@ impl<'a> KeyFindings<'a> {
     }
 }
 
-/// Returns what a walk begins with.
 pub(crate) fn key_findings<'a, P: Framed>(
     alloc: Global,
     src: &P,
@@ -147,8 +145,7 @@ fn may_be_wrong(height: u32, start: u32, positions: usize) -> bool
     start as usize > positions
 }
 
-/// Returns whether object `n`, which is at `place`, has a good key list, or is not a dictionary. Not inlined, so that
-/// the loop over leaves stays in registers.
+/// Also true if object `n` is not a dictionary. Not inlined, so that the loop over leaves stays in registers.
 #[inline(never)]
 fn is_listed<P: Offsets>(
     src: &mut P,
@@ -173,8 +170,7 @@ fn is_listed<P: Offsets>(
     }
 }
 
-/// Checks the key lists of the vouched dictionaries among the next objects, which are at these places, up to the first
-/// bad list. Not inlined, so that the loop over all objects stays in registers.
+/// The call ends at the first bad list. Not inlined, so that the loop over all objects stays in registers.
 #[inline(never)]
 pub(crate) fn look_at_lists<P: Offsets>(
     src: &mut P,
@@ -211,8 +207,7 @@ pub(crate) fn look_at_lists<P: Offsets>(
     Ok(())
 }
 
-/// Checks the keys of vouched object `n` and its key list, if it is a dictionary. If all vouched objects were seen, a
-/// key that is a text by marker and count is a text.
+/// If all vouched objects were seen, a key that is a text by marker and count is a text.
 fn check_dict_order<P: Offsets>(
     src: &mut P,
     seen: &VouchedPrefix,
@@ -246,7 +241,6 @@ fn check_dict_order<P: Offsets>(
     }
 }
 
-/// Checks that the keys of the vouched dictionaries seen so far are texts, and that the key lists have them in order.
 /// If all vouched objects were seen and the walk found all lists good, there is nothing left to check.
 pub(crate) fn check_key_orders<P: Offsets>(
     src: &mut P,

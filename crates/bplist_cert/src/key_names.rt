@@ -15,7 +15,6 @@ use std::alloc::{AllocError, Global};
 /// The most entries of the offset table that are read at once.
 const BLOCK: usize = 512;
 
-/// Gives object `m` this stamp. Returns true only if there is such an object, and it had another stamp.
 #[inline(always)]
 fn stamp_one(last: &mut [u32], stamp: u32, m: u64) -> bool
     ensures all { length last.new ≡ length last.old }
@@ -31,7 +30,7 @@ fn stamp_one(last: &mut [u32], stamp: u32, m: u64) -> bool
     other
 }
 
-/// Stamps the objects with these numbers. Returns true only if they are different objects, and none had this stamp.
+/// Returns true only if the objects are different, and none had this stamp.
 fn stamp_all(last: &mut [u32], stamp: u32, numbers: &[u64]) -> bool
     requires { 0 < stamp }
     ensures all { length last.new ≡ length last.old }
@@ -47,7 +46,6 @@ fn stamp_all(last: &mut [u32], stamp: u32, numbers: &[u64]) -> bool
     apart
 }
 
-/// Returns a mark for each object: set if the object has a stamp.
 fn marks_of(alloc: Global, last: &[u32]) -> Result<NamedKeys, AllocError>
     ensures all { IfOk result (λ named. length named.marks.items ≡ length last.now) }
     ensures exact { IfOk result (λ named. (m : ℕ) → m < length last.now → IsMarked named.marks.items m ↔ (0 < slice_index last.now m)) }
@@ -69,7 +67,6 @@ pub(crate) struct KeyNames {
 }
 
 impl KeyNames {
-    /// Returns no names, for so many objects.
     pub(crate) fn new(alloc: Global, objects: u32) -> Result<KeyNames, AllocError>
         ensures { IfOk result (λ names. names.last.items ≡ replicate objects 0) }
     {
@@ -79,7 +76,7 @@ impl KeyNames {
         })
     }
 
-    /// Stamps these keys of dictionary `n`. A number that is no object's is passed over.
+    /// A number that is no object's is passed over.
     pub(crate) fn insert_all(&mut self, n: u32, keys: &[u64])
         requires { n < 2 ^ 32 - 1 }
         ensures { HasStamped (n + 1) keys.now self.old self.new }
@@ -89,8 +86,7 @@ impl KeyNames {
     }
 }
 
-/// Names the keys of object `n`, if it is a dictionary. `place` must be the object's; this is not checked. Not inlined,
-/// so that the loop over leaves stays in registers.
+/// `place` must be the object's; this is not checked. Not inlined, so that the loop over leaves stays in registers.
 #[inline(never)]
 fn name_object<P: Framed>(
     src: &mut P,
@@ -114,8 +110,7 @@ fn name_object<P: Framed>(
     }
 }
 
-/// Names the keys of the vouched dictionaries among the objects from number `from` on, which are at these places. Skips
-/// objects of height 1, which have no references.
+/// Objects of height 1 are skipped: they have no references.
 pub(crate) fn name_key_block<P: Framed>(
     src: &mut P,
     heights: &[u32],
@@ -142,8 +137,7 @@ pub(crate) fn name_key_block<P: Framed>(
     Ok(())
 }
 
-/// Returns the objects that the vouched dictionaries below `bound` name as keys: those collected, or else found by a
-/// walk.
+/// The keys are those collected, or else found by a walk.
 pub(crate) fn seen_keys<P: Framed>(
     alloc: Global,
     src: &mut P,

@@ -43,8 +43,7 @@ struct KeyTables {
     low: LowBytesCache,
 }
 
-/// Returns whether object `m` spells a text. Reads the bytes of an Ascii text unless `low` knows that they are below
-/// 128.
+/// Reads the bytes of an Ascii text unless `low` knows that they are below 128.
 fn is_text<P: Offsets>(src: &mut P, low: &mut LowBytesCache, m: u64) -> Result<bool, ReadFault>
     ensures reads { OnlyReads (result_err result) (P.means src.old) (P.means src.new) }
     ensures exact { HonestlyIn (P.means src.old) (λ f F. AreLowStretches f low.old.slots
@@ -64,8 +63,7 @@ fn is_text<P: Offsets>(src: &mut P, low: &mut LowBytesCache, m: u64) -> Result<b
     }
 }
 
-/// Returns the number of the first key of a dictionary that is not a text, among those from number `from` on, to which
-/// `refs` refer. The keys before them are texts.
+/// The number is that of the key in the dictionary. The keys before number `from` are texts.
 fn first_keyless<P: Offsets>(
     src: &mut P,
     low: &mut LowBytesCache,
@@ -89,8 +87,8 @@ fn first_keyless<P: Offsets>(
     Ok(None)
 }
 
-/// Checks rule 21 for dictionary `n`, which has this head. The fault is that of the first key that is not a text, at
-/// its reference, counted from the file's first byte. `Read` if a read failed. Runs only for pairs that are refused.
+/// Checks rule 21. The fault is that of the first key that is not a text, at its reference. Runs only for pairs that
+/// are refused.
 pub(crate) fn check_texts<P: Offsets>(
     src: &mut P,
     low: &mut LowBytesCache,
@@ -112,9 +110,9 @@ pub(crate) fn check_texts<P: Offsets>(
     Ok(())
 }
 
-/// Checks the keys of vouched object `n` by their classes, if it is a dictionary. The fault is that of the first key
-/// that is not a text, or else that of the first key with the units of an earlier one. If all vouched objects were
-/// seen, a key that is a text by marker and count is a text, so the classes alone show that the keys are good.
+/// The fault is that of the first key that is not a text, or else that of the first key with the units of an earlier
+/// one. If all vouched objects were seen, a key that is a text by marker and count is a text, so the classes alone show
+/// that the keys are good.
 fn check_dict_repeats<P: Offsets>(
     src: &mut P,
     seen: &VouchedPrefix,
@@ -151,7 +149,6 @@ fn check_dict_repeats<P: Offsets>(
     }
 }
 
-/// Checks the keys of the vouched dictionaries seen so far. The keys are named.
 /// If all objects were seen, no dictionary names an object twice (`apart`), and each key has a class of its own, no
 /// dictionary need be read again.
 fn check_named<P: Offsets>(
@@ -190,7 +187,6 @@ fn check_named<P: Offsets>(
     Ok(())
 }
 
-/// Returns whether exactly `keys` objects have a class, each its own.
 fn are_own(alloc: Global, classes: &KeyNumbers, keys: usize) -> Result<bool, AllocError>
     ensures { IfOk result (λ own. IsTrue own → AreOwn classes.now.table.items keys) }
 {
@@ -210,7 +206,6 @@ fn are_own(alloc: Global, classes: &KeyNumbers, keys: usize) -> Result<bool, All
     Ok(count == keys)
 }
 
-/// Whether keys were collected, and no dictionary names an object twice.
 fn are_apart(names: &Option<KeyNames>) -> bool
     ensures { IsTrue result → MatchOption names.now ⊥ (λ given. IsTrue given.apart) }
 {
@@ -220,8 +215,8 @@ fn are_apart(names: &Option<KeyNames>) -> bool
     }
 }
 
-/// Checks that the keys of the vouched dictionaries seen so far are texts that differ. The first units of each named
-/// text are read once for its class, and the text is read further only if another has the same fingerprint.
+/// The first units of each named text are read once for its class, and the text is read further only if another has the
+/// same fingerprint.
 ///
 /// Without keys there is nothing to check, so neither classes nor places are read. With few keys, places are read when
 /// they are needed, and not kept.

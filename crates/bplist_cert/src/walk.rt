@@ -52,9 +52,8 @@ struct Walked {
     named: Option<KeyNames>,
 }
 
-/// Checks what follows the head of a vouched object, collects the keys of a dictionary, and reads no byte twice. The
-/// test of rules 28 and 29 also finds a reference that is not the number of an object, because only an object has a
-/// height.
+/// No byte is read twice. The test of rules 28 and 29 also finds a reference that is not the number of an object,
+/// because only an object has a height.
 #[inline(always)]
 fn check_rest<P: Framed>(
     src: &mut P,
@@ -80,7 +79,7 @@ fn check_rest<P: Framed>(
     check_refs(src, heights, container, Wanted::VouchedBelow(own), named)
 }
 
-/// Checks vouched object `n` as `check_object` does. The fault need not be the first.
+/// The fault need not be the first.
 #[inline(always)]
 fn check_quickly<P: Framed>(
     src: &mut P,
@@ -116,7 +115,7 @@ fn check_quickly<P: Framed>(
     }
 }
 
-/// Checks vouched object `n` as `check_object` does, by the rules in their order. The fault is the first.
+/// The rules are checked in their order, so the fault is the first.
 #[inline(always)]
 fn check_exactly<P: Framed>(
     src: &mut P,
@@ -139,8 +138,8 @@ fn check_exactly<P: Framed>(
     Ok(now)
 }
 
-/// Checks vouched object `n` at `place` by the rules before those of keys. `walked` is true of the vouched objects
-/// before it, and then also of this one.
+/// Checks the rules before those of keys. `walked` is true of the vouched objects before object `n`, and then also of
+/// it.
 fn check_object<P: Framed>(
     src: &mut P,
     walk: ObjectCheck,
@@ -168,7 +167,6 @@ fn check_object<P: Framed>(
     }
 }
 
-/// Checks the vouched objects among those from number `from` on. `places` has their places.
 fn check_block<P: Framed>(
     src: &mut P,
     walk: ObjectCheck,
@@ -198,8 +196,7 @@ fn check_block<P: Framed>(
     Ok(())
 }
 
-/// Checks all vouched objects in the order of their numbers. Returns how many bytes they take. The key lists of each
-/// block are looked at right after it, while its places and objects are at hand.
+/// The key lists of each block are looked at right after it, while its places and objects are at hand.
 fn check_all<P: Offsets>(
     src: &mut P,
     walk: ObjectCheck,
@@ -239,8 +236,7 @@ fn check_all<P: Offsets>(
     Ok(walked.used)
 }
 
-/// Checks all vouched objects by the rules before those of keys, and returns how many bytes they take. A second, exact
-/// walk runs only if the quick one finds a fault. What the first walk found about keys is then dropped.
+/// A second, exact walk runs only if the quick one finds a fault. What the first walk found about keys is then dropped.
 pub(crate) fn check_in_passes<P: Offsets>(
     src: &mut P,
     cert: &Certificate,

@@ -20,7 +20,6 @@ use bplist_objects::Kind;
 use bplist_octets::Source;
 use std::alloc::Global;
 
-/// Returns the keys of a dictionary, or `NoKeys` if the node holds another value.
 fn keys_at<S: Source>(
     alloc: Global,
     checked: &mut Checked<S>,
@@ -39,7 +38,6 @@ fn keys_at<S: Source>(
     }
 }
 
-/// Returns the given measures, or measures the file if there are none.
 fn measures_of<S: Source>(
     alloc: Global,
     checked: &mut Checked<S>,
@@ -83,8 +81,7 @@ fn path_of(query: &Query) -> &Path
     }
 }
 
-/// Returns the reply to a query whose path leads to this node. Measures the file at the first query for a size, and
-/// keeps the measures for later ones.
+/// Measures the file at the first query for a size, and keeps the measures for later ones.
 fn answer_at<S: Source>(
     alloc: Global,
     checked: &mut Checked<S>,
@@ -114,7 +111,6 @@ fn answer_at<S: Source>(
     }
 }
 
-/// Returns the reply to a query whose path begins at the top. Uses the measures of an earlier query, if there are any.
 fn answer_by<S: Source>(
     alloc: Global,
     checked: &mut Checked<S>,

@@ -24,7 +24,7 @@ use bplist_octets::Source;
 use std::alloc::Global;
 use std::cmp::Ordering;
 
-/// Returns the head of text `k`, or `Changed` if object `k` is not a text.
+/// Returns `Changed` if object `k` is not a text.
 fn key_head<S: Source>(checked: &mut Checked<S>, k: ObjectNo) -> Result<Head, Unread>
     requires within { k.0 < checked.old.frame.objects }
     ensures reads { OnlyReadsFile (read_failed result) checked.old checked.new }
@@ -40,7 +40,7 @@ fn key_head<S: Source>(checked: &mut Checked<S>, k: ObjectNo) -> Result<Head, Un
     }
 }
 
-/// Returns the units of text `k`, or `Changed` if object `k` is not a text.
+/// Returns `Changed` if object `k` is not a text.
 fn key_text<S: Source>(
     alloc: Global,
     checked: &mut Checked<S>,
@@ -81,7 +81,7 @@ pub(crate) fn key_texts<S: Source>(
     Ok(List::new(keys))
 }
 
-/// Compares the text of object `k` with these units. Returns `Changed` if the object is not a text.
+/// Returns `Changed` if object `k` is not a text.
 fn compare_key<S: Source>(
     checked: &mut Checked<S>,
     k: ObjectNo,
@@ -121,7 +121,6 @@ fn walk_keys<S: Source>(
     Ok(None)
 }
 
-/// Returns number `at` of the certificate's positions, or None if there is none.
 fn position_of<S: Source>(checked: &Checked<S>, at: u64) -> Option<u32>
     ensures { (keyed : Keyed) → checked.now.certificate.keys ≡ Some keyed → at < length keyed.positions
         → result ≡ Some (slice_index keyed.positions at) }
@@ -130,8 +129,7 @@ fn position_of<S: Source>(checked: &Checked<S>, at: u64) -> Option<u32>
     lists.positions.get(at as usize).copied()
 }
 
-/// Returns the key index that is number `at` of the certificate's positions, and how that key compares with these
-/// units.
+/// The order is that of the key against these units.
 fn compare_listed<S: Source>(
     checked: &mut Checked<S>,
     head: &Head,
@@ -160,8 +158,7 @@ fn compare_listed<S: Source>(
     Ok((i, compare_key(checked, k, units, comparisons)?))
 }
 
-/// Returns the index of the key with these units, found by binary search in the key list that begins at `start` of the
-/// certificate's positions.
+/// Halves the key list, which begins at `start` of the certificate's positions.
 fn search_keys<S: Source>(
     checked: &mut Checked<S>,
     head: &Head,
@@ -194,8 +191,7 @@ fn search_keys<S: Source>(
     Ok(None)
 }
 
-/// Returns the index in the certificate's positions at which the key list of dictionary `n`, with `count` pairs,
-/// begins. Returns None if the certificate has no key lists, and `Changed` if the list is incomplete.
+/// Returns None if the certificate has no key lists, and `Changed` if the list is incomplete.
 fn list_start<S: Source>(
     checked: &Checked<S>,
     n: ObjectNo,
@@ -218,8 +214,7 @@ fn list_start<S: Source>(
     Ok(Some(start))
 }
 
-/// Returns the index of the key with these units in dictionary `n`, which has this head. Adds to `comparisons` one for
-/// each key that was compared.
+/// Adds to `comparisons` one for each key that was compared.
 pub(crate) fn key_index<S: Source>(
     checked: &mut Checked<S>,
     n: ObjectNo,

@@ -39,8 +39,7 @@ fn higher_than<S: Source>(
     Ok(order)
 }
 
-/// Returns the objects that are higher than this, in the order of their heights. An object of height 0 is not vouched
-/// for, and one of height 1 has no references.
+/// An object of height 0 is not vouched for, and one of height 1 has no references.
 pub(crate) fn in_order<S: Source>(
     alloc: Global,
     checked: &Checked<S>,
@@ -57,7 +56,6 @@ pub(crate) fn in_order<S: Source>(
     Ok(order)
 }
 
-/// Adds the counts of these objects to the total. Returns 18446744073709551615 if the sum is greater.
 fn add_counts(counts: &[u64], objects: &[u64], start: u64) -> u64
     ensures { result ≡ cap (start + sum_by (slice_index counts.now) objects.now) }
 {
@@ -68,7 +66,6 @@ fn add_counts(counts: &[u64], objects: &[u64], start: u64) -> u64
     total
 }
 
-/// Returns 1 plus the counts of the objects to which this head refers.
 fn count_refs<S: Source>(
     checked: &mut Checked<S>,
     head: &Head,
@@ -88,7 +85,6 @@ fn count_refs<S: Source>(
     Ok(total)
 }
 
-/// Returns the number of nodes of an object's value, if the table has the counts of its references.
 fn count_object<S: Source>(
     checked: &mut Checked<S>,
     n: ObjectNo,
@@ -105,8 +101,7 @@ fn count_object<S: Source>(
     count_refs(checked, &head, counts)
 }
 
-/// Writes the counts of these objects into the table, one after the other. Each object must come after those to which
-/// it refers; objects of height 1 have their count from the start.
+/// Each object must come after those to which it refers; objects of height 1 have their count from the start.
 fn count_in_order<S: Source>(
     checked: &mut Checked<S>,
     order: &[u32],

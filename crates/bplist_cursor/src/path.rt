@@ -99,7 +99,7 @@ impl Path {
     }
 }
 
-/// Appends the next token to `step` and consumes the `/` that follows it. Returns whether there was one.
+/// Also consumes the `/` that follows the token, and returns whether there was one.
 fn read_token(chars: &mut CharIndices<'_>, step: &mut Vec<u16>) -> Result<bool, PathFault>
     requires { IsReadable chars.old }
     ensures read { IfOk result (λ goes_on. (token : List ℕ) × Reads chars.old chars.new (flat_map escaped token ++ slash goes_on)
@@ -119,8 +119,7 @@ fn read_token(chars: &mut CharIndices<'_>, step: &mut Vec<u16>) -> Result<bool, 
     Ok(false)
 }
 
-/// Returns the character that `c` means: itself, or for `~` what `~` and the next character mean together. Returns None
-/// if that is neither `0` nor `1`.
+/// Returns None if what follows `~` is neither `0` nor `1`.
 fn unescape(c: char, rest: &mut CharIndices<'_>) -> Option<char>
     requires readable { IsReadable rest.old }
     requires part { c ≢ 0x2F }

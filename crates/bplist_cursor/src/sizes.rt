@@ -55,7 +55,6 @@ pub(crate) struct Size {
 }
 
 impl Size {
-    /// Returns the size of two values together.
     pub(crate) fn and(self, other: Size) -> Size
         ensures { result ≡ both self other }
     {
@@ -127,7 +126,7 @@ pub fn are_plain(units: &[u16]) -> bool
     units.iter().all(|unit| is_plain(*unit))
 }
 
-/// Returns how many bytes a unit takes between quotes: `\"`, `\\` and `\n` take two, `\U` and four digits take six.
+/// `\"`, `\\` and `\n` take two bytes, `\U` and four digits take six.
 #[tactic(auto, unfolding(hex::specs::Hex::encode_with))]
 fn quoted_unit_length(unit: u16) -> u64
     ensures { result ≡ length (texts.quoted_unit unit) }
@@ -151,7 +150,6 @@ fn quoted_length(units: &[u16]) -> u64
     sum
 }
 
-/// Returns the length in bytes of a text as old-style text, or 18446744073709551615 if it is greater.
 pub(crate) fn text_length<S: Source>(checked: &mut Checked<S>, head: &Head) -> Result<u64, Unread>
     requires text { IsSafeText (length checked.old.source.octets) head.now }
     ensures reads { OnlyReadsFile (read_failed result) checked.old checked.new }
@@ -174,7 +172,7 @@ pub(crate) fn text_length<S: Source>(checked: &mut Checked<S>, head: &Head) -> R
     })
 }
 
-/// Adds the sizes of these objects to `start`. Returns None if the table lacks one of them.
+/// Returns None if the table lacks one of the objects.
 fn add_sizes(sizes: &[Option<Size>], refs: &[u64], start: Size) -> Option<Size>
     ensures { result ≡ added sizes.now start refs.now }
 {
@@ -185,8 +183,7 @@ fn add_sizes(sizes: &[Option<Size>], refs: &[u64], start: Size) -> Option<Size>
     Some(total)
 }
 
-/// Adds the sizes of all objects that an object with this head refers to. Returns `Changed` if the table lacks one of
-/// them.
+/// Returns `Changed` if the table lacks one of the objects.
 fn add_refs<S: Source>(
     checked: &mut Checked<S>,
     head: &Head,
@@ -210,7 +207,7 @@ fn add_refs<S: Source>(
     Ok(total)
 }
 
-/// Returns the length of a container's brackets and separators. A set has no old-style text.
+/// A set has no old-style text.
 fn punctuation(head: &Head) -> Form
     ensures { result ≡ punctuation_of head.now.kind head.now.count }
 {
@@ -235,7 +232,7 @@ fn leaf_form<S: Source>(checked: &mut Checked<S>, head: &Head) -> Result<Form, U
     }
 }
 
-/// Returns the size of the value of an object. The table must already have the sizes of the objects that it refers to.
+/// The table must already have the sizes of the objects to which this one refers.
 fn size_of_object<S: Source>(
     checked: &mut Checked<S>,
     n: ObjectNo,
@@ -264,7 +261,7 @@ fn size_of_object<S: Source>(
     }
 }
 
-/// Fills the table for these objects, in this order. Each object must come after those that it refers to.
+/// Each object must come after those to which it refers.
 fn measure_in_order<S: Source>(
     checked: &mut Checked<S>,
     order: &[u32],

@@ -23,7 +23,6 @@ pub(crate) struct Sample<'a> {
     ghost inside: { start + length tail.now ≤ total },
 }
 
-/// Returns the damage that a sample shows.
 pub(crate) fn damage_of(sample: &Sample) -> Option<Damage> {
     if let Some(trailer) = trailer_in(sample.tail, sample.start) {
         return behind_trailer(sample, trailer);
@@ -43,7 +42,7 @@ pub(crate) fn damage_of(sample: &Sample) -> Option<Damage> {
     damage_by(&Ending::of(last), sample.total)
 }
 
-/// Returns what stands behind the trailer at this place. If nothing does, the damage is not known.
+/// If nothing stands behind the trailer, the damage is not known.
 fn behind_trailer(sample: &Sample, trailer: u64) -> Option<Damage>
     requires { trailer + 32 ≤ sample.now.total }
 {
@@ -123,8 +122,7 @@ fn behind_cut(tail: &[u8]) -> &[u8] {
     }
 }
 
-/// Returns the damage that the last 32 bytes of a file of this length show. If they are a trailer whose offset table
-/// ends where the trailer begins, the damage is not known.
+/// If the last 32 bytes are a trailer whose offset table ends where the trailer begins, the damage is not known.
 fn damage_by(ending: &Ending, length: u64) -> Option<Damage> {
     let (table, room) = (ending.table_bytes(), ending.room(length));
     if !ending.has_form() {

@@ -19,7 +19,6 @@ pub(crate) struct Ending {
 }
 
 impl Ending {
-    /// Returns the numbers of these bytes.
     pub(crate) fn of(octets: &[u8]) -> Ending
         requires { length octets.now ≡ 32 }
     {
@@ -52,14 +51,12 @@ impl Ending {
         has_low_numbers && (self.has_zeros || self.has_numbers())
     }
 
-    /// Returns the number of bytes of the offset table.
     pub(crate) fn table_bytes(&self) -> u128
         ensures { result < 2 ^ 72 }
     {
         u128::from(self.objects) * u128::from(self.offset_size)
     }
 
-    /// Returns the place at which the offset table ends.
     pub(crate) fn table_end(&self) -> u128
         ensures { result < 2 ^ 73 }
     {
@@ -74,8 +71,7 @@ impl Ending {
     }
 }
 
-/// Returns the place of the last trailer in a block of a file that begins at place `start`. The offset table of a
-/// trailer ends where the trailer begins.
+/// Returns the place of the last trailer. The offset table of a trailer ends where the trailer begins.
 pub(crate) fn trailer_in(block: &[u8], start: u64) -> Option<u64>
     requires { start + length block.now < 2 ^ 64 }
     ensures { IfSome result (λ place. (start ≤ place) × (place + 32 ≤ start + length block.now)) }

@@ -12,8 +12,7 @@ const BASE64: &[u8] = b"YnBsaXN0MD";
 /// Stands for each character that is not ASCII.
 const NOT_ASCII: u8 = 0xff;
 
-/// Returns what a file with this front looks like, if that is known. The front does not begin with `bplist00`.
-/// `is_whole` says that it is the whole file.
+/// The front does not begin with `bplist00`. `is_whole` says that it is the whole file.
 pub(crate) fn form_of(front: &[u8], is_whole: bool) -> Option<Hint> {
     if b"bplist00".starts_with(front) {
         return Some(Hint::Damage(Damage::CutShort));
@@ -97,7 +96,6 @@ fn narrowed<'a>(front: &[u8], into: &'a mut [u8; SAMPLE]) -> &'a [u8] {
     &into[..count]
 }
 
-/// True for the blanks of a text, line ends among them.
 fn is_blank(octet: u8) -> bool {
     matches!(octet, 9..=13 | b' ')
 }
@@ -116,8 +114,7 @@ fn form_of_text(text: &[u8]) -> Option<Form> {
     }
 }
 
-/// Returns the form of a text that begins with `<`, if it is one that has a hint. The word `plist` tells a property
-/// list from other XML, but an HTML page may have it too.
+/// The text begins with `<`. The word `plist` tells a property list from other XML, but an HTML page may have it too.
 fn form_of_markup(text: &[u8]) -> Option<Form> {
     if begins_with(text, b"<!doctype html") || begins_with(text, b"<html") {
         return Some(Form::Html);
@@ -130,7 +127,7 @@ fn form_of_markup(text: &[u8]) -> Option<Form> {
     }
 }
 
-/// True if a text begins with these lower-case letters, in any case.
+/// The word is in lower case. The text may be in any case.
 fn begins_with(text: &[u8], word: &[u8]) -> bool {
     text.len() >= word.len()
         && text

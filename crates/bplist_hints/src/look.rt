@@ -46,7 +46,7 @@ pub fn hint_of<S: Source>(src: &mut S) -> Result<Option<Hint>, ReadFault>
     Ok(form_of(front, src.len() <= SAMPLE as u64))
 }
 
-/// Returns what a file looks like that begins with zeros, or is empty.
+/// The file begins with zeros, or is empty.
 fn zeros_in<S: Source>(src: &mut S) -> Result<Option<Hint>, ReadFault>
     ensures reads { OnlyReads (result_err result) (S.means src.old) (S.means src.new) }
 {
@@ -63,7 +63,7 @@ fn zeros_in<S: Source>(src: &mut S) -> Result<Option<Hint>, ReadFault>
     })
 }
 
-/// Returns the damage of a file that begins with `bplist00`, of which `front` are the first bytes.
+/// The file begins with `bplist00`.
 fn damage_in<S: Source>(src: &mut S, front: &[u8]) -> Result<Option<Hint>, ReadFault>
     ensures reads { OnlyReads (result_err result) (S.means src.old) (S.means src.new) }
 {
@@ -78,7 +78,6 @@ fn damage_in<S: Source>(src: &mut S, front: &[u8]) -> Result<Option<Hint>, ReadF
     sampled(src, front)
 }
 
-/// Reads the end of a file of 40 bytes or more, and returns the damage.
 fn sampled<S: Source>(src: &mut S, front: &[u8]) -> Result<Option<Hint>, ReadFault>
     requires { 40 ≤ length (S.means src.old).octets }
     ensures reads { OnlyReads (result_err result) (S.means src.old) (S.means src.new) }
@@ -103,7 +102,7 @@ fn sampled<S: Source>(src: &mut S, front: &[u8]) -> Result<Option<Hint>, ReadFau
     Ok(damage.map(Hint::Damage))
 }
 
-/// Returns where the tail of a file ends, of which the last `zeros` bytes are zero.
+/// The last `zeros` bytes of the file are zero.
 fn tail_end(length: u64, zeros: u64) -> u64
     requires long { 40 ≤ length }
     requires within { zeros ≤ length }
@@ -117,7 +116,7 @@ fn tail_end(length: u64, zeros: u64) -> u64
     (length - zeros + 8).max(TRAILER as u64)
 }
 
-/// Returns the number of zeros at the end of a file, but at most [`MOST_ZEROS`].
+/// Returns at most [`MOST_ZEROS`].
 fn zeros_at_end<S: Source>(src: &mut S) -> Result<u64, ReadFault>
     ensures reads { OnlyReads (result_err result) (S.means src.old) (S.means src.new) }
     ensures within { IfOk result (λ zeros. zeros ≤ length (S.means src.old).octets) }

@@ -12,7 +12,6 @@ const NARROW_BASE: u64 = 256;
 /// Four units of a narrow text are together below this.
 const HALF: u64 = 0x1_0000_0000;
 
-/// Returns unit `i`, or 0 if the text has ended.
 fn unit_or_0(units: &[u16], i: usize) -> u64
     ensures value { result ≡ slice_index units.now i }
     ensures small { result < 65536 }
@@ -20,7 +19,6 @@ fn unit_or_0(units: &[u16], i: usize) -> u64
     if i < units.len() { units[i] as u64 } else { 0 }
 }
 
-/// Returns unit `i` of a narrow text, or 0 if the text has ended.
 fn narrow_unit_or_0(units: &[u16], i: usize) -> u64
     ensures value { AreNarrow units.now → result ≡ slice_index units.now i }
     ensures small { result < 256 }
@@ -28,7 +26,6 @@ fn narrow_unit_or_0(units: &[u16], i: usize) -> u64
     unit_or_0(units, i).min(NARROW_BASE - 1)
 }
 
-/// Returns the first four units as one number.
 fn wide_front(units: &[u16]) -> u64
     ensures { IsWideFront units.now result }
 {
@@ -39,7 +36,6 @@ fn wide_front(units: &[u16]) -> u64
     ((first * BASE + second) * BASE + third) * BASE + fourth
 }
 
-/// Returns four units of a narrow text, from unit `i` on, as one number.
 fn narrow_half(units: &[u16], i: usize) -> u64
     requires { i < 8 }
     ensures small { result < 4294967296 }
@@ -52,7 +48,6 @@ fn narrow_half(units: &[u16], i: usize) -> u64
     ((first * NARROW_BASE + second) * NARROW_BASE + third) * NARROW_BASE + fourth
 }
 
-/// Returns how many units a text has in common with `first` at its beginning, but at most `most`.
 fn shared_units(first: &[u16], text: &[u16], most: usize) -> usize
     ensures most { result ≤ most }
     ensures same { (i : ℕ) → i < result → slice_index text.now i ≡ slice_index first.now i }
@@ -66,7 +61,6 @@ fn shared_units(first: &[u16], text: &[u16], most: usize) -> usize
     end
 }
 
-/// Returns whether each unit fits into a byte.
 fn are_narrow(units: &[u16]) -> bool
     ensures { IsTrue result → AreNarrow units.now }
 {

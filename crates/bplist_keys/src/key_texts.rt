@@ -29,7 +29,6 @@ pub(crate) struct KeyTexts {
 }
 
 impl KeyTexts {
-    /// Reads a text behind the others.
     fn push<S: Source>(&mut self, src: &mut S, head: &Head) -> Result<(), Failure>
         requires text { IsSafeText (length (S.means src.old).octets) head.now }
         requires room { length self.old.units.items + head.now.count < 2 ^ 64 }
@@ -90,7 +89,6 @@ impl KeyTexts {
         Ok(Some(texts))
     }
 
-    /// Returns what the fronts of the items' texts are made of.
     fn common_fronts(&self, items: &[Item]) -> Fronts
         ensures { (text : ℕ → List ℕ) → AreHeld text self.now items.now
             → (k : ℕ) → k < length items.now → FitsFronts self.now.units.items result (text (item_at items.now k).object) }
@@ -105,7 +103,6 @@ impl KeyTexts {
         fronts
     }
 
-    /// Gives each item the front of its text.
     fn number(&self, items: &mut [Item])
         ensures all { length items.new ≡ length items.old }
         ensures same { (k : ℕ) → (item_at items.new k).object ≡ (item_at items.old k).object }
@@ -120,7 +117,6 @@ impl KeyTexts {
         }
     }
 
-    /// Returns the units of an item.
     fn text(&self, item: &Item) -> &[u16]
         ensures { (text : ℕ → List ℕ) → IsHeld text self.now item.now → result.now ≡ text item.now.object }
     {
@@ -133,7 +129,6 @@ impl KeyTexts {
         &self.units[start..end]
     }
 
-    /// Compares two texts by their fronts, and then by all units.
     fn compare(&self, first: &Item, second: &Item) -> Ordering
         ensures { (text : ℕ → List ℕ) → IsHeld text self.now first.now → IsHeld text self.now second.now
             → HasFront text self.now first.now → HasFront text self.now second.now
@@ -147,7 +142,6 @@ impl KeyTexts {
     }
 }
 
-/// Compares the texts of two objects by reading them.
 fn compare_by_reading<P: Offsets>(
     src: &mut P,
     runs: &mut RunCache,

@@ -1,6 +1,7 @@
 -- What the linter's passes find, one after the other.
-use Rattle.std.proofs.Common.{◌≡◌, ℕ, zero, suc, ◌+◌, ◌*◌, ◌<◌, ◌≤◌, inl, cond, nat_lt, Bool, List, length, take, slice_index, count_by, filter, IsTrue, Option, None, Result, Ok, Err, refl, sym, ap, subst, ◌∙◌, arith, lt-ltb}
+use Rattle.std.proofs.Common.{◌≡◌, ℕ, zero, suc, ◌+◌, ◌*◌, ◌<◌, ◌≤◌, inl, cond, nat_lt, Bool, List, length, take, slice_index, count_by, filter, IsTrue, Option, None, Result, Ok, Err, refl, sym, ap, subst, ◌∙◌, arith, min, lt-ltb}
 use Rattle.std.specs.List.{range_with_len}
+use Rattle.std.proofs.Math.Nat.{min-eq_right, mul-le-mul_left}
 use Rattle.std.proofs.Math.Numerals.{add-one}
 use Rattle.std.proofs.Math.Seq.{take-length}
 use Rattle.std.proofs.lemmas.List.Sums.{sum_by_more}
@@ -9,7 +10,8 @@ use Rattle.bplist_octets.specs.Meaning.{Meaning}
 use Rattle.bplist_objects.specs.declared.fault.Fault.{Fault}
 use Rattle.bplist_objects.specs.declared.frame.Frame.{Frame}
 use Rattle.bplist_objects.specs.Answers.{Never}
-use Rattle.bplist_objects.specs.Frame.{IsFrame}
+use Rattle.bplist_objects.specs.Frame.{IsFrame, trailer}
+use Rattle.bplist_objects.specs.Safe.{IsSafeFrame}
 use Rattle.bplist_objects.specs.File.{FileHolds}
 use Rattle.bplist_objects.proofs.FrameTies.{IsTrailer, IsTrailerFault, trailer_fault, entry_fault, low_is_frame}
 use Rattle.bplist_objects.specs.Value.{Value}
@@ -35,10 +37,16 @@ use Rattle.bplist_lint.specs.FileFault.{IsFileFault, IsFileCircle}
 use Rattle.bplist_lint.specs.Refusals.{Lints, Refuses, no_circle}
 use Rattle.bplist_objects.specs.Offsets.{AreOffsets32, AreBelowTable, IsOffsetFault}
 use Rattle.bplist_lint.specs.LeastHeights.{AreLeastHeights}
-use Rattle.bplist_lint.specs.Linted.{HaveReferences, KeepsRules, IsLintedBy, HasNoHeights, lint_of}
+use Rattle.bplist_lint.specs.Linted.{HaveReferences, KeepsRules, IsLintedBy, HasNoHeights, lint_bytes, lint_of, objects_said}
 use Rattle.bplist_lint.specs.Upgraded.{IsLintedWith}
+use Rattle.bplist_lint.specs.ReachWalk.{IsWalked, NamesMarked, extents_below}
+use Rattle.bplist_objects.specs.Extents.{HaveRoom}
+use Rattle.bplist_keys.specs.Texts.{IsMarkedText}
+use Rattle.bplist_objects.proofs.ExtentSums.{room_weaker}
+use Rattle.bplist_lint.proofs.ExtentBytes.{extents_tallied}
+use Rattle.bplist_lint.proofs.KeyClasses.{reached_sound}
 use Rattle.bplist_lint.proofs.HeldValues.{formed_holds, holds_formed}
-use Rattle.bplist_lint.proofs.KeptRules.{kept_both, kept_spells}
+use Rattle.bplist_lint.proofs.KeptRules.{kept_both, kept_room, kept_spells}
 use Rattle.bplist_lint.proofs.OffsetSteps.{kept_low, kept_high}
 use Rattle.bplist_lint.proofs.RangeSums.{sum_next, have_references}
 use Rattle.bplist_lint.proofs.Walks.{same_mark}
@@ -75,11 +83,33 @@ fault_passed m n same e told = subst (λ (k : Meaning). IsTrue k.honest → Refu
 
 -- what was asked for, by what the source means
 pub lint_asked : (m n : Meaning) → m ≡ n → (was now : Frame) → was ≡ now → (before after : ℕ)
-    → (IsTrue m.honest → after ≤ before + (2 * length m.octets + 33 * was.table + 1756 * was.objects + 456))
-    → IsTrue n.honest → after ≤ before + (2 * length n.octets + 33 * now.table + 1756 * now.objects + 456)
+    → (IsTrue m.honest → after ≤ before + (2 * length m.octets + 34 * was.table + 1756 * was.objects + 456))
+    → IsTrue n.honest → after ≤ before + (2 * length n.octets + 34 * now.table + 1756 * now.objects + 456)
 lint_asked m n same was now framed before after asked honest =
     let told = asked (subst (λ (k : Meaning). IsTrue k.honest) (sym same) honest) in
     omega (arith, told, ap (λ (k : Meaning). length k.octets) same, ap (λ (x : Frame). x.table) framed, ap (λ (x : Frame). x.objects) framed)
+
+-- what was asked for from the start: the trailer, the offset table, and then the passes
+pub file_asked : (f : List ℕ) (F : Frame) → F ≡ trailer f → IsSafeFrame (length f) F
+    → (start read made after paid : ℕ) → read ≤ start + (40 + F.objects * F.offset_size) → made ≡ read
+    → after + 8 * paid ≤ made + (2 * length f + 34 * F.table + 1756 * F.objects + 456) → after ≤ start + lint_bytes f
+file_asked f F spelled safe start read made after paid first same asked =
+    let each : F.objects * 1 ≤ F.objects * F.offset_size = mul-le-mul_left F.objects safe.safe.offset_low in
+    let few : F.objects ≤ length f = omega (arith, each, safe.safe.room) in
+    let said : objects_said f ≡ F.objects = ap (λ (x : Frame). min (length f) x.objects) (sym spelled) ∙ min-eq_right few in
+    let bound : after ≤ start + (40 + 36 * length f + 2212 * F.objects) = omega (arith, first, same, asked, each, safe.safe.room, safe.top) in
+    subst (λ (n : ℕ). after ≤ start + (40 + 36 * length f + 2212 * n)) (sym said) bound
+
+-- reached objects take no more bytes than are tallied, and the texts among them that are named share no byte
+pub reached_room : (f : List ℕ) (F : Frame) → IsFrame f F → (reached : Reached) → length reached.marks.items ≡ F.objects → (named : List Bool)
+    → IsWalked f F reached → NamesMarked reached.marks.items named
+    → HaveRoom f F (IsMarkedText f F named) × (extents_below f F (is_marked reached.marks.items) F.objects ≤ reached.tally.used.octets)
+reached_room f F framed reached all named walked only =
+    let marks = reached.marks.items in
+    let sound = reached_sound f F marks all framed walked.marked walked.tallied.kept in (
+      room_weaker f F (Reach f F) (IsMarkedText f F named) (λ m is. (walked.marked m).0 (only m is.0)) (kept_room f F framed walked.tallied.kept),
+      extents_tallied f F marks sound walked.marked reached.tally walked.tallied,
+    )
 
 -- ---- sums over the same objects
 -- the object has a height

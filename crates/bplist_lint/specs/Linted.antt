@@ -1,5 +1,5 @@
 -- What the linter says about a file that holds a value. Source: profile.
-use Rattle.std.specs.Prelude.{◌≡◌, ℕ, ◌+◌, ◌≤◌, min, nat_lt, List, [], ◌∷◌, length, slice_index, count_by, filter, None}
+use Rattle.std.specs.Prelude.{◌*◌, ◌≡◌, ℕ, ◌+◌, ◌≤◌, min, nat_lt, List, [], ◌∷◌, length, slice_index, count_by, filter, None}
 use Rattle.std.specs.List.{range_with_len}
 use Rattle.bplist_objects.specs.declared.frame.Frame.{Frame}
 use Rattle.bplist_objects.specs.Frame.{IsFrame, trailer}
@@ -60,3 +60,7 @@ pub record KeepsRules (f : List ℕ) (F : Frame) (reached : Reached) : Type 0 wh
 -- how many objects the trailer says that the file has, but no more than it has bytes
 abbrev pub objects_said : List ℕ → ℕ
 objects_said f = min (length f) (trailer f).objects
+
+-- the most bytes that the linter asks for
+abbrev pub lint_bytes : List ℕ → ℕ
+lint_bytes f = 40 + 36 * length f + 2212 * objects_said f

@@ -37,7 +37,7 @@ pub use Rattle.bplist_lint.specs.Graph.{AreLeast, AreObjects, AreWhole, Ends, Is
 pub use Rattle.bplist_lint.specs.HeightWalks.{AreClosed, AreFew, AreLeastOf, Finds, GoesOn, HasMet, Passes, Rests, Settles, Shows, Walks, first_state, left_below, resumed, scan_bytes, state_at, turn_bytes}
 pub use Rattle.bplist_lint.specs.KeyLists.{AreAbove, AreRanked, HaveRanks, IsListed, RankKeys, positions_in, ranks_in}
 pub use Rattle.bplist_lint.specs.LeastHeights.{AreLeastHeights, StandLeast}
-pub use Rattle.bplist_lint.specs.Linted.{HasNoHeights, IsLinted, IsLintedBy, KeepsRules, lint_of, objects_said}
+pub use Rattle.bplist_lint.specs.Linted.{HasNoHeights, IsLinted, IsLintedBy, KeepsRules, lint_bytes, lint_of}
 pub use Rattle.bplist_lint.specs.ReachRules.{IsReachedFault, KeepReached, Tallied, is_marked, reach_rules}
 pub use Rattle.bplist_lint.specs.ReachSearch.{AreFollowed, AreGood, HasMarks, IsReady, Looked, Searching, index_count, place_index}
 pub use Rattle.bplist_lint.specs.ReachWalk.{AreNamed, HasRoomFor, IsSteady, IsSteadyWalk, IsWalked, IsWalking, KeepsNames, NamesMarked, NotedIn, Worked, extent, extents_below, of_object, stop_failed}

@@ -8,7 +8,6 @@ use std::alloc::{AllocError, Global};
 /// The numbers in a block: eight words of 64 bits.
 const BLOCK: u64 = 512;
 
-/// Returns the least number from `from` up to, and without, `end` that is not in the set with these bits.
 fn first_outside(words: &[u64], from: u64, end: u64) -> Option<u64>
     requires within { end ≤ 64 * length words.now }
     requires low { end < 2 ^ 50 }
@@ -77,8 +76,7 @@ impl BitSet {
         }
     }
 
-    /// Returns the first block from `block` on that is not known to be full, or else the number of blocks. Shortens the
-    /// skips that it follows.
+    /// Returns the number of blocks if all from `block` on are known to be full. Shortens the skips that it follows.
     fn next_block(&mut self, block: usize) -> usize
         requires { block ≤ vec_len self.old.skips }
         ensures size { self.new.size ≡ self.old.size }

@@ -1,8 +1,8 @@
 //! A linted file as a `Checked`. The linter's certificate is valid, so it is not checked.
 
-ghost use Rattle.std.specs.Prelude.{◌≡◌, IsTrue, IfErr, IfOk, MatchResult};
+ghost use Rattle.std.specs.Prelude.{◌≡◌, ◌+◌, ◌≤◌, IsTrue, IfErr, IfOk, MatchResult};
 ghost use Rattle.bplist_lint.specs.Prelude.{OnlyReads, Honestly, Value, FileHolds, Never, IsFileFault, IsFileCircle};
-ghost use Rattle.bplist_lint.specs.Prelude.{IsLintedWith, HasNoHeights, IsSound, Refuses, read_of_refusal, no_circle};
+ghost use Rattle.bplist_lint.specs.Prelude.{IsLintedWith, HasNoHeights, IsSound, Refuses, lint_bytes, read_of_refusal, no_circle};
 
 use crate::answer::LintRefusal;
 use crate::linter::{Keys, lint_file};
@@ -28,6 +28,9 @@ pub fn lint_checked<S: Source>(
     ensures handed { MatchResult result
         (λ linted. linted.0.source ≡ S.means src)
         (λ refused. OnlyReads (read_of_refusal refused.0) (S.means src) (S.means refused.1)) }
+    ensures asks { Honestly (S.means src) (λ f. MatchResult result
+        (λ linted. linted.0.asked ≤ S.asked src + lint_bytes f)
+        (λ refused. S.asked refused.1 ≤ S.asked src + lint_bytes f)) }
     ensures exact { IsTrue (S.means src).honest → MatchResult result
         (λ linted. IsLintedWith keys (S.means src).octets linted.0.frame linted.0.certificate linted.1)
         (λ refused. Refuses (IsFileFault (S.means src).octets) (IsFileCircle (S.means src).octets) refused.0) }

@@ -13,7 +13,6 @@ use bplist_objects::ObjectNo;
 use bplist_octets::ReadFault;
 use std::alloc::{AllocError, Global};
 
-/// Returns the first of these objects that has no height.
 fn without(heights: &[u32], objects: &[u32]) -> Option<u32>
     requires { AreObjects (length heights.now) (length objects.now) objects.now }
     ensures inside { IfSome result (λ m. m < length heights.now) }
@@ -29,7 +28,6 @@ fn without(heights: &[u32], objects: &[u32]) -> Option<u32>
     None
 }
 
-/// Returns the first reference of `n` to an object without a height.
 fn first_without<R: References>(
     graph: &mut R,
     heights: &[u32],
@@ -62,7 +60,6 @@ fn first_without<R: References>(
     Ok(None)
 }
 
-/// Returns the first index of `x` on the trail.
 fn index_in(trail: &[u32], x: u32) -> usize
     requires { Contains trail.now x }
     ensures { IsFirstIndex trail.now x result }
@@ -74,14 +71,13 @@ fn index_in(trail: &[u32], x: u32) -> usize
     index
 }
 
-/// Returns the objects with these numbers.
 fn named(alloc: Global, numbers: &[u32]) -> Result<Vec<ObjectNo>, AllocError>
     ensures { IfOk result (λ objects. objects.items ≡ map object numbers.now) }
 {
     numbers.iter().map(|n| ObjectNo(*n)).collect(alloc)
 }
 
-/// Returns the trail from this index on. Its contract says what the prover does not see of a slice.
+/// The contract says what the prover does not see of a slice.
 fn tail(trail: &[u32], index: usize) -> &[u32]
     requires { index ≤ length trail.now }
     ensures { result.now ≡ drop index trail.now }

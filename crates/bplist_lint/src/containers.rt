@@ -16,7 +16,7 @@ use bplist_objects::{Framed, Offsets, read_refs_in, refs_of};
 use bplist_octets::{ReadFault, entry_or};
 use std::alloc::Global;
 
-/// Returns the greatest height of these objects, or 0 if there are none. Returns None if one of them has no height.
+/// Returns None if one of the objects has no height.
 fn greatest_height(heights: &[u32], numbers: &[u64]) -> Option<u32>
     ensures { IfSome result (AreMeasured heights.now numbers.now) }
 {
@@ -31,8 +31,7 @@ fn greatest_height(heights: &[u32], numbers: &[u64]) -> Option<u32>
     Some(best)
 }
 
-/// Returns the height of container `n`, if its keys are good and all its values have heights. `block` has room for some
-/// of its references.
+/// Returns None if a key is not good or a value has no height.
 fn container_height<P: Offsets>(
     src: &mut P,
     n: u32,
@@ -76,8 +75,7 @@ fn container_height<P: Offsets>(
     Ok(best.checked_add(1))
 }
 
-/// Measures the containers among the marked objects, from the last to the first. Returns whether all of them have good
-/// keys and heights.
+/// Goes from the last object to the first.
 fn measure_containers<P: Offsets>(
     src: &mut P,
     marks: &[bool],

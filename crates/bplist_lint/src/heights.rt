@@ -51,14 +51,12 @@ struct HeightWalk {
     stack: Vec<u32>,
 }
 
-/// Returns how many marks are not set.
 fn unmarked(marks: &[bool]) -> usize
     ensures { result ≡ count_by not marks.now }
 {
     marks.len() - count_marked(marks)
 }
 
-/// Returns the states before the walk: an object known to have no references is founded.
 fn first_states(alloc: Global, childless: &[bool]) -> Result<Vec<State>, AllocError>
     ensures { IfOk result (λ states. states.items ≡ map first_state childless.now) }
 {
@@ -70,8 +68,8 @@ fn first_states(alloc: Global, childless: &[bool]) -> Result<Vec<State>, AllocEr
 }
 
 impl HeightWalk {
-    /// Starts a walk. Objects marked in `childless` have no references, so they have height 1 from the start: the mark
-    /// as a number is the height.
+    /// An object marked in `childless` has no references, so it has height 1 from the start: the mark as a number is
+    /// the height.
     fn new(alloc: Global, childless: &[bool]) -> Result<HeightWalk, AllocError>
         ensures states { IfOk result (λ walk. walk.states.items ≡ map first_state childless.now) }
         ensures heights { IfOk result (λ walk. walk.heights.items ≡ map from_bool childless.now) }
@@ -84,8 +82,7 @@ impl HeightWalk {
         })
     }
 
-    /// Returns the marked object with the greatest number below `before` about which nothing is known. Most objects are
-    /// childless, and a loop with no call keeps its counter in a register.
+    /// Most objects are childless, and a loop with no call keeps its counter in a register.
     fn last_new(&self, marks: &[bool], before: u32) -> Option<u32>
         requires all { length marks.now ≡ vec_len self.now.states }
         requires inside { before ≤ length marks.now }
@@ -105,7 +102,6 @@ impl HeightWalk {
         None
     }
 
-    /// Puts object `m`, about which nothing is known, on the stack.
     fn open(&mut self, m: u32) -> Result<(), AllocError>
         requires { m < vec_len self.old.states }
         ensures states { self.new.states.items ≡ set self.old.states.items m states.Open }
@@ -117,7 +113,7 @@ impl HeightWalk {
         Ok(())
     }
 
-    /// Gives object `n` its final state and height. The height of an object that is not founded is 0.
+    /// The height of an object that is not founded is 0.
     fn settle(&mut self, n: u32, state: State, height: u32)
         requires within { n < vec_len self.old.heights }
         requires all { vec_len self.old.states ≡ vec_len self.old.heights }
@@ -129,7 +125,7 @@ impl HeightWalk {
         self.heights[n as usize] = height;
     }
 
-    /// Looks at the states of these objects. The index in `ScanResult::New` counts from the first of them.
+    /// The index in `ScanResult::New` counts from the first of these objects.
     fn look_at(&self, objects: &[u32]) -> ScanResult
         requires inside { AreObjects (vec_len self.now.states) (length objects.now) objects.now }
         requires all { vec_len self.now.heights ≡ vec_len self.now.states }
@@ -148,9 +144,8 @@ impl HeightWalk {
         ScanResult::Founded(best)
     }
 
-    /// Scans the references of object `n`, from number `from` on, in portions: `first` of them, and then ever more. A scan
-    /// that resumes begins with few, so that an object to which the walk comes back again and again does not have its
-    /// references read many times.
+    /// Reads the references in portions: `first` of them, and then ever more. A scan that resumes begins with few, so
+    /// that an object to which the walk comes back again and again does not have its references read many times.
     fn look<R: References>(
         &self,
         graph: &mut R,
@@ -233,8 +228,8 @@ impl HeightWalk {
         self.look(graph, n, 0, BLOCK)
     }
 
-    /// Settles object `n`, if nothing is known about it, and all that it leads to. Each turn either settles the object
-    /// on top of the stack or opens one that must be settled first. The stack is empty before and after.
+    /// Each turn either settles the object on top of the stack or opens one that must be settled first. The stack is
+    /// empty before and after.
     fn settle_from<R: References>(&mut self, graph: &mut R, n: u32) -> Result<(), Failure>
         requires fits { (R.graph graph.old).size < 2 ^ 32 }
         requires n_in { n < (R.graph graph.old).size }

@@ -61,6 +61,7 @@ impl KeySorting {
         requires dict { head.now.kind ≡ Dict }
         requires few { head.now.count < 2 ^ 32 }
         ensures reads { OnlyReads (refused_read result) (P.means src.old) (P.means src.new) }
+        ensures asks { P.asked src.new ≤ P.asked src.old + head.now.count * (frame_in (P.means src.old)).ref_size }
         ensures same { self.new.ranks.table.items ≡ self.old.ranks.table.items }
         ensures more { OnOk result (length self.new.positions.items ≡ length self.old.positions.items + head.now.count) }
         ensures exact { HonestlyIn (P.means src.old) (λ f F. HaveRanks f F head.now self.old.ranks.table.items
@@ -73,7 +74,6 @@ impl KeySorting {
     }
 }
 
-/// Appends the keys with these references.
 fn push_keys(ranks: &[u32], numbers: &[u64], keys: &mut Vec<RankedKey>) -> Result<(), AllocError>
     requires { length keys.old.items + length numbers.now < 2 ^ 32 }
     ensures more { OnOk result (length keys.new.items ≡ length keys.old.items + length numbers.now) }
@@ -90,7 +90,6 @@ fn push_keys(ranks: &[u32], numbers: &[u64], keys: &mut Vec<RankedKey>) -> Resul
     Ok(())
 }
 
-/// Replaces `keys` by the keys of a dictionary, in written order.
 fn rank_keys<P: Framed>(
     src: &mut P,
     head: &Head,
@@ -101,6 +100,7 @@ fn rank_keys<P: Framed>(
     requires dict { head.now.kind ≡ Dict }
     requires few { head.now.count < 2 ^ 32 }
     ensures reads { OnlyReads (failed_to_read result) (P.means src.old) (P.means src.new) }
+    ensures asks { P.asked src.new ≤ P.asked src.old + head.now.count * (frame_in (P.means src.old)).ref_size }
     ensures all { OnOk result (length keys.new.items ≡ head.now.count) }
     ensures ranked { HonestlyIn (P.means src.old) (λ f F.
         OnOk result (AreRanked (λ k. slice_index ranks.now (ref f F head.now k)) keys.new.items)) }
@@ -123,7 +123,7 @@ pub(crate) fn unlisted(n: u32, head: &Head) -> Fault {
     }
 }
 
-/// Appends the positions of sorted keys. Returns `fault` if a key has no rank, or the same rank as another key.
+/// Returns `fault` if a key has no rank, or the same rank as another key.
 fn push_positions(keys: &[RankedKey], fault: Fault, positions: &mut Vec<u32>) -> Result<(), Refusal>
     ensures read { refused_read result ≡ None }
     ensures pushed { OnOk result (positions.new.items ≡ positions.old.items ++ positions_in keys.now) }
@@ -140,7 +140,6 @@ fn push_positions(keys: &[RankedKey], fault: Fault, positions: &mut Vec<u32>) ->
     Ok(())
 }
 
-/// Checks the keys of marked object `n`, if it is a dictionary.
 fn check_dict_keys<P: Offsets>(src: &mut P, n: u32, table: &mut ClassTable) -> Result<(), Refusal>
     requires { n < (frame_in (P.means src.old)).objects }
     ensures reads { OnlyReads (refused_read result) (P.means src.old) (P.means src.new) }

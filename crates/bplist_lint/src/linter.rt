@@ -9,7 +9,7 @@ ghost use Rattle.bplist_lint.specs.Prelude.{KeepReached, key_rules, HasRoomFor, 
 ghost use Rattle.bplist_lint.specs.Prelude.{IsFileCircle, Lints, lint_failed, no_circle, KeepsRules, IsLintedBy};
 ghost use Rattle.bplist_lint.specs.Prelude.{IsLinted, IsLintedWith, HasNoHeights, reach_rules, IsSound, lint_of};
 ghost use Rattle.bplist_lint.specs.Prelude.{AreFound, IsNumbered, NamesMarked, keys_for};
-ghost use Rattle.bplist_lint.specs.Prelude.{extents_below, is_marked, objects_said};
+ghost use Rattle.bplist_lint.specs.Prelude.{extents_below, is_marked, lint_bytes};
 ghost use Rattle.bplist_lint.specs.declared.linter.Keys.TheVariants.{Classes, Ranks};
 
 use crate::answer::{Lint, LintRefusal, ObjectNos};
@@ -47,9 +47,7 @@ impl Keys {
     }
 }
 
-/// Returns the least height of each object that is reached and founded, and 0 for every other object. The reached
-/// objects must keep rules 14 to 22, `marks` must mark exactly them, and `childless` only objects without references.
-/// Their keys are texts then, so the walk needs to follow the values only.
+/// The reached objects keep rules 14 to 22. Their keys are texts then, so the walk needs to follow the values only.
 fn find_heights<P: Offsets>(
     alloc: Global,
     src: &mut P,
@@ -74,8 +72,7 @@ fn find_heights<P: Offsets>(
     Ok(least_heights(alloc, &mut objects, marks, childless)?)
 }
 
-/// Returns what is known about the reached objects, which all keep rules 14 to 20 and 31, and what they name as keys;
-/// or else the first fault by these rules.
+/// Checks rules 14 to 20 and 31.
 ///
 /// If the quick walk meets a fault, slower passes in the order of the objects' numbers find which fault is the first.
 /// Over an honest source they always find one. If they do not, all reached objects count as named.
@@ -109,7 +106,7 @@ fn find_reached<P: Offsets>(alloc: Global, src: &mut P) -> Result<(Reached, Name
     ))
 }
 
-/// Returns the least heights of a file whose reached objects keep rules 14 to 22 and 31, or a circle.
+/// The reached objects keep rules 14 to 22 and 31.
 fn heights_or_circle<P: Offsets>(
     alloc: Global,
     src: &mut P,
@@ -140,8 +137,8 @@ fn heights_or_circle<P: Offsets>(
     Ok(heights)
 }
 
-/// Checks the keys of the reached objects, which keep rules 14 to 20 and 31, by rules 21 and 22. The numbers of the
-/// keys are classes or ranks. Returns the numbers, and the heights too if the quick pass finds them.
+/// Checks rules 21 and 22. The reached objects keep rules 14 to 20 and 31. The numbers of the keys are classes or
+/// ranks. Returns the numbers, and the heights too if the quick pass finds them.
 fn check_keys<P: Offsets>(
     alloc: Global,
     src: &mut P,
@@ -173,8 +170,7 @@ fn check_keys<P: Offsets>(
     Ok((None, numbers))
 }
 
-/// Returns the least heights of a file whose reached objects keep rules 14 to 22 and 31, or a circle. `heights` are the
-/// least heights, if the quick pass found them.
+/// The reached objects keep rules 14 to 22 and 31. `heights` are the least heights, if the quick pass found them.
 fn finish<P: Offsets>(
     alloc: Global,
     src: &mut P,
@@ -198,7 +194,7 @@ fn finish<P: Offsets>(
     }
 }
 
-/// Returns the certificate of a file whose reached objects keep rules 14 to 20 and 31, or its first fault or circle.
+/// The reached objects keep rules 14 to 20 and 31.
 ///
 /// If more than half of the objects are keys, frees the places before it numbers the keys: otherwise memory passes 16
 /// bytes an object.
@@ -213,7 +209,7 @@ fn certify_by_classes<P: Offsets>(
     requires walked { HonestlyIn (P.means src.old) (λ f F. IsWalked f F reached × AreNamed f F named.marks.items) }
     ensures reads { OnlyReads (lint_failed result) (P.means src.old) (P.means src.new) }
     ensures asks { HonestlyIn (P.means src.old) (λ f F. NamesMarked reached.marks.items named.marks.items
-        → P.asked src.new ≤ P.asked src.old + (2 * length f + 14 * F.table + 1596 * F.objects + 292)) }
+        → P.asked src.new ≤ P.asked src.old + (2 * length f + 15 * F.table + 1596 * F.objects + 292)) }
     ensures count { IfOk result (λ made. length made.heights ≡ (frame_in (P.means src.old)).objects) }
     ensures exact { HonestlyIn (P.means src.old) (λ f F.
         Lints (λ made. IsLintedWith Classes f F made reached.tally) (IsFileFault f) (IsFileCircle f) result) }
@@ -244,6 +240,8 @@ fn certify_by_ranks<P: Offsets>(
     requires all_named { length named.marks.items ≡ (frame_in (P.means src.old)).objects }
     requires walked { HonestlyIn (P.means src.old) (λ f F. IsWalked f F reached × AreNamed f F named.marks.items) }
     ensures reads { OnlyReads (lint_failed result) (P.means src.old) (P.means src.new) }
+    ensures asks { HonestlyIn (P.means src.old) (λ f F. NamesMarked reached.marks.items named.marks.items
+        → P.asked src.new ≤ P.asked src.old + (2 * length f + 15 * F.table + 1596 * F.objects + 292)) }
     ensures count { IfOk result (λ made. length made.heights ≡ (frame_in (P.means src.old)).objects) }
     ensures exact { HonestlyIn (P.means src.old) (λ f F.
         Lints (λ made. IsLintedWith Ranks f F made reached.tally) (IsFileFault f) (IsFileCircle f) result) }
@@ -255,16 +253,15 @@ fn certify_by_ranks<P: Offsets>(
     Ok(list_by_ranks(alloc, src, heights, ranks)?)
 }
 
-/// Returns the certificate of a file that was opened, and the tally of its reached objects, or its first fault or
-/// circle. First checks each reached object by itself, then the keys and heights.
+/// First checks each reached object by itself, then the keys and heights.
 fn lint_opened<P: Offsets>(
     alloc: Global,
     src: &mut P,
     keys: Keys,
 ) -> Result<(Certificate, Tally), LintRefusal>
     ensures reads { OnlyReads (lint_failed result) (P.means src.old) (P.means src.new) }
-    ensures asks { keys ≡ Classes → HonestlyIn (P.means src.old) (λ f F. P.asked src.new
-        ≤ P.asked src.old + (2 * length f + 33 * F.table + 1756 * F.objects + 456)) }
+    ensures asks { HonestlyIn (P.means src.old) (λ f F. P.asked src.new
+        ≤ P.asked src.old + (2 * length f + 34 * F.table + 1756 * F.objects + 456)) }
     ensures count { IfOk result (λ known. length known.0.heights ≡ (frame_in (P.means src.old)).objects) }
     ensures exact { HonestlyIn (P.means src.old) (λ f F.
         Lints (λ known. IsLintedWith keys f F known.0 known.1) (IsFileFault f) (IsFileCircle f) result) }
@@ -279,7 +276,6 @@ fn lint_opened<P: Offsets>(
     Ok((certificate, tally))
 }
 
-/// Returns the frame of a file and the places of its objects, or the first broken rule of 1 to 13.
 fn read_places<S: Source>(alloc: Global, src: &mut S) -> Result<(Frame, Vec<u32>), Refusal>
     ensures reads { OnlyReads (refused_read result) (S.means src.old) (S.means src.new) }
     ensures asks { S.asked src.new ≤ S.asked src.old + (40 + length (S.means src.old).octets) }
@@ -303,8 +299,7 @@ pub fn lint_file<S: Source>(
     keys: Keys,
 ) -> Result<(Certificate, Tally, Frame), LintRefusal>
     ensures reads { OnlyReads (lint_failed result) (S.means src.old) (S.means src.new) }
-    ensures asks { keys ≡ Classes → Honestly (S.means src.old) (λ f. S.asked src.new
-        ≤ S.asked src.old + (40 + 35 * length f + 2212 * objects_said f)) }
+    ensures asks { Honestly (S.means src.old) (λ f. S.asked src.new ≤ S.asked src.old + lint_bytes f) }
     ensures safe { IfOk result (λ known. IsSafeFrame (length (S.means src.old).octets) known.2) }
     ensures count { IfOk result (λ known. length known.0.heights ≡ known.2.objects) }
     ensures exact { Honestly (S.means src.old) (λ f.
@@ -316,7 +311,6 @@ pub fn lint_file<S: Source>(
     Ok((certificate, tally, frame))
 }
 
-/// Returns the linter's yes with this certificate, for reached objects of which this is the tally.
 fn yes(frame: &Frame, tally: &Tally, certificate: Certificate) -> Lint
     requires { frame.now.top.0 < length certificate.heights }
     ensures { result ≡ lint_of frame.now certificate tally.now }
@@ -342,8 +336,7 @@ fn yes(frame: &Frame, tally: &Tally, certificate: Certificate) -> Lint
 /// The reads alternate between a few places. To read a file, put `Pages` around it.
 pub fn lint<S: Source>(alloc: Global, src: &mut S) -> Result<Lint, LintRefusal>
     ensures reads { OnlyReads (lint_failed result) (S.means src.old) (S.means src.new) }
-    ensures asks { Honestly (S.means src.old) (λ f. S.asked src.new
-        ≤ S.asked src.old + (40 + 35 * length f + 2212 * objects_said f)) }
+    ensures asks { Honestly (S.means src.old) (λ f. S.asked src.new ≤ S.asked src.old + lint_bytes f) }
     ensures exact { IsTrue (S.means src.old).honest
         → Lints (IsLinted (S.means src.old).octets) (IsFileFault (S.means src.old).octets)
         (IsFileCircle (S.means src.old).octets) result }

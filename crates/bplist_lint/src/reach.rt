@@ -39,7 +39,6 @@ struct ReachSearch {
 }
 
 impl ReachSearch {
-    /// Starts the search with the top.
     fn from_top<P: Framed>(alloc: Global, src: &P) -> Result<ReachSearch, AllocError>
         ensures ready { IfOk result (IsReady (frame_in (P.means src.now))) }
         ensures work { IfOk result (λ search. count_by not search.marks.items + vec_len search.stack ≤ (frame_in (P.means src.now)).objects) }
@@ -62,8 +61,7 @@ impl ReachSearch {
     }
 }
 
-/// Returns the number of a place. Places one reference size apart have consecutive numbers, so that the references of
-/// an array are a range.
+/// Places one reference size apart have consecutive numbers, so that the references of an array are a range.
 fn place_index<P: Framed>(src: &P, place: u64) -> u64
     requires within { place ≤ (frame_in (P.means src.now)).table }
     ensures { result ≡ place_index (frame_in (P.means src.now)) place }
@@ -74,8 +72,7 @@ fn place_index<P: Framed>(src: &P, place: u64) -> u64
     place % size * row_length + place / size
 }
 
-/// Returns whether each reference of an object with this head is the number of an object. Adds the places that are good
-/// to `good`.
+/// Adds the places that are good to `good`.
 fn are_good<P: Framed>(src: &mut P, head: &Head, good: &mut BitSet) -> Result<bool, ReadFault>
     requires head { IsSafeHead (frame_in (P.means src.old)) head.now }
     requires size { good.old.size ≡ index_count (frame_in (P.means src.old)) }
@@ -103,8 +100,7 @@ fn are_good<P: Framed>(src: &mut P, head: &Head, good: &mut BitSet) -> Result<bo
     Ok(true)
 }
 
-/// Follows those references of an object with this head that were not followed yet: marks each object, and puts it on
-/// the stack if it was not marked. All these references must be numbers of objects.
+/// Passes over references that were followed before. All references must be numbers of objects.
 fn follow<P: Framed>(src: &mut P, head: &Head, search: &mut ReachSearch) -> Result<(), Failure>
     requires head { IsSafeHead (frame_in (P.means src.old)) head.now }
     requires ready { IsReady (frame_in (P.means src.old)) search.old }

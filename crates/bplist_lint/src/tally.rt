@@ -63,7 +63,6 @@ impl Tally {
     }
 }
 
-/// Checks reached object `n`, and adds it to the tally.
 fn check_reached_object<P: Offsets>(src: &mut P, n: u32, tally: Tally) -> Result<Tally, ObjectFault>
     requires within { n < (frame_in (P.means src.old)).objects }
     requires roomy { IsRoomy (frame_in (P.means src.old)) tally }

@@ -1,9 +1,9 @@
 //! Makes a certificate of version 2 from a checked file.
 
-ghost use Rattle.std.specs.Prelude.{◌≡◌, ◌+◌, ◌≤◌, ◌<◌, ℕ, Bool, List, set, length, IsTrue, IfOk, vec_len};
+ghost use Rattle.std.specs.Prelude.{◌≡◌, ◌+◌, ◌*◌, ◌≤◌, ◌<◌, ℕ, Bool, List, set, length, IsTrue, IfOk, vec_len};
 ghost use Rattle.bplist_lint.specs.Prelude.{OnlyReads, frame_in, HonestlyIn, AreRanks, IsVouchedBy, IsValid};
 ghost use Rattle.bplist_lint.specs.Prelude.{HasNamedKeys, Listed, IsUpgraded, RankKeys, Upgrades, upgrade_failed};
-ghost use Rattle.bplist_lint.specs.Prelude.{Judges, Never, refused_read};
+ghost use Rattle.bplist_lint.specs.Prelude.{IsMarked, Judges, Never, extent, extents_below, is_marked, refused_read};
 
 use crate::answer::UpgradeFault;
 use crate::key_rules::{KeySorting, unlisted};
@@ -13,12 +13,12 @@ use bplist_objects::{Framed, Kind, Objects, Offsets, object_kind, object_shape, 
 use bplist_octets::Source;
 use std::alloc::Global;
 
-/// Appends the key list of vouched object `n`, if it is a dictionary. Returns the start of the list, or 0 for any other
-/// object.
+/// Returns the start of the list, or 0 if the object is not a dictionary.
 fn list_object<P: Offsets>(src: &mut P, n: u32, lists: &mut KeySorting) -> Result<u32, Refusal>
     requires within { n < (frame_in (P.means src.old)).objects }
     requires few { vec_len lists.old.positions ≤ 4294967295 }
     ensures reads { OnlyReads (refused_read result) (P.means src.old) (P.means src.new) }
+    ensures asks { HonestlyIn (P.means src.old) (λ f F. P.asked src.new ≤ P.asked src.old + (53 + extent f F n)) }
     ensures same { lists.new.ranks.table.items ≡ lists.old.ranks.table.items }
     ensures few { IfOk result (λ _. vec_len lists.new.positions ≤ 4294967295) }
     ensures exact { HonestlyIn (P.means src.old) (λ f F. (named : List Bool) (heights starts : List ℕ)
@@ -59,6 +59,9 @@ pub fn list_by_ranks<P: Offsets>(
 ) -> Result<Certificate, Refusal>
     requires { length heights.items ≡ (frame_in (P.means src.old)).objects }
     ensures reads { OnlyReads (refused_read result) (P.means src.old) (P.means src.new) }
+    ensures asks { HonestlyIn (P.means src.old) (λ f F. (marks : List Bool)
+        → ((n : ℕ) → IsVouchedBy heights.items n → IsMarked marks n)
+        → P.asked src.new ≤ P.asked src.old + (53 * F.objects + extents_below f F (is_marked marks) F.objects)) }
     ensures heights { IfOk result (λ certificate. certificate.heights ≡ heights.items) }
     ensures exact { HonestlyIn (P.means src.old) (λ f F. IsValid f F heights.items
         → RankKeys f F (IsVouchedBy heights.items) ranks.table.items
@@ -79,7 +82,6 @@ pub fn list_by_ranks<P: Offsets>(
     })
 }
 
-/// Returns the certificate that `upgrade` makes, with these heights.
 fn list_vouched<P: Offsets>(
     alloc: Global,
     src: &mut P,

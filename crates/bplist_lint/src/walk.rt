@@ -98,8 +98,7 @@ pub struct Reached {
     pub tally: Tally,
 }
 
-/// Marks the objects with these numbers. Puts an object on the stack if it was not marked before and the walk does not
-/// come to it later.
+/// Puts an object on the stack if it was not marked before and the walk does not come to it later.
 fn mark_block(frame: &Frame, numbers: &[u64], worklist: &mut Worklist) -> Result<(), Stop>
     requires steady { IsSteady frame.now.objects worklist.old }
     ensures steady { OnOk result (IsSteady frame.now.objects worklist.new) }
@@ -122,7 +121,6 @@ fn mark_block(frame: &Frame, numbers: &[u64], worklist: &mut Worklist) -> Result
     Ok(())
 }
 
-/// Marks the objects that an object with this head refers to, block by block, and names its keys.
 fn mark_body<P: Framed>(
     src: &mut P,
     head: &Head,
@@ -234,7 +232,7 @@ fn visit_from<P: Offsets>(src: &mut P, n: u32, progress: &mut Progress) -> Resul
     Ok(())
 }
 
-/// Visits all reached objects: marks the top, then visits the marked objects in the order of their numbers.
+/// Marks the top, then visits the marked objects in the order of their numbers.
 fn visit_all<P: Offsets>(alloc: Global, src: &mut P) -> Result<Progress, Stop>
     ensures reads { OnlyReads (stop_failed result) (P.means src.old) (P.means src.new) }
     ensures asks { P.asked src.new ≤ P.asked src.old + (frame_in (P.means src.old)).table + 36 * (2 * (frame_in (P.means src.old)).objects + 1) }

@@ -88,8 +88,7 @@ fn power_of_256(k: u8) -> u64
     1u64 << (8 * k)
 }
 
-/// Returns the frame of this trailer in a file of `len` bytes, or the fault of the first of rules 4 to 12 that is
-/// broken.
+/// Checks rules 4 to 12.
 fn frame_by(trailer: &Trailer, len: u64) -> Result<Frame, Fault>
     requires low { 41 ≤ len }
     requires high { len ≤ 4294967295 }

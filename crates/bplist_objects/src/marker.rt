@@ -58,7 +58,7 @@ pub(crate) fn power_of_2(w: u8) -> u8
     }
 }
 
-/// Returns the count that a marker of this kind holds, or None if the count follows the marker.
+/// Returns None if the count follows the marker.
 #[inline(always)]
 pub(crate) fn short_count(kind: Kind, marker: u8) -> Option<u8>
     requires marks { Marks marker kind }
@@ -106,7 +106,7 @@ static SIZES: [u8; 256] = [
     0, 0, 0, 0, 0, 0, 0, 0, 0, 0, 0, 0, 0, 0, 0, 0,
 ];
 
-/// Returns the size in bytes of an object with this marker, if the marker gives it and no rule is about the body.
+/// The size is in bytes. Returns None if the marker does not give it, or a rule is about the body.
 #[inline(always)]
 pub(crate) fn size_said(marker: u8) -> Option<u8>
     ensures { result ≡ size_said marker }

@@ -50,7 +50,6 @@ impl Model for RefBlocks {
         × (r.bound ≤ ref_count r.head.kind r.head.count) };
 }
 
-/// Reads the `count` references from number `from` on into the first places of `into`.
 #[inline(always)]
 fn read_front<P: Framed>(
     src: &mut P,

@@ -142,8 +142,7 @@ pub fn texts_of(rule: Rule) -> (&'static str, &'static str)
     row_at(&TEXTS, rule_number(rule) as usize - 1)
 }
 
-/// Returns a row of a table. The table is a parameter, because a constant would be copied into the function that
-/// indexes it.
+/// The table is a parameter, because a constant would be copied into the function that indexes it.
 fn row_at(
     rows: &'static [(&'static str, &'static str)],
     index: usize,

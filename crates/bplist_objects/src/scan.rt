@@ -63,7 +63,7 @@ pub fn visit_in<P: Framed>(src: &mut P, n: ObjectNo, place: u64) -> Result<Visit
     Ok(Visit::Done(place + size as u64))
 }
 
-/// True if each number of a block is below the bound. The loop has no early exit, so that it is vectorized.
+/// The loop has no early exit, so that it is vectorized.
 #[inline(always)]
 fn is_block_below(block: &[u8], width: Width, count: usize, bound: u64) -> bool
     requires { length block.now ≡ count * width.bytes }
@@ -79,8 +79,7 @@ fn is_block_below(block: &[u8], width: Width, count: usize, bound: u64) -> bool
     below
 }
 
-/// Returns the index of the first number of a block that is not below the bound. Usually there is none. Each usual
-/// width has a loop of its own for that case, compiled for that width.
+/// Usually no number is found. Each usual width has a loop of its own for that case, compiled for that width.
 fn first_in_block(block: &[u8], width: Width, count: usize, bound: u64) -> Option<usize>
     requires { length block.now ≡ count * width.bytes }
     ensures { MatchOption result (AreBelow block.now 0 width.bytes count bound) (IsFirstNotBelow block.now 0 width.bytes count bound) }
@@ -103,8 +102,6 @@ fn first_in_block(block: &[u8], width: Width, count: usize, bound: u64) -> Optio
     None
 }
 
-/// Returns the index of the first of `count` numbers that is not below the bound. They are read in blocks, through a
-/// buffer of `ROOM` bytes.
 fn first_by_blocks<const ROOM: usize, S: Source>(
     src: &mut S,
     place: u64,
@@ -136,8 +133,7 @@ fn first_by_blocks<const ROOM: usize, S: Source>(
     Ok(None)
 }
 
-/// Returns the index of the first of `count` numbers from `place` on that is not below the bound. Up to `FEW` numbers
-/// are one read.
+/// Up to `FEW` numbers are one read.
 pub(crate) fn first_not_below<S: Source>(
     src: &mut S,
     place: u64,
@@ -161,8 +157,7 @@ pub(crate) fn first_not_below<S: Source>(
     first_by_blocks::<FEW_BYTES, S>(src, place, width, count, bound)
 }
 
-/// Returns the index in the text of the first byte of a part that is 128 or more. The part begins at byte `done` of the
-/// text.
+/// The part begins at byte `done` of the text, and the index counts from the first byte of the text.
 #[inline(always)]
 fn search_part<S: Source>(
     src: &mut S,
@@ -187,7 +182,6 @@ fn search_part<S: Source>(
     }
 }
 
-/// The same as `first_high_in`, in one read through a buffer of `ROOM` bytes.
 #[inline(always)]
 fn first_high_at_once<const ROOM: usize, S: Source>(
     src: &mut S,
@@ -207,7 +201,6 @@ fn first_high_at_once<const ROOM: usize, S: Source>(
     search_part(src, place, count, 0, &mut buffer[..count as usize])
 }
 
-/// The same as `first_high_in`, in parts of `PART` bytes.
 #[inline(always)]
 fn first_high_by_parts<const PART: usize, S: Source>(
     src: &mut S,

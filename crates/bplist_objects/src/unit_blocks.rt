@@ -38,7 +38,6 @@ impl Model for UnitBlocks {
     ghost invariant = { λ u. (u.next ≤ u.head.count) × (u.held ≤ 128) };
 }
 
-/// Reads the `count` units from number `from` on into the first places of `into`.
 #[inline(always)]
 fn read_front<S: Source>(
     src: &mut S,

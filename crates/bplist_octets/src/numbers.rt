@@ -43,7 +43,6 @@ pub fn wide(l: &[u8]) -> u128
     }
 }
 
-/// True if the 64 bytes at index `at` are all below 0x80.
 fn is_group_low(l: &[u8], at: usize) -> bool
     requires { at + 64 ≤ length l.now }
     ensures { IsTrue result → (k : ℕ) → at ≤ k → k < at + 64 → slice_index l.now k < 128 }
@@ -52,7 +51,6 @@ fn is_group_low(l: &[u8], at: usize) -> bool
     lanes.simd_gt(u8x64::splat(127)).to_bitmask() == 0
 }
 
-/// Returns the length of a prefix of whole groups whose bytes are all below 0x80.
 fn low_front(l: &[u8]) -> usize
     ensures inside { result ≤ length l.now }
     ensures low { (k : ℕ) → k < result → slice_index l.now k < 128 }
@@ -64,7 +62,6 @@ fn low_front(l: &[u8]) -> usize
     at
 }
 
-/// True if all bytes are below 0x80. There are at most 64.
 fn is_rest_low(l: &[u8]) -> bool
     requires { length l.now ≤ 64 }
     ensures { IsTrue result → AreLow l.now }

@@ -41,7 +41,6 @@ struct Page {
     taken: u64,
 }
 
-/// Copies the page's bytes from index `from` on.
 fn copy_part(page: &Page, from: usize, into: &mut [u8])
     requires { from + length into.old ≤ vec_len page.now.octets }
     ensures { into.new ≡ part page.now.octets.items from (length into.old) }
@@ -49,9 +48,9 @@ fn copy_part(page: &Page, from: usize, into: &mut [u8])
     into.copy_from_slice(&page.octets[from..from + into.len()]);
 }
 
-/// Makes the page hold the `count` bytes from place `at` on, which lie in one page. If it lacks one of them, it reads
-/// the whole page, or only the block of 1,024 bytes with that place, and more if the request ends after the block.
-/// Returns false if there is no memory for them. Then, and after a failed read, the page is empty.
+/// If the page lacks one of the bytes, reads the whole page, or only the block of 1,024 bytes with that place, and more
+/// if the request ends after the block. Returns false if there is no memory for them. Then, and after a failed read,
+/// the page is empty.
 fn hold<S: Source>(
     window: &mut Window<S>,
     page: &mut Page,
@@ -88,7 +87,7 @@ fn hold<S: Source>(
     Ok(true)
 }
 
-/// Returns the index of the page that was used longest ago, of the eight from index `hand` on.
+/// Looks only at the eight pages from index `hand` on.
 fn oldest(pages: &[Page], hand: usize) -> usize
     requires { 0 < length pages.now }
     ensures { result < length pages.now }
@@ -166,7 +165,6 @@ impl<S: Source> Pages<S> {
         }
     }
 
-    /// Returns the index of the page with this number, if it is kept.
     fn index_of(&self, number: u64) -> Option<usize>
         ensures { IfSome result (λ k. k < vec_len self.now.pages) }
     {
@@ -179,7 +177,6 @@ impl<S: Source> Pages<S> {
         }
     }
 
-    /// True if the page with this number was used in one of the last turns.
     fn is_recent(&self, number: u64) -> bool {
         match self.index_of(number) {
             Some(k) => self.turn.wrapping_sub(self.pages[k].taken) < FEW as u64,
@@ -214,8 +211,8 @@ impl<S: Source> Pages<S> {
         Some(k)
     }
 
-    /// Takes a page for the bytes at place `at`, of which no page is kept. Returns its index, and whether all of it is
-    /// to be read. None if no page of this source can be kept, or if there is no memory for the first one.
+    /// No page of these bytes is kept. Returns the index of the page taken, and whether all of it is to be read. None
+    /// if no page of this source can be kept, or if there is no memory for the first one.
     fn take_page(&mut self, at: u64) -> Option<(usize, bool)>
         ensures same { self.new.window ≡ self.old.window }
         ensures inside { IfSome result (λ taken. taken.0 < vec_len self.new.pages) }
@@ -234,8 +231,7 @@ impl<S: Source> Pages<S> {
         Some((k, near || self.len <= PAGE as u64))
     }
 
-    /// Chooses the page for the bytes at place `at`. Returns its index, and whether all of it is to be read if it lacks
-    /// some.
+    /// Returns the index of the page, and whether all of it is to be read if it lacks some bytes.
     fn choose(&mut self, at: u64) -> Option<(usize, bool)>
         ensures same { self.new.window ≡ self.old.window }
         ensures inside { IfSome result (λ chosen. chosen.0 < vec_len self.new.pages) }
@@ -250,7 +246,6 @@ impl<S: Source> Pages<S> {
         Some((k, whole))
     }
 
-    /// Copies the bytes from place `at` on, if the page used last has all of them. Returns whether it has.
     #[inline(always)]
     fn copy_from_last(&self, at: u64, into: &mut [u8]) -> bool
         ensures { IsTrue result → IsTrue (S.means self.now.window.source).honest
@@ -267,7 +262,7 @@ impl<S: Source> Pages<S> {
         true
     }
 
-    /// Reads bytes of one page, through that page if there is memory for it.
+    /// Reads through the page if there is memory for it.
     fn read_page(&mut self, at: u64, into: &mut [u8]) -> Result<(), ReadFault>
         requires inside { at + length into.old ≤ length (S.means self.old.window.source).octets }
         requires fits { at % 16384 + length into.old ≤ 16384 }
@@ -312,7 +307,7 @@ impl<S: Source> Pages<S> {
     }
 }
 
-/// Returns a table of `count` places, or an empty one if there is no memory for it.
+/// Returns an empty table if there is no memory for it.
 fn places_of(alloc: Global, count: usize) -> Vec<usize> {
     match vec![in alloc; 0usize; count] {
         Ok(places) => places,

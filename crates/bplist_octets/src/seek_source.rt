@@ -54,7 +54,7 @@ pub fn fill_from<F: Stream>(stream: &mut F, into: &mut [u8]) -> Result<(), ReadF
     }
 }
 
-/// Fills `into` with the bytes from place `at` on, as `fill_from` does. A failed seek is `Device`.
+/// A failed seek is `Device`.
 fn fill_at<F: Stream>(stream: &mut F, at: u64, into: &mut [u8]) -> Result<(), ReadFault>
     ensures keeps { F.bytes stream.new ≡ F.bytes stream.old }
     ensures fills { MatchResult result

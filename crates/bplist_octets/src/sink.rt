@@ -61,8 +61,7 @@ impl Sender {
         Ok(())
     }
 
-    /// Counts the result of a write. Returns how many bytes the writer took, or 0 if an interrupted write is to be
-    /// repeated. It is a fault if the writer took nothing, failed in another way, or was interrupted once too often.
+    /// Returns 0 if an interrupted write is to be repeated.
     fn taken(&mut self, written: io::Result<usize>) -> Result<usize, WriteFault>
         requires { IfOk written (λ n. self.old.sent + n < 2 ^ 64) }
         ensures goes_on { IsOk result ↔ MatchResult written (λ n. 0 < n)
@@ -89,7 +88,6 @@ impl Sender {
         }
     }
 
-    /// Returns true if this error is an interrupted write that may still be repeated.
     fn tries_again(&self, kind: ErrorKind) -> bool
         ensures { IsTrue result ↔ (kind ≡ ErrorKind.Interrupted) × (self.now.interrupts < 64) }
     {
@@ -195,7 +193,6 @@ impl Sink {
         self.used = end;
     }
 
-    /// Writes bytes without the buffer, which is empty.
     fn pass_on<W: Write>(&mut self, out: &mut W, bytes: &[u8]) -> Result<(), WriteFault>
         requires empty { self.old.held ≡ [] }
         requires counted { self.old.sent + length bytes.now < 2 ^ 64 }
@@ -207,7 +204,6 @@ impl Sink {
         self.sender.send(out, bytes)
     }
 
-    /// Drops what is held. Returns the fault with the number of bytes that were written.
     fn refuse(&mut self) -> WriteFault
         ensures stands { result.sent ≡ self.old.sent }
         ensures dropped { self.new ≡ record { sent = self.old.sent; held = [] } }

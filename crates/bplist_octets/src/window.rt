@@ -35,8 +35,6 @@ pub struct Window<S: Source> {
         take filled octets ≡ part (S.means source).octets start filled },
 }
 
-/// If a window of `filled` bytes from place `start` on has all of the `count` bytes from place `at` on, returns the
-/// index of the first of them in the window.
 pub(crate) fn index_in(start: u64, filled: usize, at: u64, count: usize) -> Option<usize>
     ensures { MatchOption result (start ≤ at → at + count ≤ start + filled → ⊥)
         (λ from. (start + from ≡ at) × (from + count ≤ filled)) }
@@ -48,8 +46,8 @@ pub(crate) fn index_in(start: u64, filled: usize, at: u64, count: usize) -> Opti
     Some(from as usize)
 }
 
-/// True if `at` is in the window of `filled` bytes from `start` on, or up to 1,024 bytes after it, which suggests
-/// sequential reading. This decides only how much is read ahead, never which bytes a call returns.
+/// A place up to 1,024 bytes after the window suggests sequential reading. This decides only how much is read ahead,
+/// never which bytes a call returns.
 pub(crate) fn is_near(start: u64, filled: usize, at: u64) -> bool
     ensures { IsTrue result ↔ ((start ≤ at) × (at ≤ start + filled + 1024)) }
 {
@@ -57,7 +55,6 @@ pub(crate) fn is_near(start: u64, filled: usize, at: u64) -> bool
         .is_some_and(|from| from <= (filled as u64).saturating_add(JUMP as u64))
 }
 
-/// Reads the `count` bytes from place `at` on into the first bytes of `into`.
 fn read_front<S: Source>(
     source: &mut S,
     at: u64,
@@ -96,8 +93,6 @@ impl<S: Source> Window<S> {
         into.copy_from_slice(&self.octets[from..from + into.len()]);
     }
 
-    /// Moves the window to place `at` and reads `room` bytes, or as many as the source has there. After a failed read
-    /// the window is empty.
     fn refill(&mut self, at: u64, room: usize) -> Result<(), ReadFault>
         requires inside { at ≤ length (S.means self.old.source).octets }
         requires fits { room ≤ 4096 }
@@ -116,7 +111,6 @@ impl<S: Source> Window<S> {
         Ok(())
     }
 
-    /// Reads straight from the source. After a failed read the window is empty.
     fn read_past(&mut self, at: u64, into: &mut [u8]) -> Result<(), ReadFault>
         requires { at + length into.old ≤ length (S.means self.old.source).octets }
         ensures reads { OnlyReads (result_err result) (S.means self.old.source) (S.means self.new.source) }

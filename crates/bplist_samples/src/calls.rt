@@ -80,12 +80,11 @@ impl Call {
     }
 }
 
-/// Returns the text of an answer. It takes the answer, so that the caller has none to drop.
+/// The function takes the answer, so that the caller has none to drop.
 fn text_of<T: Debug + Drop>(alloc: Global, answer: T) -> Result<String, AllocError> {
     format!(in alloc; "{answer:?}")
 }
 
-/// Returns all numbers of a certificate as text.
 fn certificate_text(alloc: Global, certificate: &Certificate) -> Result<String, AllocError> {
     let heights = &certificate.heights;
     match &certificate.keys {
@@ -125,7 +124,7 @@ fn octets_text(alloc: Global, octets: Result<Vec<u8>, AllocError>) -> Result<Str
     }
 }
 
-/// Returns the answer of `print` as text, after measuring, with a writer that takes no memory.
+/// Prints after measuring, to a writer that takes no memory.
 fn print_text<S: Source>(
     alloc: Global,
     checked: &mut Checked<S>,
@@ -152,7 +151,6 @@ pub fn checked_text<S: Source>(alloc: Global, checked: &Checked<S>) -> Result<St
 /// Paths that lead somewhere in some of the tested files.
 const PATHS: &[&str] = &["", "/0/1/0", "/a", "/a~1b/0", "/s/0", "/x", "/"];
 
-/// Makes three queries for each path.
 fn queries(alloc: Global) -> Result<Vec<Query>, PathFault> {
     let mut queries = Vec::new(alloc);
     for text in PATHS {

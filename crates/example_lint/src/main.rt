@@ -5,7 +5,6 @@ use anyhow::Result;
 use bplist::{FileSource, Window, lint};
 use std::fs;
 
-/// Returns how many objects the value of a file has.
 fn objects_of(rt: &HostRuntime, path: &str) -> Result<u64> {
     let mut source = Window::new(FileSource::open(rt, path)?);
     let sound = lint(rt.alloc(), &mut source)?;

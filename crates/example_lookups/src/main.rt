@@ -9,7 +9,7 @@ use bplist::{
 };
 use std::alloc::Global;
 
-/// Returns what is at a path of a checked file: a text as it is, and what other values are.
+/// A text stands as it is, another value as `Debug` shows it.
 fn look_up<S: Source>(alloc: Global, checked: &mut Checked<S>, path: &str) -> Result<String> {
     let path = Path::parse(alloc, path)?;
     Ok(match locate(checked, &path)? {

@@ -10,7 +10,7 @@ use std::fs;
 /// The most lines below the top: a small file can mean a tree of any size.
 const LINES: u32 = 1000;
 
-/// Returns a text as it is, and what other values are.
+/// A text stands as it is, another value as `Debug` shows it.
 fn shown(alloc: Global, face: &Face) -> Result<String> {
     Ok(match face {
         Face::Text(units) => String::from_utf16_lossy(alloc, units.as_slice())?,

@@ -7,7 +7,7 @@ use bplist::{Certificate, FileSource, Path, Query, Reply, Window, answer, check,
 use std::env;
 use std::fs::File;
 
-/// Returns the certificate that is kept beside a file. If there is none, makes it.
+/// Makes the certificate if none is kept.
 fn certificate_of(rt: &HostRuntime, file: &str, beside: &str) -> Result<Certificate> {
     if let Ok(mut kept) = FileSource::open(rt, beside) {
         return Ok(Certificate::from_source(rt.alloc(), &mut kept)?);

@@ -14,6 +14,7 @@ loop-octets-preserved g c =
     let at : c.args.place + 4 * length c.loop-octets.numbers.items ≡ c.args.place + 4 * c.len-in-loop-octets-2.result = omega (arith, c.len-in-loop-octets-2.ensures) in
     record {
       same = c.in_ok-read_at.ensures.reads ∙ v.same;
+      asked = omega (arith, v.asked, c.in_ok-read_at.ensures.asks, wide, long, c.in_ok-extend_from_slice.ensures.len);
       reached = omega (arith, c.min-now.ensures, long, c.in_ok-extend_from_slice.ensures.len);
       so_far = λ honest.
           let here = ap₂ (part f) at wide ∙ sym ((rw v.same at c.in_ok-read_at.ensures.filled) honest) ∙ c.spell_words.ensures in

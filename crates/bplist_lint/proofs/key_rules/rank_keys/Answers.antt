@@ -17,6 +17,7 @@ loop-refs-preserved g c =
     let block = block_is i.same i.of c.block.ensures (c.in_ok-read.ensures.next c.if-branch.true) in
     record {
       same = c.in_ok-read.ensures.reads ∙ i.same;
+      asked = (let read = rw i.same at c.in_ok-read.ensures.asks_block in omega (arith, i.asked, read));
       of = still_of i.of c.in_ok-read.ensures.same;
       so_far = omega (arith, c.in_ok-push_keys.ensures.more, i.so_far, block.long);
       ranked = λ honest.

@@ -1,4 +1,4 @@
-use Rattle.std.proofs.Common.{arith}
+use Rattle.std.proofs.Common.{◌≡◌, arith, rules}
 use Rattle.bplist_objects.specs.declared.frame.Frame.{Frame}
 use Rattle.bplist_objects.specs.Framed.{frame_in}
 use Rattle.bplist_lint.specs.declared.graph.View.TheVariants as views
@@ -26,7 +26,8 @@ returns-in_err-least_heights-clause-asks g c = λ honest kept marked.
     let few = shown_fit f F views.Values safe.safe.ref_low c.args.marks.now c.requires.marks sound marked safe.small in
     let left = heights_left f F views.Values safe.safe.ref_low c.args.marks.now c.requires.marks sound marked c.args.childless.now F.objects (omega arith) in
     let asked = (rw (c.new-objects.ensures.means, c.new-objects.ensures.view) at c.least_heights.ensures.asks) honest (all_closed f F framed kept c.args.marks.now marked views.Values) (λ n m. let b = c.requires.childless honest n m in ((marked n).1 b.0, none_in_view f F n views.Values b.1)) few in
-    left_within (g.P.Source.asked c.args.src.now) _ _ _ F.objects _ c.new-objects.ensures.asked asked left
+    let after : g.P.Source.asked c.src-1.given.0 ≡ g.P.Source.asked c.least_heights.new.graph.source.now = search rules in
+    rw after (left_within (g.P.Source.asked c.args.src.now) _ _ _ F.objects _ c.new-objects.ensures.asked asked left)
 
 pub returns-clause-asks : goal.returns-clause-asks
 returns-clause-asks g c = λ honest kept marked.
@@ -38,4 +39,5 @@ returns-clause-asks g c = λ honest kept marked.
     let few = shown_fit f F views.Values safe.safe.ref_low c.args.marks.now c.requires.marks sound marked safe.small in
     let left = heights_left f F views.Values safe.safe.ref_low c.args.marks.now c.requires.marks sound marked c.args.childless.now F.objects (omega arith) in
     let asked = (rw (c.new-objects.ensures.means, c.new-objects.ensures.view) at c.least_heights.ensures.asks) honest (all_closed f F framed kept c.args.marks.now marked views.Values) (λ n m. let b = c.requires.childless honest n m in ((marked n).1 b.0, none_in_view f F n views.Values b.1)) few in
-    left_within (g.P.Source.asked c.args.src.now) _ _ _ F.objects _ c.new-objects.ensures.asked asked left
+    let after : g.P.Source.asked c.src-1.given.0 ≡ g.P.Source.asked c.least_heights.new.graph.source.now = search rules in
+    rw after (left_within (g.P.Source.asked c.args.src.now) _ _ _ F.objects _ c.new-objects.ensures.asked asked left)

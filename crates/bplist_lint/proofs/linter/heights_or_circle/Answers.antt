@@ -1,4 +1,4 @@
-use Rattle.std.proofs.Common.{◌≡◌, ◌<◌, length, slice_index, arith}
+use Rattle.std.proofs.Common.{◌≡◌, ◌<◌, length, slice_index, arith, rules}
 use Rattle.std.proofs.lemmas.Grind.{common_steps}
 use Rattle.std.proofs.lemmas.List.{get_or_read}
 use Rattle.std.proofs.lemmas.Result.{err_from_is_err_and}
@@ -78,7 +78,8 @@ returns-in_err-circle-clause-asks g c = λ honest.
     let few = trail_few f F views.All safe.safe.ref_low marks all sound s.walked.marked F.objects (omega arith) in
     let first = (rw c.deref.ensures.value at c.in_ok-heights.ensures.asks) honest s.walked.tallied.kept s.walked.marked in
     let asked = (rw (c.new-objects.ensures.means, c.new-objects.ensures.view, c.in_ok-heights.ensures.reads, c.frame-frame.ensures.frame) at c.circle.ensures.asks) honest (λ n r. all_whole f F framed s.walked.tallied.kept views.All n ((reach_iff f F n).0 r)) marks (λ n r. (s.walked.marked n).1 ((reach_iff f F n).0 r)) in
-    trail_within (g.P.Source.asked c.args.src.now) _ _ _ _ F.objects _ first c.new-objects.ensures.asked asked few
+    let after : g.P.Source.asked c.src-1.given.0 ≡ g.P.Source.asked c.circle.new.graph.source.now = search rules in
+    rw after (trail_within (g.P.Source.asked c.args.src.now) _ _ _ _ F.objects _ first c.new-objects.ensures.asked asked few)
 
 pub returns-then-index-eq0-clause-asks : goal.returns-then-index-eq0-clause-asks
 returns-then-index-eq0-clause-asks g c = λ honest.
@@ -93,7 +94,8 @@ returns-then-index-eq0-clause-asks g c = λ honest.
     let few = trail_few f F views.All safe.safe.ref_low marks all sound s.walked.marked F.objects (omega arith) in
     let first = (rw c.deref.ensures.value at c.in_ok-heights.ensures.asks) honest s.walked.tallied.kept s.walked.marked in
     let asked = (rw (c.new-objects.ensures.means, c.new-objects.ensures.view, c.in_ok-heights.ensures.reads, c.frame-frame.ensures.frame) at c.circle.ensures.asks) honest (λ n r. all_whole f F framed s.walked.tallied.kept views.All n ((reach_iff f F n).0 r)) marks (λ n r. (s.walked.marked n).1 ((reach_iff f F n).0 r)) in
-    trail_within (g.P.Source.asked c.args.src.now) _ _ _ _ F.objects _ first c.new-objects.ensures.asked asked few
+    let after : g.P.Source.asked c.src-1.given.0 ≡ g.P.Source.asked c.circle.new.graph.source.now = search rules in
+    rw after (trail_within (g.P.Source.asked c.args.src.now) _ _ _ _ F.objects _ first c.new-objects.ensures.asked asked few)
 
 pub returns-clause-asks : goal.returns-clause-asks
 returns-clause-asks g c = λ honest.

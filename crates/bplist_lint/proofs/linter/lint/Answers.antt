@@ -1,4 +1,3 @@
-use Rattle.std.proofs.Common.{refl}
 use Rattle.std.proofs.lemmas.Grind.{merely}
 use Rattle.std.proofs.lemmas.Result.{err_from_is_err_and}
 use Rattle.bplist_cert.proofs.VouchedObjects.{sound}
@@ -24,9 +23,3 @@ returns-clause-exact g c = λ honest.
 
 pub returns-clause-sound : goal.returns-clause-sound
 returns-clause-sound g c = λ honest. merely (sound _ _ _ (c.in_ok-certificate.ensures.exact honest).0.valid)
-
-pub returns-in_err-certificate-clause-asks : goal.returns-in_err-certificate-clause-asks
-returns-in_err-certificate-clause-asks g c = c.lint_file.ensures.asks refl
-
-pub returns-clause-asks : goal.returns-clause-asks
-returns-clause-asks g c = c.lint_file.ensures.asks refl

@@ -1,9 +1,7 @@
-use Rattle.std.proofs.Common.{◌≤◌, ◌*◌, ap, ◌∙◌, arith}
-use Rattle.std.proofs.Math.Nat.{mul-le-mul_left}
+use Rattle.std.proofs.Common.{◌≡◌, ◌∙◌, arith, rules}
 use Rattle.std.proofs.lemmas.Result.{err_from_is_err_and}
 use Rattle.bplist_lint.specs.FileFault.{IsFileCircle}
-use Rattle.bplist_objects.specs.declared.frame.Frame.{Frame}
-use Rattle.bplist_lint.proofs.Passes.{check_means, fault_passed, lint_asked}
+use Rattle.bplist_lint.proofs.Passes.{check_means, fault_passed, file_asked, lint_asked}
 use Rattle.bplist_lint.proofs.linter.lint_file.Goals as goal
 
 pub returns-in_err-frame-clause-exact : goal.returns-in_err-frame-clause-exact
@@ -18,24 +16,20 @@ returns-in_err-certificate-clause-exact g c = λ honest.
     rw (p.1, p.2) (fault_passed _ _ (c.new-file.ensures.means ∙ c.in_ok-frame.ensures.reads) c.in_err-certificate.field-0.0 c.in_err-certificate.ensures.exact honest)
 
 pub returns-in_err-frame-clause-asks : goal.returns-in_err-frame-clause-asks
-returns-in_err-frame-clause-asks g c = λ is honest. omega (arith, c.in_err-frame.ensures.asks)
+returns-in_err-frame-clause-asks g c = λ honest. omega (arith, c.in_err-frame.ensures.asks)
 
 pub returns-in_err-certificate-clause-asks : goal.returns-in_err-certificate-clause-asks
-returns-in_err-certificate-clause-asks g c = λ is honest.
+returns-in_err-certificate-clause-asks g c = λ honest.
     let fr = c.in_ok-frame.ensures in
-    let F : Frame = c.in_ok-frame.frame in
     let made = c.new-file.ensures in
-    let told = lint_asked _ _ (made.means ∙ fr.reads) _ F made.frame _ _ (c.lint_opened.ensures.asks is) honest in
-    let spelled = ap (λ (x : Frame). x.objects) (fr.exact honest).0.spelled in
-    let each : F.objects * 1 ≤ F.objects * F.offset_size = mul-le-mul_left F.objects fr.safe.safe.offset_low in
-    omega (arith, told, made.asked, fr.asks_table, spelled, each, fr.safe.safe.room, fr.safe.top)
+    let told = lint_asked _ _ (made.means ∙ fr.reads) _ _ made.frame _ _ c.lint_opened.ensures.asks honest in
+    let after : g.S.Source.asked c.src-1.given.0 ≡ g.S.Source.asked c.lint_opened.new.src.source.now = search rules in
+    rw after (file_asked _ c.in_ok-frame.frame (fr.exact honest).0.spelled fr.safe _ _ _ _ _ fr.asks_table made.asked told)
 
 pub returns-clause-asks : goal.returns-clause-asks
-returns-clause-asks g c = λ is honest.
+returns-clause-asks g c = λ honest.
     let fr = c.in_ok-frame.ensures in
-    let F : Frame = c.in_ok-frame.frame in
     let made = c.new-file.ensures in
-    let told = lint_asked _ _ (made.means ∙ fr.reads) _ F made.frame _ _ (c.lint_opened.ensures.asks is) honest in
-    let spelled = ap (λ (x : Frame). x.objects) (fr.exact honest).0.spelled in
-    let each : F.objects * 1 ≤ F.objects * F.offset_size = mul-le-mul_left F.objects fr.safe.safe.offset_low in
-    omega (arith, told, made.asked, fr.asks_table, spelled, each, fr.safe.safe.room, fr.safe.top)
+    let told = lint_asked _ _ (made.means ∙ fr.reads) _ _ made.frame _ _ c.lint_opened.ensures.asks honest in
+    let after : g.S.Source.asked c.src-1.given.0 ≡ g.S.Source.asked c.lint_opened.new.src.source.now = search rules in
+    rw after (file_asked _ c.in_ok-frame.frame (fr.exact honest).0.spelled fr.safe _ _ _ _ _ fr.asks_table made.asked told)

@@ -24,19 +24,23 @@ returns-clause-exact g c = λ honest.
     ]
 
 pub returns-in_err-certificate-in-Classes-clause-asks : goal.returns-in_err-certificate-in-Classes-clause-asks
-returns-in_err-certificate-in-Classes-clause-asks g c = λ is honest.
+returns-in_err-certificate-in-Classes-clause-asks g c = λ honest.
     let first = c.in_ok-reached.ensures in
     omega (arith, first.asks, (rw first.reads at c.in_err-certificate-in-Classes.ensures.asks) honest first.only)
 
 pub returns-in_err-certificate-in-Ranks-clause-asks : goal.returns-in_err-certificate-in-Ranks-clause-asks
-returns-in_err-certificate-in-Ranks-clause-asks g c = λ is honest. absurd (cc (sym is ∙ c.in-Ranks.is))
+returns-in_err-certificate-in-Ranks-clause-asks g c = λ honest.
+    let first = c.in_ok-reached.ensures in
+    omega (arith, first.asks, (rw first.reads at c.in_err-certificate-in-Ranks.ensures.asks) honest first.only)
 
 pub returns-clause-asks : goal.returns-clause-asks
-returns-clause-asks g c = λ is honest.
+returns-clause-asks g c = λ honest.
     let first = c.in_ok-reached.ensures in
     elim c.match-keys.branch [
       | in-Classes+in_ok-certificate-in-Classes w ↦
           let more = (rw first.reads at w.in_ok-certificate-in-Classes.ensures.asks) honest first.only in
           rw w.src-is (omega (arith, first.asks, more))
-      | in-Ranks+in_ok-certificate-in-Ranks w ↦ absurd (cc (sym is ∙ w.in-Ranks.is))
+      | in-Ranks+in_ok-certificate-in-Ranks w ↦
+          let more = (rw first.reads at w.in_ok-certificate-in-Ranks.ensures.asks) honest first.only in
+          rw w.src-is (omega (arith, first.asks, more))
     ]

@@ -6,9 +6,10 @@ use Rattle.bplist_objects.specs.declared.frame.Frame.{Frame}
 use Rattle.bplist_objects.specs.declared.head.Kind.TheVariants as kinds
 use Rattle.bplist_objects.specs.Framed.{frame_in}
 use Rattle.bplist_objects.proofs.FirstFaults.{no_shape}
-use Rattle.bplist_objects.proofs.HeadTies.{shape_announced, shape_tie}
+use Rattle.bplist_objects.proofs.HeadTies.{announced_shape, shape_announced, shape_tie}
 use Rattle.bplist_cert.proofs.CheckSteps.{object_refused}
 use Rattle.bplist_objects.proofs.FrameTies.{numbered}
+use Rattle.bplist_lint.proofs.ExtentBytes.{keys_bytes}
 use Rattle.bplist_lint.proofs.KeyLists.{have_ranks}
 use Rattle.bplist_cert.proofs.AcceptedCertificates.{vouched_keys}
 use Rattle.bplist_lint.proofs.ListSteps.{listed_other, listed_dict, listed_room}
@@ -79,6 +80,7 @@ returns-in_ok-list-in-Dict-clause-exact g c = λ honest named heights starts ran
 pub returns-in_default-kind : goal.returns-in_default-kind
 returns-in_default-kind g c = record {
   reads = c.in_ok-head.ensures.reads ∙ c.in_ok-kind.ensures.reads;
+  asks = λ honest. omega (arith, c.in_ok-kind.ensures.asks, c.in_ok-head.ensures.asks);
   same = cc;
   few = c.requires.few;
   exact = λ honest named heights starts ranked given valid v room l.
@@ -90,3 +92,25 @@ returns-in_default-kind g c = record {
       let has = shape_announced f F n head shape in
       listed_other f F heights n starts c.args.lists.now.positions.items l v room head shape c.in_default-kind.not-Dict;
 }
+
+pub returns-in_err-list-in-Dict-clause-asks : goal.returns-in_err-list-in-Dict-clause-asks
+returns-in_err-list-in-Dict-clause-asks g c = λ honest.
+    let f = (g.P.Source.means c.args.src.now).octets in
+    let F : Frame = frame_in (g.P.Source.means c.args.src.now) in
+    let framed = c.frame-frame.ensures.framed in
+    let head = c.in_ok-head.head in
+    let has = (rw c.in_ok-kind.ensures.reads at c.in_ok-head.ensures.rules) honest in
+    let shape = announced_shape f F c.args.n (framed.framed honest) c.requires.within head has.0 has.1 in
+    let read = rw (c.in_ok-head.ensures.reads, c.in_ok-kind.ensures.reads) at c.in_err-list-in-Dict.ensures.asks in
+    omega (arith, c.in_ok-kind.ensures.asks, c.in_ok-head.ensures.asks, read, keys_bytes f F c.args.n head framed.safe.safe.ref_low c.in-Dict.is shape)
+
+pub returns-in_ok-list-in-Dict-clause-asks : goal.returns-in_ok-list-in-Dict-clause-asks
+returns-in_ok-list-in-Dict-clause-asks g c = λ honest.
+    let f = (g.P.Source.means c.args.src.now).octets in
+    let F : Frame = frame_in (g.P.Source.means c.args.src.now) in
+    let framed = c.frame-frame.ensures.framed in
+    let head = c.in_ok-head.head in
+    let has = (rw c.in_ok-kind.ensures.reads at c.in_ok-head.ensures.rules) honest in
+    let shape = announced_shape f F c.args.n (framed.framed honest) c.requires.within head has.0 has.1 in
+    let read = rw (c.in_ok-head.ensures.reads, c.in_ok-kind.ensures.reads) at c.in_ok-list-in-Dict.ensures.asks in
+    omega (arith, c.in_ok-kind.ensures.asks, c.in_ok-head.ensures.asks, read, keys_bytes f F c.args.n head framed.safe.safe.ref_low c.in-Dict.is shape)
