@@ -71,7 +71,9 @@ impl<'a, R: Files<File = File> + Print + Eprint> Findings<'a, R> {
         self.end(&line.prefix, ending);
     }
 
-    fn line_of<'n>(&self, name: &'n str, prefix: String) -> Run<'n> {
+    fn line_of<'n>(&self, name: &'n str, prefix: String) -> Run<'n>
+        ensures { result.ask ≡ Ask.Lint }
+    {
         Run {
             ask: Ask::Lint,
             file: name,

@@ -127,7 +127,7 @@ pub fn answer<S: Source + Drop, C: Source + Drop, W: Write>(
     cert: C,
     out: &mut W,
 ) -> Ending
-    ensures exact { IsTrue (S.means file).honest → IsTrue (C.means cert).honest
+    ensures { IsTrue (S.means file).honest → IsTrue (C.means cert).honest
         → EndsAsked line.now.ask line.now.hex (S.means file).octets (C.means cert).octets result.answer }
 {
     let mut cert = cert;
