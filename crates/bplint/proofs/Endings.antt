@@ -1,5 +1,5 @@
 -- How a run ends that leaves an answer, and what its exit status says.
-use Rattle.std.proofs.Common.{◌≡◌, ◌⊎◌, inl, inr, ℕ, ◌≤◌, List, Bool, Option, Some, None, Result, Ok, Err, subst, sym, arith}
+use Rattle.std.proofs.Common.{◌≡◌, ◌⊎◌, inl, inr, ℕ, ◌≤◌, max, List, [], Bool, Option, Some, None, Result, Ok, Err, subst, sym, arith}
 use Rattle.std.proofs.Math.Logic.{∥∥₁_map, ∥∥₁_elim}
 use Rattle.std.proofs.Props.{props}
 use Rattle.std.proofs.lemmas.Grind.{merely}
@@ -16,6 +16,9 @@ use Rattle.bplint_lines.specs.declared.fault.Said.{Said}
 use Rattle.bplint_lines.specs.declared.fault.Said.TheVariants.{All, SomeMissing}
 use Rattle.bplint_lines.specs.Answers.{Answer, gives, refuses, LeavesWithin}
 use Rattle.bplint_lines.specs.RawFaults.{raw_report_of}
+use Rattle.bplint_json.specs.Findings.{IsFindingOf, status_of}
+use Rattle.bplint_json.specs.declared.finding.Finding.{Finding}
+use Rattle.bplint_json.specs.declared.finding.Finding.TheVariants.{Sound, Broken, Circle, Unread}
 use Rattle.bplint_engine.specs.declared.output.Led.{Led}
 use Rattle.bplint_engine.specs.declared.output.Led.TheVariants.{There, Nowhere}
 use Rattle.bplint_engine.specs.Lint.{LintSays}
@@ -23,7 +26,7 @@ use Rattle.bplint_engine.specs.Output.{LeavesLed}
 use Rattle.bplint_engine.specs.Raw.{LeavesRawBy}
 use Rattle.bplint.specs.declared.args.Ask.{Ask}
 use Rattle.bplint.specs.declared.args.Ask.TheVariants as asks
-use Rattle.bplint.specs.ExitStatuses.{EndsWith, IsStillEnd}
+use Rattle.bplint.specs.ExitStatuses.{CountsOr, EndsWith, EndsWithOne, IsStillEnd}
 use Rattle.bplint.specs.Questions.{EndsAsked, EndsBy, LeavesAsked, LintEnds, SaysNo, StatusSays, answer_of, answer_of_led, led_of, IsRawlessAsked, SaysAsked, most_asked}
 
 -- ---- from what a run leaves to how it ends
@@ -156,3 +159,84 @@ module _ (f : List ℕ) where
     sound = λ is one. ∥∥₁_elim (no one) (hlevel props) (λ n. let (fault, says) = refused_by n in never_both is fault says);
     broken = λ fault says zero. ∥∥₁_elim (yes zero) (hlevel props) (λ (bytes, is). never_both (said_sound bytes is) fault says);
   }
+
+-- ---- several files
+-- what `lint` says of one more file was counted
+abbrev pub Counts : List ℕ → ℕ → ℕ → Type 0
+Counts f old new = (status : ℕ) × LintEnds f status × (new ≡ max old status)
+
+module _ (f : List ℕ) where
+  -- a read or a write failed, or memory was refused
+  failed_ends : (status : ℕ) → 2 ≤ status → LintEnds f status
+  failed_ends status high = record {
+    yes = λ zero. absurd (omega (arith, high, zero));
+    no = λ one. absurd (omega (arith, high, one));
+    sound = λ is one. omega (arith, high, one);
+    broken = λ fault says zero. omega (arith, high, zero);
+  }
+
+  module _ (old new : ℕ) where
+    pub memory_counts : new ≡ max old 4 → Counts f old new
+    memory_counts is = (4, failed_ends 4 (omega arith), is)
+
+    counts_or : (status : ℕ) → LintEnds f status → CountsOr status old new → Counts f old new
+    counts_or status ends (counted, inl same, is) = (counted, subst (LintEnds f) (sym same) ends, is)
+    counts_or status ends (counted, inr high, is) = (counted, failed_ends counted (omega (arith, high)), is)
+
+    pub named_counts : (answer : Result Said RawFault) → ∥ EndsBy (LintSays f) (λ _. ⊥) answer ∥₁ → EndsWithOne answer
+        → CountsOr 1 old new → Counts f old new
+    named_counts (Ok said) ends never counted = absurd never
+    named_counts (Err fault) ends one counted =
+        counts_or 1 (lint_ends f 1 (status_says (LintSays f) (λ _. ⊥) (Err fault) 1 ends (inl (sym one)))) counted
+
+    pub ended_counts : (answer : Result Said RawFault) → ∥ EndsBy (LintSays f) (λ _. ⊥) answer ∥₁
+        → ((status : ℕ) × EndsWith answer status × (new ≡ max old status)) → Counts f old new
+    ended_counts answer ends (status, is, counted) =
+        (status, lint_ends f status (status_says (LintSays f) (λ _. ⊥) answer status ends is), counted)
+
+    -- the status of a finding
+    found_ends : (finding : Finding) → IsFindingOf f finding → LintEnds f (status_of finding)
+    found_ends (Sound reached height top) is = record {
+      yes = λ zero. is;
+      no = λ one. absurd (omega (arith, one));
+      sound = λ sound one. omega (arith, one);
+      broken = λ fault says zero. ∥∥₁_elim is (hlevel props) (λ sound. never_both f sound fault says);
+    }
+    found_ends (Broken fault way looks_like) is = record {
+      yes = λ zero. absurd (omega (arith, zero));
+      no = λ one. merely (faults.Fault fault, is);
+      sound = λ sound one. never_both f sound (faults.Fault fault) is;
+      broken = λ fault says zero. omega (arith, zero);
+    }
+    found_ends (Circle objects way) is = record {
+      yes = λ zero. absurd (omega (arith, zero));
+      no = λ one. merely (faults.Circle objects, is);
+      sound = λ sound one. never_both f sound (faults.Circle objects) is;
+      broken = λ fault says zero. omega (arith, zero);
+    }
+    found_ends (Unread fault cause) is = failed_ends _ (omega (arith, is))
+
+    pub found_counts : (finding : Finding) → IsFindingOf f finding → CountsOr (status_of finding) old new → Counts f old new
+    found_counts finding is counted = counts_or (status_of finding) (found_ends finding is) counted
+
+write_status : (sent status : ℕ) → EndsWith (Err (Run (faults.Write sent))) status → 3 ≤ status
+write_status sent status (inl is) = omega (arith, is)
+write_status sent status (inr is) = omega (arith, is)
+
+memory_status : (status : ℕ) → EndsWith (Err (Run faults.Memory)) status → status ≡ 4
+memory_status status (inl is) = is
+memory_status status (inr is) = is
+
+module _ (old new : ℕ) where
+  pub memory_raised : (answer : Result Said RawFault) → answer ≡ Err (Run faults.Memory)
+      → ((status : ℕ) × EndsWith answer status × (new ≡ max old status)) → new ≡ max old 4
+  memory_raised answer is (status, ends, counted) =
+      subst (λ s. new ≡ max old s) (memory_status status (subst (λ a. EndsWith a status) is ends)) counted
+
+  -- a line could not be written
+  pub write_counts : (wanted sent : ℕ) (answer : Result Said RawFault) → IsStillEnd (Err (Run (faults.Write sent))) answer
+      → ((status : ℕ) × EndsWith answer status × (new ≡ max old status)) → CountsOr wanted old new
+  write_counts wanted sent answer (inl is) (status, ends, counted) =
+      (status, inr (write_status sent status (subst (λ a. EndsWith a status) is ends)), counted)
+  write_counts wanted sent answer (inr is) (status, ends, counted) =
+      let four = memory_status status (subst (λ a. EndsWith a status) is ends) in (status, inr (omega (arith, four)), counted)
