@@ -1,8 +1,8 @@
 #!/usr/bin/env python3
 """stack.py BPLINT CALLS
 
-Shows that little stack is enough: no function of BPLINT and of CALLS (bplist_calls) has a frame above 100 KiB, and with
-a stack of 320 KiB both give the outputs of the tables. objdump prints the frames; without objdump that part is skipped.
+Shows that little stack is enough: no function of BPLINT and of CALLS (bplist_calls) has a frame above 64 KiB, and with
+a stack of 256 KiB both give the outputs of the tables. objdump prints the frames; without objdump that part is skipped.
 The last line is `N passed, M failed`, with `, K skipped` if some were.
 """
 import collections
@@ -19,8 +19,8 @@ from helpers.harness import closing, lacks  # noqa: E402
 from helpers.tables import CALLS, RUNS  # noqa: E402
 
 HERE = pathlib.Path(__file__).resolve().parent
-MOST_FRAME = 100 * 1024
-STACK_KIB = 320
+MOST_FRAME = 64 * 1024
+STACK_KIB = 256
 FUNCTION = re.compile(r"^[0-9a-f]+ <(.+)>:$")
 TAKEN = re.compile(r"\bsub +\$0x([0-9a-f]+),%(rsp|r11)$")
 

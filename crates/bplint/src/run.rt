@@ -184,7 +184,8 @@ fn answer_on<S: Source + Drop, C: Source, W: Write>(
         Ask::Rows(listed) => of(alloc, list_rows_on(alloc, file, listed, out)),
         Ask::Map { paths } => {
             let mut file = file;
-            (Ending::of(alloc, map_on(alloc, &mut file, *paths, out)), file)
+            let answer = map_on(alloc, &mut file, *paths, out);
+            of(alloc, (answer, file))
         }
         Ask::Textconv => of(alloc, show_any(alloc, file, &line.prefix, out)),
     }
