@@ -7,7 +7,7 @@ BPLINT: each run in which a request was refused ends with status 4, and with `me
 of FILE with `-H`. Nothing is written, or by the commands of `PARTLY` a first part of the answer, and OUT is unchanged.
 The last run is the first one without a refusal. A list that std collects is an exception: std first asks for room for
 all items, and if that is refused, it grows the list item by item. The words of each command and the objects of a circle
-are such lists. A page of FILE is another exception: without memory for it, its bytes are read each time.
+are such lists. A page of FILE or CERT is another exception: without memory for it, its bytes are read each time.
 
 CALLS is bplist_calls, which makes each call of the library twice on the same value. If a request of the first call is
 refused, that call returns `Memory`, and the second returns the same as without a refusal. If the request for the text
@@ -90,7 +90,7 @@ PATHS = ["map", "--paths"]
 
 # In how many growths a run of a row may give its usual answer, since std collects so many lists; 1 in all others.
 COLLECTED = {"circle-below-top": 2}
-# In how many more if FILE is read by pages: their table, the list of them, and the bytes of each.
+# In how many more for each input that is read by pages: their table, the list of them, and the bytes of each.
 PAGES = 3
 
 # What else is run on a row.
@@ -224,7 +224,8 @@ def is_refusal(words, ran, usual):
 def command_outcome(stage, program, row, words):
     usual, _ = stage.run(program, words, 0)
     name = " ".join(words)
-    spared = COLLECTED.get(row, 1) + (words[:2] == PATHS) + (0 if "--hex" in words else PAGES)
+    by_pages = 0 if "--hex" in words else sum(word in words for word in ("FILE", "CERT"))
+    spared = COLLECTED.get(row, 1) + (words[:2] == PATHS) + PAGES * by_pages
     for refused in range(1, MOST_GROWTHS):
         ran, was_refused = stage.run(program, words, refused)
         if not was_refused:
