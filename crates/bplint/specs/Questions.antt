@@ -1,14 +1,16 @@
 -- What FILE and CERT say about a question, and what a run leaves with the writer and ends with. Source: profile.
-use Rattle.std.specs.Prelude.{◌≡◌, ℕ, List, [], ◌∷◌, Bool, map, string_bytes, ⊤, Option, None, Some, Result, Ok, Err}
+use Rattle.std.specs.Prelude.{◌≡◌, ◌⊎◌, ℕ, List, [], ◌∷◌, Bool, map, string_bytes, ⊤, Option, None, Some, Result, Ok, Err}
 use Rattle.bplint.specs.declared.args.Ask.{Ask}
 use Rattle.bplint.specs.declared.args.Ask.TheVariants as asks
 use Rattle.bplint_lines.specs.declared.fault.RunFault.{RunFault}
+use Rattle.bplint_lines.specs.declared.fault.RunFault.TheVariants as faults
 use Rattle.bplint_lines.specs.declared.raw_fault.RawFault.{RawFault}
-use Rattle.bplint_lines.specs.declared.raw_fault.RawFault.TheVariants.{Run}
+use Rattle.bplint_lines.specs.declared.raw_fault.RawFault.TheVariants.{Run, NoRawForm}
 use Rattle.bplint_lines.specs.declared.fault.Said.{Said}
 use Rattle.bplint_lines.specs.declared.fault.Said.TheVariants.{All, SomeMissing}
 use Rattle.bplint_lines.specs.declared.texts.Style.TheVariants.{OldStyle}
-use Rattle.bplint_lines.specs.Answers.{Answer, LeavesWithin}
+use Rattle.bplint_lines.specs.Answers.{Answer, gives, refuses, LeavesWithin}
+use Rattle.bplist_cert.specs.Sound.{IsSound}
 use Rattle.bplint_engine.specs.declared.output.Led.{Led}
 use Rattle.bplint_engine.specs.declared.output.Led.TheVariants.{There, Nowhere}
 use Rattle.bplint_engine.specs.Certify.{CertifySays}
@@ -79,3 +81,46 @@ LeavesAsked (asks.Rows listed) hex f cert old new result = ⊤
 LeavesAsked (asks.Map paths) hex f cert old new result = ⊤
 LeavesAsked asks.Textconv hex f cert old new result = ⊤
 LeavesAsked ask hex f cert old new result = LeavesAnswer ask hex f cert old new result
+
+-- ---- how a run ends
+-- the path of `show --raw` leads to object n, whose value has no raw bytes
+abbrev pub IsRawlessAsked : Ask → List ℕ → ℕ → Type 0
+IsRawlessAsked (asks.Raw path) f n = IsRawless (LintSays f) f path.now n
+IsRawlessAsked (asks.Rows listed) f n = ⊤
+IsRawlessAsked (asks.Map paths) f n = ⊤
+IsRawlessAsked asks.Textconv f n = ⊤
+IsRawlessAsked _ f n = ⊥
+
+module _ (Says : Answer → Type 0) (Rawless : ℕ → Type 0) where
+  -- the run ends as Says allows, or because a read or a write failed or memory was refused
+  abbrev pub EndsBy : Result Said RawFault → Type 0
+  EndsBy (Ok said) = (bytes : List ℕ) × Says (gives said bytes)
+  EndsBy (Err (Run (faults.Write _))) = ⊤
+  EndsBy (Err (Run (faults.Read _))) = ⊤
+  EndsBy (Err (Run faults.Memory)) = ⊤
+  EndsBy (Err (Run fault)) = Says (refuses fault)
+  EndsBy (Err (NoRawForm n)) = Rawless n.0
+
+  -- the answer is no: a path leads nowhere, or the file is refused, or the value has not the form that was asked for
+  abbrev pub SaysNo : Type 0
+  SaysNo = ((bytes : List ℕ) × Says (gives SomeMissing bytes)) ⊎ (((fault : RunFault) × Says (refuses fault)) ⊎ ((n : ℕ) × Rawless n))
+
+  -- exit status 0 is given only if the answer is yes, and 1 only if it is no
+  abbrev pub StatusSays : ℕ → Type 0
+  StatusSays status = (status ≡ 0 → ∥ ((bytes : List ℕ) × Says (gives All bytes)) ∥₁) × (status ≡ 1 → ∥ SaysNo ∥₁)
+
+-- a run about f and cert ends as it may
+abbrev pub EndsAsked : Ask → Bool → List ℕ → List ℕ → Result Said RawFault → Type 0
+EndsAsked ask hex f cert result = ∥ EndsBy (SaysAsked ask hex f cert) (IsRawlessAsked ask f) result ∥₁
+
+-- what the exit status of a run about f and cert says
+abbrev pub StatusAsked : Ask → Bool → List ℕ → List ℕ → ℕ → Type 0
+StatusAsked ask hex f cert status = StatusSays (SaysAsked ask hex f cert) (IsRawlessAsked ask f) status
+
+-- the exit status of `lint`: 0 only if the file is sound, and 1 only if it breaks a rule; so never 1 for a sound file,
+-- and never 0 for one that breaks a rule
+pub record LintEnds (f : List ℕ) (status : ℕ) : Type 0 where
+  pub yes : status ≡ 0 → ∥ IsSound f ∥₁
+  pub no : status ≡ 1 → ∥ ((fault : RunFault) × LintSays f (refuses fault)) ∥₁
+  pub sound : IsSound f → status ≡ 1 → ⊥
+  pub broken : (fault : RunFault) → LintSays f (refuses fault) → status ≡ 0 → ⊥

@@ -1,8 +1,10 @@
 //! What `lint` says of each file: its line or its fault, its name alone, or nothing. A run counts its files, and keeps
 //! the greatest exit status.
 
-ghost use Rattle.std.specs.Prelude.{◌≡◌, ◌≤◌, ℕ, max};
-ghost use Rattle.bplint.specs.ExitStatuses.{EndsWith};
+ghost use Rattle.std.specs.Prelude.{◌≡◌, ◌≤◌, IsTrue, ℕ, max};
+ghost use Rattle.bplint_json.specs.Findings.{status_of};
+ghost use Rattle.bplint.specs.ExitStatuses.{CountsOr, EndsWith, EndsWithOne};
+ghost use Rattle.bplint.specs.Questions.{LintEnds};
 
 use crate::args::{Ask, Lint, Printed, Run};
 use crate::ending::{Ending, end};
@@ -43,7 +45,10 @@ impl<'a, R: Files<File = File> + Print + Eprint> Findings<'a, R> {
     }
 
     /// Lints a file, and says what it found.
-    pub fn add<S: Source + Drop>(&mut self, name: &str, file: S) {
+    pub fn add<S: Source + Drop>(&mut self, name: &str, file: S)
+        ensures { IsTrue (S.means file).honest
+            → (status : ℕ) × LintEnds (S.means file).octets status × (self.new.tally ≡ max self.old.tally status) }
+    {
         if self.prints_json() {
             let mut file = file;
             let finding = find_in(self.alloc, &mut file);
@@ -66,7 +71,9 @@ impl<'a, R: Files<File = File> + Print + Eprint> Findings<'a, R> {
         self.end(&line.prefix, ending);
     }
 
-    fn line_of<'n>(&self, name: &'n str, prefix: String) -> Run<'n> {
+    fn line_of<'n>(&self, name: &'n str, prefix: String) -> Run<'n>
+        ensures { result.ask ≡ Ask.Lint }
+    {
         Run {
             ask: Ask::Lint,
             file: name,
@@ -82,7 +89,9 @@ impl<'a, R: Files<File = File> + Print + Eprint> Findings<'a, R> {
     }
 
     /// With `--list`, a file that breaks a rule has no other line.
-    fn is_named_alone(&self, ending: &Ending) -> bool {
+    fn is_named_alone(&self, ending: &Ending) -> bool
+        ensures { IsTrue result → EndsWithOne ending.now.answer }
+    {
         match (&ending.answer, self.lint.printed) {
             (Err(fault), Printed::Names) => fault.status() == 1,
             _ => false,
@@ -90,7 +99,9 @@ impl<'a, R: Files<File = File> + Print + Eprint> Findings<'a, R> {
     }
 
     /// Counts the file, which is not sound.
-    fn print_name(&mut self, name: &str) {
+    fn print_name(&mut self, name: &str)
+        ensures { CountsOr 1 self.old.tally self.new.tally }
+    {
         match self.name_line(name) {
             Ok(line) => self.print(&line, 1),
             Err(_) => self.end_without_memory(),
@@ -118,7 +129,9 @@ impl<'a, R: Files<File = File> + Print + Eprint> Findings<'a, R> {
     }
 
     /// Counts the file too.
-    fn print_finding(&mut self, name: &[u8], finding: &Finding) {
+    fn print_finding(&mut self, name: &[u8], finding: &Finding)
+        ensures { CountsOr (status_of finding.now) self.old.tally self.new.tally }
+    {
         match finding.line(self.alloc, name) {
             Ok(line) => self.print(&line, finding.status()),
             Err(_) => self.end_without_memory(),
@@ -128,6 +141,7 @@ impl<'a, R: Files<File = File> + Print + Eprint> Findings<'a, R> {
     /// Counts a file whose run ended with this status.
     fn print(&mut self, line: &[u8], status: u8)
         requires { status ≤ 4 }
+        ensures { CountsOr status self.old.tally self.new.tally }
     {
         let mut out = OutFile::new(self.rt, "-");
         if out.write_all(line).is_ok() {
@@ -194,7 +208,9 @@ impl<'a, R: Files<File = File> + Print + Eprint> Findings<'a, R> {
     }
 
     /// Memory for the lines of a file was refused.
-    fn end_without_memory(&mut self) {
+    fn end_without_memory(&mut self)
+        ensures { self.new.tally ≡ max self.old.tally 4 }
+    {
         self.end("", Ending::with(self.alloc, RunFault::Memory));
     }
 
