@@ -52,8 +52,8 @@ _bplint() {
     local flags
     case $verb in
       lint) flags="--hex --quiet --recursive --all --skip-other --list --null --files-from --json --summary --with-filename --explain --help -x -H -h -q -r -l -0" ;;
-      show) flags="--hex --text --limit --raw --utf8 --paths-from --with-filename --explain --help -x -H -h" ;;
-      ls) flags="--hex --recursive --limit --limit-bytes --json --objects --utf8 --with-filename --explain --help -x -H -h -R" ;;
+      show) flags="--hex --text --limit --raw --utf8 --readable --paths-from --files-from --with-filename --explain --help -x -H -h" ;;
+      ls) flags="--hex --recursive --limit --limit-bytes --json --objects --utf8 --readable --sort --tree --files-from --with-filename --explain --help -x -H -h -R" ;;
       certify) flags="--hex --sorted --force --with-filename --explain --help -x -H -h" ;;
       get) flags="--hex --paths-from --with-filename --explain --help -x -H -h" ;;
       map) flags="--hex --paths --with-filename --explain --help -x -H -h" ;;

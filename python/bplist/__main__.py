@@ -9,6 +9,7 @@ import re
 import sys
 
 import bplist
+from bplist import readable
 from bplist.values import Kind
 
 # The library's statuses of a path: it leads to a value, or one of its steps fails.
@@ -80,9 +81,11 @@ def quoted(text: str) -> str:
 
 
 class File:
-    """An open file, whose lines are printed. The paths are those that will be asked for."""
+    """An open file, whose lines are printed. The paths are those that will be asked for. Lines are readable for people
+    if that is wanted."""
 
-    def __init__(self, name: str, paths: collections.abc.Sequence[str]):
+    def __init__(self, name: str, paths: collections.abc.Sequence[str], is_readable: bool):
+        self.is_readable = is_readable
         octets = bytes_of(name, paths)
         try:
             self.plist = bplist.plist._opened(octets, None, False)
@@ -98,11 +101,13 @@ class File:
         kind = Kind(body)
         value = self.plist._value(number)
         if kind in (Kind.REAL, Kind.DATE):
-            said = self.octets[place : place + length].hex()
+            octets = self.octets[place : place + length]
+            of_kind = readable.real if kind == Kind.REAL else readable.date
+            said = of_kind(octets) if self.is_readable else octets.hex()
         elif kind == Kind.DATA:
-            said = f"<{value.hex()}>"
+            said = readable.data(value) if self.is_readable else f"<{value.hex()}>"
         elif kind in (Kind.ASCII, Kind.WIDE):
-            said = quoted(value)
+            said = readable.quoted(value) if self.is_readable else quoted(value)
         elif kind == Kind.UID:
             said = str(value.data)
         elif kind >= Kind.ARRAY:
@@ -118,12 +123,13 @@ class File:
             return self.line_of(number), True
         return f"missing {number} {REASONS[status]}", False
 
-    def member_lines(self, path: str, number: int) -> collections.abc.Iterator[str]:
-        """A line for each member of a value, or the line of a leaf."""
+    def member_lines(self, path: str, number: int, is_sorted: bool) -> collections.abc.Iterator[str]:
+        """A line for each member of a value, or the line of a leaf. The keys of a dictionary may be sorted."""
         value = self.plist._value(number)
         if isinstance(value, bplist.Dict):
-            for i, key in enumerate(value):
-                yield f"{key_name(path, key, i)}\t{self.line_of(value._member_object(2 * i + 1))}"
+            keys = list(enumerate(value))
+            for i, key in sorted(keys, key=units_of) if is_sorted else keys:
+                yield f"{self.key_name(path, key, i)}\t{self.line_of(value._member_object(2 * i + 1))}"
         elif isinstance(value, (bplist.Array, bplist.Set)):
             for i in range(len(value)):
                 name = f"{path}/{i}" if isinstance(value, bplist.Array) else f"[{i}]"
@@ -131,12 +137,16 @@ class File:
         else:
             yield f"{path}\t{self.line_of(number)}"
 
+    def key_name(self, path: str, key: str, i: int) -> str:
+        """The path of the value of a key, or its index in brackets if the key can't be shown."""
+        if UNSHOWN.search(key):
+            return f"[{i}]{readable.quoted(key)}" if self.is_readable else f"[{i}]"
+        return f"{path}/{key.replace('~', '~0').replace('/', '~1')}"
 
-def key_name(path: str, key: str, i: int) -> str:
-    """The path of the value of a key, or its index in brackets if the key can't be shown."""
-    if UNSHOWN.search(key):
-        return f"[{i}]"
-    return f"{path}/{key.replace('~', '~0').replace('/', '~1')}"
+
+def units_of(entry: tuple[int, str]) -> bytes:
+    """What keys are sorted by."""
+    return entry[1].encode("utf-16-be", "surrogatepass")
 
 
 def path_word(word: str) -> str:
@@ -184,18 +194,18 @@ def lint(line: argparse.Namespace) -> int:
 
 def ls(line: argparse.Namespace) -> int:
     """Writes a line for each member of the value at a path."""
-    file = File(line.file, [line.path])
+    file = File(line.file, [line.path], line.readable)
     status, number = file.plist._found(line.path)
     if status != FOUND:
         put(f"{file.line_at(line.path)[0]}\n".encode())
         return 1
-    put("".join(f"{said}\n" for said in file.member_lines(line.path, number)).encode())
+    put("".join(f"{said}\n" for said in file.member_lines(line.path, number, line.sort)).encode())
     return 0
 
 
 def show(line: argparse.Namespace) -> int:
     """Writes a line for the value at each path."""
-    file = File(line.file, line.paths)
+    file = File(line.file, line.paths, line.readable)
     said = [file.line_at(path) for path in line.paths or [""]]
     put("".join(f"{words}\n" for words, _ in said).encode())
     return 0 if all(is_found for _, is_found in said) else 1
@@ -230,13 +240,17 @@ def reader() -> argparse.ArgumentParser:
     verb.add_argument("-q", "--quiet", action="store_true", help="print nothing for a sound file")
     verb.add_argument("files", metavar="FILE", nargs="+", help="a file, or - for standard input")
     verb.set_defaults(run=lint)
+    wanted = "write texts in UTF-8, dates and reals as people read them, and of long data the length and SHA-256"
     verb = verbs.add_parser("ls", help=ls.__doc__, allow_abbrev=False)
+    verb.add_argument("--readable", action="store_true", help=wanted)
+    verb.add_argument("--sort", action="store_true", help="sort the keys of a dictionary by their UTF-16 units")
     verb.add_argument("file", metavar="FILE")
     verb.add_argument(
         "path", metavar="PATH", nargs="?", default="", type=path_word, help="a JSON Pointer, for example /items/0"
     )
     verb.set_defaults(run=ls)
     verb = verbs.add_parser("show", help=show.__doc__, allow_abbrev=False)
+    verb.add_argument("--readable", action="store_true", help=wanted)
     verb.add_argument("file", metavar="FILE")
     verb.add_argument(
         "paths", metavar="PATH", nargs="*", type=path_word, help="JSON Pointers; without any, the whole value"

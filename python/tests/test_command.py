@@ -24,7 +24,7 @@ from helpers.tables import all_runs, escaped  # noqa: E402
 PROGRAM = ROOT / "crates/bplint/out/bplint"
 VERBS = ("lint", "ls", "show")
 # Options that both have.
-OPTIONS = ("-q", "--quiet", "--")
+OPTIONS = ("-q", "--quiet", "--readable", "--sort", "--")
 
 
 def run(*words):

@@ -37,6 +37,7 @@ COMMANDS = {
     "lint --json": "lint --json F",
     "lint -r": "lint -r --all F",
     "show --paths-from": "show --paths-from P F",
+    "show --readable": "show --readable --paths-from P F",
     "get, version 1": "get --paths-from P F 1",
     "get, version 2": "get --paths-from P F 2",
     "check --explain, version 1": "check --explain F 1",
@@ -50,6 +51,8 @@ LISTINGS = {
     "ls --utf8": "ls --utf8 F",
     "ls --objects": "ls --objects F",
     "ls --json": "ls --json F",
+    "ls --readable --sort": "ls --readable --sort F",
+    "ls --tree": "ls --tree F",
     "ls -R": "ls -R --limit 18446744073709551614 --limit-bytes 100000000 F",
     "ls -R --json": "ls -R --json --limit 18446744073709551614 --limit-bytes 100000000 F",
 }

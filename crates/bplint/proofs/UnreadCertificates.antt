@@ -28,6 +28,7 @@ module _ (hex : Bool) (f cert : List ℕ) (old : Option (List ℕ)) (fault : Rea
   unread_left (asks.Tree branch) = (Err (faults.Read fault), nothing (SaysAsked (asks.Tree branch) hex f cert) None, refl)
   unread_left (asks.Text path limit) = (Err (faults.Read fault), nothing (PrintSays limit (LintSays f) f (path.now ∷ [])) (Some limit), refl)
   unread_left (asks.Raw path) = (Err (Run (faults.Read fault)), nothing (ShowsRaw (LintSays f) f path.now) None, refl)
+  unread_left (asks.Readable paths) = tt
   unread_left (asks.Rows listed) = tt
   unread_left (asks.Map paths) = tt
   unread_left asks.Textconv = tt

@@ -19,14 +19,13 @@ EndsWith (Err fault) status = (status ≡ (raw_report_of fault).1) ⊎ (status �
 abbrev pub IsStillEnd : Result Said RawFault → Result Said RawFault → Type 0
 IsStillEnd old new = (new ≡ old) ⊎ (new ≡ Err (Run Memory))
 
--- the status of the answer is 1, unless memory is refused for its line
-abbrev pub EndsWithOne : Result Said RawFault → Type 0
-EndsWithOne (Ok said) = ⊥
-EndsWithOne (Err fault) = (raw_report_of fault).1 ≡ 1
+-- the exit status is this one, or it is 3 or more, because a read or a write failed or memory was refused
+abbrev pub IsOrFails : ℕ → ℕ → Type 0
+IsOrFails wanted status = (status ≡ wanted) ⊎ (3 ≤ status)
 
--- the greatest status was raised to this one, or to one from 3 on, because a write failed or memory was refused
-abbrev pub CountsOr : ℕ → ℕ → ℕ → Type 0
-CountsOr status old new = (counted : ℕ) × ((counted ≡ status) ⊎ (3 ≤ counted)) × (new ≡ max old counted)
+-- one more file is counted, with an exit status of which Ends holds: the greatest status is raised to it
+abbrev pub Counts : (ℕ → Type 0) → ℕ → ℕ → Type 0
+Counts Ends old new = (status : ℕ) × Ends status × (new ≡ max old status)
 
 -- the exit status of a text for standard output: that of a failed write if it cannot be written, or of refused memory
 abbrev pub IsPrintedWith : ℕ → Type 0

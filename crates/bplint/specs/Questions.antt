@@ -1,16 +1,19 @@
 -- What FILE and CERT say about a question, and what a run leaves with the writer and ends with. Source: profile.
-use Rattle.std.specs.Prelude.{◌≡◌, ◌⊎◌, ℕ, List, [], ◌∷◌, Bool, map, string_bytes, ⊤, Option, None, Some, Result, Ok, Err}
+use Rattle.std.specs.Prelude.{◌≡◌, ◌⊎◌, ◌≤◌, ℕ, List, [], ◌∷◌, Bool, map, string_bytes, ⊤, Option, None, Some, Result, Ok, Err}
 use Rattle.bplint.specs.declared.args.Ask.{Ask}
 use Rattle.bplint.specs.declared.args.Ask.TheVariants as asks
 use Rattle.bplint_lines.specs.declared.fault.RunFault.{RunFault}
-use Rattle.bplint_lines.specs.declared.fault.RunFault.TheVariants as faults
 use Rattle.bplint_lines.specs.declared.raw_fault.RawFault.{RawFault}
-use Rattle.bplint_lines.specs.declared.raw_fault.RawFault.TheVariants.{Run, NoRawForm}
+use Rattle.bplint_lines.specs.declared.raw_fault.RawFault.TheVariants.{Run}
 use Rattle.bplint_lines.specs.declared.fault.Said.{Said}
 use Rattle.bplint_lines.specs.declared.fault.Said.TheVariants.{All, SomeMissing}
 use Rattle.bplint_lines.specs.declared.texts.Style.TheVariants.{OldStyle}
 use Rattle.bplint_lines.specs.Answers.{Answer, gives, refuses, LeavesWithin}
+use Rattle.bplint_lines.specs.FaultLines.{report_of}
+use Rattle.bplist_objects.specs.declared.fault.Fault.{Fault}
 use Rattle.bplist_cert.specs.Sound.{IsSound}
+use Rattle.bplist_lint.specs.FileFault.{IsFileCircle, IsFileFault}
+use Rattle.bplint.specs.ExitStatuses.{EndsWith}
 use Rattle.bplint_engine.specs.declared.output.Led.{Led}
 use Rattle.bplint_engine.specs.declared.output.Led.TheVariants.{There, Nowhere}
 use Rattle.bplint_engine.specs.Certify.{CertifySays}
@@ -40,7 +43,7 @@ led_of (Ok led) = Ok led
 led_of (Err fault) = Err (Run fault)
 
 -- the answer to a question about the file f and the certificate with these bytes; with `hex` certify writes hexadecimal
--- text. What `ls --json`, `ls --objects`, `map` and `textconv` say is tested
+-- text. What `show --readable`, other forms of `ls`, `map` and `textconv` say is tested
 abbrev pub SaysAsked : Ask → Bool → List ℕ → List ℕ → Answer → Type 0
 SaysAsked asks.Lint hex f cert answer = LintSays f answer
 SaysAsked (asks.Certify sorted) hex f cert answer = CertifySays sorted hex f answer
@@ -77,50 +80,44 @@ LeavesAsked (asks.Text path limit) hex f cert old new result = (led : Result Led
     × LeavesLed (PrintSays limit (LintSays f) f (path.now ∷ [])) (Some limit) old new led × (result ≡ answer_of_led (led_of led))
 LeavesAsked (asks.Raw path) hex f cert old new result = (led : Result Led RawFault)
     × LeavesRawBy (ShowsRaw (LintSays f) f path.now) (IsRawless (LintSays f) f path.now) old new led × (result ≡ answer_of_led led)
+LeavesAsked (asks.Readable paths) hex f cert old new result = ⊤
 LeavesAsked (asks.Rows listed) hex f cert old new result = ⊤
 LeavesAsked (asks.Map paths) hex f cert old new result = ⊤
 LeavesAsked asks.Textconv hex f cert old new result = ⊤
 LeavesAsked ask hex f cert old new result = LeavesAnswer ask hex f cert old new result
 
--- ---- how a run ends
--- the path of `show --raw` leads to object n, whose value has no raw bytes
-abbrev pub IsRawlessAsked : Ask → List ℕ → ℕ → Type 0
-IsRawlessAsked (asks.Raw path) f n = IsRawless (LintSays f) f path.now n
-IsRawlessAsked (asks.Rows listed) f n = ⊤
-IsRawlessAsked (asks.Map paths) f n = ⊤
-IsRawlessAsked asks.Textconv f n = ⊤
-IsRawlessAsked _ f n = ⊥
+-- ---- exit statuses
+-- the exit status of an answer
+abbrev pub answer_status : Answer → ℕ
+answer_status (gives All bytes) = 0
+answer_status (gives SomeMissing bytes) = 1
+answer_status (refuses fault) = (report_of fault).1
 
-module _ (Says : Answer → Type 0) (Rawless : ℕ → Type 0) where
-  -- the run ends as Says allows, or because a read or a write failed or memory was refused
-  abbrev pub EndsBy : Result Said RawFault → Type 0
-  EndsBy (Ok said) = (bytes : List ℕ) × Says (gives said bytes)
-  EndsBy (Err (Run (faults.Write _))) = ⊤
-  EndsBy (Err (Run (faults.Read _))) = ⊤
-  EndsBy (Err (Run faults.Memory)) = ⊤
-  EndsBy (Err (Run fault)) = Says (refuses fault)
-  EndsBy (Err (NoRawForm n)) = Rawless n.0
+-- the exit status is that of a right answer
+abbrev pub HasStatus : (Answer → Type 0) → ℕ → Type 0
+HasStatus Says status = (answer : Answer) × Says answer × (status ≡ answer_status answer)
 
-  -- the answer is no: a path leads nowhere, or the file is refused, or the value has not the form that was asked for
-  abbrev pub SaysNo : Type 0
-  SaysNo = ((bytes : List ℕ) × Says (gives SomeMissing bytes)) ⊎ (((fault : RunFault) × Says (refuses fault)) ⊎ ((n : ℕ) × Rawless n))
+-- the exit status of a run without an answer: of `show --raw`, if the path leads to a value without raw bytes; of
+-- `certify`, if OUT is left as it is
+abbrev pub EndsUnanswered : Ask → List ℕ → ℕ → Type 0
+EndsUnanswered (asks.Raw path) f status = (status ≡ 1) × (n : ℕ) × IsRawless (LintSays f) f path.now n
+EndsUnanswered (asks.Certify sorted) f status = status ≡ 2
+EndsUnanswered _ f status = ⊥
 
-  -- exit status 0 is given only if the answer is yes, and 1 only if it is no
-  abbrev pub StatusSays : ℕ → Type 0
-  StatusSays status = (status ≡ 0 → ∥ ((bytes : List ℕ) × Says (gives All bytes)) ∥₁) × (status ≡ 1 → ∥ SaysNo ∥₁)
-
--- a run about f and cert ends as it may
-abbrev pub EndsAsked : Ask → Bool → List ℕ → List ℕ → Result Said RawFault → Type 0
-EndsAsked ask hex f cert result = ∥ EndsBy (SaysAsked ask hex f cert) (IsRawlessAsked ask f) result ∥₁
-
--- what the exit status of a run about f and cert says
+-- the exit status of a run about f and cert: that of a right answer, or that of a run without one, or 3 or more, because
+-- a read or a write failed or memory was refused
 abbrev pub StatusAsked : Ask → Bool → List ℕ → List ℕ → ℕ → Type 0
-StatusAsked ask hex f cert status = StatusSays (SaysAsked ask hex f cert) (IsRawlessAsked ask f) status
+StatusAsked ask hex f cert status = ∥ HasStatus (SaysAsked ask hex f cert) status ⊎ (EndsUnanswered ask f status ⊎ (3 ≤ status)) ∥₁
 
--- the exit status of `lint`: 0 only if the file is sound, and 1 only if it breaks a rule; so never 1 for a sound file,
--- and never 0 for one that breaks a rule
-pub record LintEnds (f : List ℕ) (status : ℕ) : Type 0 where
-  pub yes : status ≡ 0 → ∥ IsSound f ∥₁
-  pub no : status ≡ 1 → ∥ ((fault : RunFault) × LintSays f (refuses fault)) ∥₁
-  pub sound : IsSound f → status ≡ 1 → ⊥
-  pub broken : (fault : RunFault) → LintSays f (refuses fault) → status ≡ 0 → ⊥
+-- each exit status that the answer may have is right
+abbrev pub EndsAsked : Ask → Bool → List ℕ → List ℕ → Result Said RawFault → Type 0
+EndsAsked ask hex f cert result = (status : ℕ) → EndsWith result status → StatusAsked ask hex f cert status
+
+-- the file breaks a rule: this is its first fault, or its circle
+abbrev pub BreaksRule : List ℕ → Type 0
+BreaksRule f = ((fault : Fault) × IsFileFault f fault) ⊎ ((circle : List ℕ) × IsFileCircle f circle)
+
+-- the exit status of `lint`: 0 for a sound file and 1 for one that breaks a rule, or 3 or more, because a read or a write
+-- failed or memory was refused. No file is both sound and broken, so 0 means exactly the one and 1 exactly the other
+abbrev pub LintEnds : List ℕ → ℕ → Type 0
+LintEnds f status = ∥ ((status ≡ 0) × IsSound f) ⊎ (((status ≡ 1) × BreaksRule f) ⊎ (3 ≤ status)) ∥₁

@@ -82,6 +82,8 @@ pub struct Run<'a> {
     pub hex: bool,
     /// What begins each line: the name of FILE with a colon and a blank, or nothing.
     pub prefix: String,
+    /// The file that lists more FILEs of `show` and `ls`, in place of `file`; `-` is standard input.
+    pub files_from: Option<&'a str>,
     /// The file that lists the paths of `show` and `get`; `-` is standard input. Each line of the answer then begins
     /// with its path.
     pub paths_from: Option<&'a str>,
@@ -122,6 +124,11 @@ pub enum Ask<'a> {
         /// How texts are written.
         style: Style,
     },
+    /// `show --readable`: the values under these path texts, as people read them.
+    Readable {
+        /// The path texts.
+        paths: Vec<String>,
+    },
     /// `show --text`: what `print` prints.
     Text {
         /// The path text.
@@ -143,7 +150,7 @@ pub enum Ask<'a> {
     },
     /// `ls --recursive`: the value, and everything inside it.
     Tree(Branch<'a>),
-    /// `ls --json` or `ls --objects`.
+    /// `ls` in one of its other forms.
     Rows(Listed<'a>),
     /// `map`: where the objects of the file are.
     Map {
@@ -160,6 +167,7 @@ impl<'a> Ask<'a> {
         match self {
             Ask::Get { .. } => Ask::Get { paths },
             Ask::Show { style, .. } => Ask::Show { paths, style },
+            Ask::Readable { .. } => Ask::Readable { paths },
             ask => ask,
         }
     }
@@ -172,6 +180,14 @@ impl<'a> Run<'a> {
             ask: self.ask.with_paths(paths),
             ..self
         }
+    }
+
+    /// Returns the name of the file that JSON objects have: none if the lines are not to name it.
+    pub fn named(&self) -> Option<&str> {
+        if self.prefix.is_empty() {
+            return None;
+        }
+        Some(self.file)
     }
 
     /// Returns what begins the lines of the answer. Nothing may stand before bytes and before JSON; and `textconv` puts
@@ -191,9 +207,8 @@ impl<'a> Run<'a> {
                 prefix: "",
                 paths: &[],
             },
-            Ask::Get { paths } | Ask::Show { paths, .. } if self.paths_from.is_some() => {
-                Labels { prefix, paths }
-            }
+            Ask::Get { paths } | Ask::Show { paths, .. } | Ask::Readable { paths }
+                if self.paths_from.is_some() => { Labels { prefix, paths } }
             _ => Labels { prefix, paths: &[] },
         }
     }

@@ -1,57 +1,6 @@
 //! The arguments of the subcommands.
 
-use clap::{Arg, ArgAction, value_parser};
-use std::alloc::{AllocError, Global};
-
-/// How an argument is given.
-#[derive(Clone, Copy)]
-pub(crate) enum Form {
-    /// `--name`.
-    Flag,
-    /// `--name`, or `-` and this letter.
-    Short(char),
-    /// The same, but not together with another flag.
-    ShortWithout(char, &'static str),
-    /// `--name` with two letters, of which help names the first.
-    Letters(char, char),
-    /// The same, but not together with another flag.
-    LettersWithout(char, char, &'static str),
-    /// `--name`, but not together with these others.
-    Without(&'static [&'static str]),
-    /// `--limit N`, which needs another flag, and the default for N.
-    Limit(&'static str, &'static str),
-    /// `--NAME N`, with this name.
-    Most(&'static str),
-    /// `--name`, or `--name=WHEN` for one of three words.
-    When,
-    /// `--name`, which needs another flag.
-    With(&'static str),
-    /// `--name LIST`: the name of a list.
-    List,
-    /// The same, but not together with these others.
-    ListWithout(&'static [&'static str]),
-    /// A required text.
-    One,
-    /// A required text that may be repeated.
-    Many,
-    /// The same, but not required with this flag.
-    ManyUnless(&'static str),
-    /// An optional text.
-    Maybe,
-    /// An optional text that may be repeated.
-    Any,
-    /// A required number.
-    Number,
-}
-
-/// An argument, as it is in the tables.
-pub(crate) struct Argument {
-    /// The name of the flag or operand.
-    name: &'static str,
-    form: Form,
-    /// Its help text.
-    help: &'static str,
-}
+use crate::argument_forms::{Argument, Form};
 
 pub(crate) const HEX: Argument = Argument {
     name: "hex",
@@ -109,7 +58,7 @@ pub(crate) const FINDINGS: Argument = Argument {
 
 pub(crate) const JSON: Argument = Argument {
     name: "json",
-    form: Form::Without(&["utf8", "with-filename"]),
+    form: Form::Without(&["utf8", "readable"]),
     help: "Print a JSON object for each value",
 };
 
@@ -129,6 +78,12 @@ pub(crate) const FILES_FROM: Argument = Argument {
     name: "files-from",
     form: Form::List,
     help: "Lint the files that LIST names, one a line; - is standard input",
+};
+
+pub(crate) const MORE_FILES: Argument = Argument {
+    name: "files-from",
+    form: Form::ListWithout(&["raw"]),
+    help: "Take the files that LIST names, one a line, in place of FILE, and begin each line with the name of its file",
 };
 
 pub(crate) const PATHS_FROM: Argument = Argument {
@@ -199,6 +154,33 @@ pub(crate) const SHOWN_UTF8: Argument = Argument {
 
 const UTF8_HELP: &str = "Write texts in UTF-8, in quotes if they are not plain";
 
+pub(crate) const READABLE: Argument = Argument {
+    name: "readable",
+    form: Form::Flag,
+    help: READABLE_HELP,
+};
+
+pub(crate) const SHOWN_READABLE: Argument = Argument {
+    name: "readable",
+    form: Form::Without(&["text", "raw"]),
+    help: READABLE_HELP,
+};
+
+const READABLE_HELP: &str =
+    "Write texts in UTF-8, dates and reals as people read them, and of long data the length and SHA-256";
+
+pub(crate) const SORT: Argument = Argument {
+    name: "sort",
+    form: Form::Flag,
+    help: "Sort the keys of each dictionary by their UTF-16 units",
+};
+
+pub(crate) const INDENTED: Argument = Argument {
+    name: "tree",
+    form: Form::Without(&["json", "objects"]),
+    help: "Print the value and everything inside it as an indented tree",
+};
+
 pub(crate) const MAP_PATHS: Argument = Argument {
     name: "paths",
     form: Form::Flag,
@@ -226,6 +208,12 @@ pub(crate) const LIST_BYTES: Argument = Argument {
 pub(crate) const FILE: Argument = Argument {
     name: "FILE",
     form: Form::One,
+    help: FILE_HELP,
+};
+
+pub(crate) const MAYBE_FILE: Argument = Argument {
+    name: "FILE",
+    form: Form::OneUnless("files-from"),
     help: FILE_HELP,
 };
 
@@ -286,64 +274,3 @@ pub(crate) const WORDS: Argument = Argument {
     form: Form::Many,
     help: "The word of a rule in any case, its number, or the line of a fault",
 };
-
-impl Argument {
-    /// Converts the argument for `clap`.
-    pub(crate) fn to_arg<'a>(&self, alloc: Global) -> Result<Arg<'a>, AllocError> {
-        let name = self.name;
-        let arg = Arg::new(alloc, name).help(self.help);
-        match self.form {
-            Form::Flag => Ok(flag(arg, name)),
-            Form::Short(letter) => Ok(flag(arg, name).short(letter)),
-            Form::ShortWithout(letter, other) => {
-                flag(arg, name).short(letter).conflicts_with(other)
-            }
-            Form::Letters(first, second) => flag(arg, name).short(first).short_alias(second),
-            Form::LettersWithout(first, second, other) => {
-                let arg = flag(arg, name).short(first).short_alias(second)?;
-                arg.conflicts_with(other)
-            }
-            Form::With(other) => flag(arg, name).requires_arg(other),
-            Form::Without(others) => flag(arg, name).conflicts_with_all(others),
-            Form::Limit(with, default) => limit(arg.default_value(default), with),
-            Form::Most(long) => Ok(arg.long(long).value_parser(value_parser!(u64))),
-            Form::When => Ok(when(arg, name)),
-            Form::List => Ok(list(arg, name)),
-            Form::ListWithout(others) => list(arg, name).conflicts_with_all(others),
-            Form::One => Ok(arg.required(true)),
-            Form::Many => Ok(many(arg).required(true)),
-            Form::ManyUnless(other) => many(arg).required_unless_present(other),
-            Form::Maybe => Ok(arg),
-            Form::Any => Ok(many(arg)),
-            Form::Number => Ok(arg.required(true).value_parser(value_parser!(u64))),
-        }
-    }
-}
-
-fn flag<'a>(arg: Arg<'a>, name: &'a str) -> Arg<'a> {
-    arg.long(name).action(ArgAction::SetTrue)
-}
-
-fn list<'a>(arg: Arg<'a>, name: &'a str) -> Arg<'a> {
-    arg.long(name).value_name("LIST")
-}
-
-fn many<'a>(arg: Arg<'a>) -> Arg<'a> {
-    arg.num_args(1..).action(ArgAction::Append)
-}
-
-fn when<'a>(arg: Arg<'a>, name: &'a str) -> Arg<'a> {
-    arg.long(name)
-        .value_name("WHEN")
-        .value_parser(["always", "never", "auto"].as_slice())
-        .num_args(0..=1)
-        .require_equals(true)
-        .default_missing_value("always")
-        .default_value("auto")
-}
-
-fn limit<'a>(arg: Arg<'a>, with: &'a str) -> Result<Arg<'a>, AllocError> {
-    arg.long("limit")
-        .value_parser(value_parser!(u64))
-        .requires_arg(with)
-}

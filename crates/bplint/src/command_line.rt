@@ -6,7 +6,7 @@ use crate::reasons::prefix_of;
 use crate::rule_words::{no_rule, rule_in};
 use crate::subcommands::bplint;
 use bplint_engine::Branch;
-use bplint_json::{Depth, Form, Listed};
+use bplint_json::{Depth, Form, Listed, Values};
 use bplint_lines::Style;
 use clap::error::ErrorKind;
 use clap::{ArgMatches, Error};
@@ -128,6 +128,7 @@ fn run_of<'a>(
     Ok(Run {
         ask: ask_of(alloc, name, matches)?,
         file,
+        files_from: matches.get_str("files-from"),
         cert: matches.get_str("CERT"),
         out: matches.get_str("OUT").unwrap_or("-"),
         replaces: replaces_in(matches),
@@ -163,7 +164,7 @@ fn ask_of<'a>(alloc: Global, name: &str, matches: &ArgMatches<'a>) -> Result<Ask
             limit: limit_in(matches),
         }),
         "show" => show_of(alloc, matches),
-        "ls" => Ok(ls_of(matches)),
+        "ls" => ls_of(alloc, matches),
         "map" => Ok(Ask::Map {
             paths: matches.get_flag("paths"),
         }),
@@ -175,45 +176,89 @@ fn ask_of<'a>(alloc: Global, name: &str, matches: &ArgMatches<'a>) -> Result<Ask
 /// value.
 fn show_of<'a>(alloc: Global, matches: &ArgMatches<'a>) -> Result<Ask<'a>, Error> {
     let (text, raw) = (matches.get_flag("text"), matches.get_flag("raw"));
-    let (path, limit) = (path_in(matches), limit_in(matches));
-    match matches.get_strs("PATH").unwrap_or(&[]) {
-        [_, _, ..] if text || raw => {
-            let message = "--text and --raw take one PATH";
-            Err(refusal(alloc, ErrorKind::TooManyValues, message)?)
+    let mut operands = operands_in(alloc, matches)?;
+    if operands.is_empty() {
+        operands.push("")?;
+    }
+    let path = operands.first().copied().unwrap_or("");
+    if (text || raw) && operands.len() > 1 {
+        let message = "--text and --raw take one PATH";
+        return Err(refusal(alloc, ErrorKind::TooManyValues, message)?);
+    }
+    if raw {
+        return Ok(Ask::Raw { path });
+    }
+    if text {
+        let limit = limit_in(matches);
+        return Ok(Ask::Text { path, limit });
+    }
+    let paths = all_paths(alloc, &operands)?;
+    if matches.get_flag("readable") {
+        return Ok(Ask::Readable { paths });
+    }
+    let style = style_in(matches);
+    Ok(Ask::Show { paths, style })
+}
+
+/// Returns the PATHs. With `--files-from` there is no FILE, and the first operand is a PATH.
+fn operands_in<'a>(alloc: Global, matches: &ArgMatches<'a>) -> Result<Vec<&'a str>, AllocError> {
+    let mut operands = Vec::new(alloc);
+    if matches.get_str("files-from").is_some() {
+        if let Some(first) = matches.get_str("FILE") {
+            operands.push(first)?;
         }
-        _ if raw => Ok(Ask::Raw { path }),
-        _ if text => Ok(Ask::Text { path, limit }),
-        [] => Ok(Ask::Show {
-            paths: all_paths(alloc, &[""])?,
-            style: style_in(matches),
+    }
+    operands.extend_from_slice(matches.get_strs("PATH").unwrap_or(&[]))?;
+    Ok(operands)
+}
+
+fn ls_of<'a>(alloc: Global, matches: &ArgMatches<'a>) -> Result<Ask<'a>, Error> {
+    let operands = operands_in(alloc, matches)?;
+    if operands.len() > 1 {
+        let message = "--files-from takes the place of FILE";
+        return Err(refusal(alloc, ErrorKind::TooManyValues, message)?);
+    }
+    let path = operands.first().copied().unwrap_or("");
+    let sorted = matches.get_flag("sort");
+    let depth = depth_in(matches);
+    match form_in(matches) {
+        Form::Lines(Values::Exact(style)) if !sorted => Ok(match depth {
+            Depth::All(limit) => Ask::Tree(Branch { path, limit, style }),
+            Depth::Members => Ask::List { path, style },
         }),
-        texts => Ok(Ask::Show {
-            paths: all_paths(alloc, texts)?,
-            style: style_in(matches),
-        }),
+        form => Ok(Ask::Rows(Listed {
+            path,
+            depth,
+            form,
+            sorted,
+        })),
     }
 }
 
-fn ls_of<'a>(matches: &ArgMatches<'a>) -> Ask<'a> {
-    let (path, limit, style) = (path_in(matches), limit_in(matches), style_in(matches));
-    let recursive = matches.get_flag("recursive");
-    let depth = if recursive {
-        Depth::All(limit)
+/// A tree is that of the whole value.
+fn depth_in(matches: &ArgMatches<'_>) -> Depth {
+    if matches.get_flag("recursive") || matches.get_flag("tree") {
+        return Depth::All(limit_in(matches));
+    }
+    Depth::Members
+}
+
+fn form_in(matches: &ArgMatches<'_>) -> Form {
+    let values = if matches.get_flag("readable") {
+        Values::Readable
     } else {
-        Depth::Members
+        Values::Exact(style_in(matches))
     };
     if matches.get_flag("json") {
-        let form = Form::Json;
-        return Ask::Rows(Listed { path, depth, form });
+        return Form::Json;
     }
     if matches.get_flag("objects") {
-        let form = Form::Columns(style);
-        return Ask::Rows(Listed { path, depth, form });
+        return Form::Columns(values);
     }
-    if recursive {
-        return Ask::Tree(Branch { path, limit, style });
+    if matches.get_flag("tree") {
+        return Form::Tree;
     }
-    Ask::List { path, style }
+    Form::Lines(values)
 }
 
 fn style_in(matches: &ArgMatches<'_>) -> Style {

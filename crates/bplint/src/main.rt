@@ -12,13 +12,14 @@
 //! | module | contents |
 //! |---|---|
 //! | `subcommands` | the table of subcommands, and the `clap` command line that is made of it |
-//! | `arguments` | their arguments |
+//! | `arguments`, `argument_forms` | their arguments, and how each is given |
 //! | `words`, `args`, `command_line` | the words of a command line, what they ask for, and how they are read |
 //! | `input` | FILE and CERT: opened once, and then read by place or as a whole |
 //! | `lists` | lists of paths |
 //! | `rule_words` | the words that `explain` takes for a rule |
 //! | `input_fault` | why an input cannot be read |
 //! | `run` | what is asked about one FILE: each engine call is here |
+//! | `listed_files` | the same about each FILE that a list names |
 //! | `textconv`, `first_lines` | any file as text, and no more of it than is wanted |
 //! | `output` | OUT, which is created when its first byte is written |
 //! | `labels` | lines after the name of their file or their path |
@@ -32,6 +33,7 @@
 ghost use Rattle.std.specs.Prelude.{◌≤◌};
 
 mod args;
+mod argument_forms;
 mod arguments;
 mod command_line;
 mod ending;
@@ -42,6 +44,7 @@ mod input;
 mod input_fault;
 mod labels;
 mod linting;
+mod listed_files;
 mod lists;
 mod looks;
 mod output;
@@ -61,7 +64,7 @@ use command_line::{read_line, tip_for};
 use ending::{Ending, end, print_text, refuse, refuse_line};
 use folders::{Folders, shown_name};
 use linting::lint_files;
-use run::run;
+use listed_files::run_all;
 use std::alloc::{AllocError, Global};
 use std::fs::{File, Files};
 use std::io::IsTerminal;
@@ -102,7 +105,7 @@ fn start<R: Files<File = File> + Folders + Input + Print + Eprint>(
 {
     match read_line(alloc, words, on_terminal) {
         Ok(Line::Lint(lint)) => lint_files(rt, alloc, &lint, on_terminal),
-        Ok(Line::Run(line)) => run(rt, alloc, line),
+        Ok(Line::Run(line)) => run_all(rt, alloc, line),
         Ok(Line::Explain(rule)) => explain(rt, alloc, rule),
         Err(_) => refuse_words(rt, alloc, words, on_terminal),
     }

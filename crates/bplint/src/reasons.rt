@@ -5,7 +5,7 @@ ghost use Rattle.bplint.specs.ExitStatuses.{IsStillEnd};
 
 use crate::args::{Ask, Run};
 use crate::ending::Ending;
-use crate::folders::shown_name;
+use crate::folders::{shown_name, shown_octets};
 use crate::output::OutFault;
 use bplint_engine::Branch;
 use bplint_json::{Depth, Listed};
@@ -29,6 +29,12 @@ pub fn prefix_of(alloc: Global, name: &str, named: bool) -> Result<String, Alloc
         return Ok(String::new(alloc));
     }
     let shown = shown_name(alloc, name)?;
+    format!(in alloc; "{shown}: ")
+}
+
+/// The same for a name that is not UTF-8.
+pub fn octets_prefix(alloc: Global, name: &[u8]) -> Result<String, AllocError> {
+    let shown = shown_octets(alloc, name)?;
     format!(in alloc; "{shown}: ")
 }
 
@@ -196,7 +202,9 @@ pub fn most_line(alloc: Global, most: u64) -> Result<String, AllocError> {
 
 fn wrong_path<'a>(alloc: Global, ask: &'a Ask<'a>) -> Option<&'a str> {
     match ask {
-        Ask::Get { paths } | Ask::Show { paths, .. } => first_wrong(alloc, paths),
+        Ask::Get { paths } | Ask::Show { paths, .. } | Ask::Readable { paths } => {
+            first_wrong(alloc, paths)
+        }
         Ask::Print { path, .. }
         | Ask::Text { path, .. }
         | Ask::Raw { path }

@@ -17,13 +17,34 @@ use bplint_engine::{
     certify_on, check_on, get_on, lint_on, list_all_on, list_on, print_on, show_on, show_raw_on,
     show_text_on,
 };
-use bplint_json::list_rows_on;
+use bplint_json::{list_rows_on, show_readable_on};
 use bplint_lines::{RawFault, RunFault, Said, explain};
 use bplint_map::map_on;
 use bplist_octets::Source;
 use std::alloc::{AllocError, Global};
 use std::fs::{File, Files};
 use std::io::Write;
+
+/// How the run for one FILE ended.
+#[derive(Clone, Copy, Drop)]
+pub struct Ended {
+    /// The exit status.
+    pub status: u8,
+    /// True if nobody reads standard output any more.
+    pub is_closed: bool,
+}
+
+impl Ended {
+    /// The end with this status, after which there may be another run.
+    pub fn with(status: u8) -> Ended
+        ensures { result.status ≡ status }
+    {
+        Ended {
+            status,
+            is_closed: false,
+        }
+    }
+}
 
 /// Opens FILE and CERT, and answers what is asked. Returns the exit status.
 pub fn run<R: Files<File = File> + Input + Print + Eprint>(
@@ -40,48 +61,56 @@ pub fn run<R: Files<File = File> + Input + Print + Eprint>(
         }
     };
     match with_listed_paths(rt, alloc, line) {
-        Ok(line) => run_opened(rt, alloc, &line, inputs.file, inputs.cert),
+        Ok(line) => run_opened(rt, alloc, &line, inputs.file, inputs.cert).status,
         Err(status) => status,
     }
 }
 
-fn run_opened<
-    R: Files<File = File> + Print + Eprint,
-    S: Source + Drop,
-    C: Source + Drop,
->(
+/// Answers what is asked about inputs that are open.
+pub fn run_opened<R: Files<File = File> + Print + Eprint, S: Source + Drop, C: Source + Drop>(
     rt: &R,
     alloc: Global,
     line: &Run<'_>,
     file: S,
     cert: C,
-) -> u8
+) -> Ended
     ensures exact { IsTrue (S.means file).honest → IsTrue (C.means cert).honest → line.now.most ≡ None
-        → StatusAsked line.now.ask line.now.hex (S.means file).octets (C.means cert).octets result }
-    ensures few { result ≤ 4 }
+        → StatusAsked line.now.ask line.now.hex (S.means file).octets (C.means cert).octets result.status }
+    ensures few { result.status ≤ 4 }
 {
     let mut out = OutFile::new(rt, line.out).replacing(line.replaces);
-    let ending = match line.most {
-        None => answer(alloc, line, file, cert, &mut out),
-        Some(most) => {
-            let mut first = FirstLines::new(&mut out, u64::MAX, most);
-            let ending = answer(alloc, line, file, cert, &mut first);
-            match first.full() {
-                None => ending,
-                Some(_) => cut_off(alloc, line, most),
-            }
-        }
-    };
-    if let Some(OutFault::Kept) = out.fault() {
-        return keep_out(rt, alloc, line);
+    let ending = answer_within(alloc, line, file, cert, &mut out);
+    if let (Ask::Certify { .. }, Some(OutFault::Kept)) = (&line.ask, out.fault()) {
+        return Ended::with(keep_out(rt, alloc, line));
     }
     let ending = completed(alloc, line, ending, out.fault());
-    end(
-        rt,
-        alloc,
-        &line.prefix,
-        warned(alloc, line, ending, out.written()),
-    )
+    let ending = warned(alloc, line, ending, out.written());
+    Ended {
+        is_closed: ending.silent,
+        status: end(rt, alloc, &line.prefix, ending),
+    }
+}
+
+/// Writes no more bytes than the line allows.
+fn answer_within<S: Source + Drop, C: Source + Drop, W: Write>(
+    alloc: Global,
+    line: &Run<'_>,
+    file: S,
+    cert: C,
+    out: &mut W,
+) -> Ending
+    ensures { IsTrue (S.means file).honest → IsTrue (C.means cert).honest → line.now.most ≡ None
+        → EndsAsked line.now.ask line.now.hex (S.means file).octets (C.means cert).octets result.answer }
+{
+    let Some(most) = line.most else {
+        return answer(alloc, line, file, cert, out);
+    };
+    let mut first = FirstLines::new(out, u64::MAX, most);
+    let ending = answer(alloc, line, file, cert, &mut first);
+    match first.full() {
+        None => ending,
+        Some(_) => cut_off(alloc, line, most),
+    }
 }
 
 /// The answer has more bytes than may be written. If memory for the tip is refused, it is left out.
@@ -171,6 +200,7 @@ fn answer_on<S: Source + Drop, C: Source, W: Write>(
             of(alloc, print_on(alloc, file, decoded, path, *limit, out))
         }
         Ask::Show { paths, style } => of(alloc, show_on(alloc, file, paths, *style, out)),
+        Ask::Readable { paths } => of(alloc, show_readable_on(alloc, file, paths, out)),
         Ask::Text { path, limit } => {
             let (led, file) = show_text_on(alloc, file, path, *limit, out);
             (Ending::of_text(alloc, led), file)
@@ -181,7 +211,7 @@ fn answer_on<S: Source + Drop, C: Source, W: Write>(
         }
         Ask::List { path, style } => of(alloc, list_on(alloc, file, path, *style, out)),
         Ask::Tree(branch) => of(alloc, list_all_on(alloc, file, branch, out)),
-        Ask::Rows(listed) => of(alloc, list_rows_on(alloc, file, listed, out)),
+        Ask::Rows(listed) => { of(alloc, list_rows_on(alloc, file, listed, line.named(), out)) }
         Ask::Map { paths } => {
             let mut file = file;
             let answer = map_on(alloc, &mut file, *paths, out);

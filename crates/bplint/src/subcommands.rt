@@ -1,10 +1,12 @@
 //! The subcommands as tables, and the `clap` command line that is made of them.
 
+use crate::argument_forms::Argument;
 use crate::arguments::{
-    ALL, ANY_PATHS, Argument, CERT, EXPLAIN, FILE, FILES, FILES_FROM, FINDINGS, FORCE, HEX,
-    HEX_CERT, HEX_OUT, JSON, LIMIT, LIST, LIST_BYTES, MAP_PATHS, MAYBE_PATH, NULL, OBJECTS, OUT,
-    PATH, PATHS, PATHS_FROM, QUIET, RAW, RECURSIVE, SHOWN_UTF8, SKIP_OTHER, SORTED, SUMMARY, TEXT,
-    TEXT_LIMIT, TREE, TREE_LIMIT, UTF8, WITH_NAME, WORDS,
+    ALL, ANY_PATHS, CERT, EXPLAIN, FILE, FILES, FILES_FROM, FINDINGS, FORCE, HEX, HEX_CERT,
+    HEX_OUT, INDENTED, JSON, LIMIT, LIST, LIST_BYTES, MAP_PATHS, MAYBE_FILE, MAYBE_PATH,
+    MORE_FILES, NULL, OBJECTS, OUT, PATH, PATHS, PATHS_FROM, QUIET, RAW, READABLE, RECURSIVE,
+    SHOWN_READABLE, SHOWN_UTF8, SKIP_OTHER, SORT, SORTED, SUMMARY, TEXT, TEXT_LIMIT, TREE,
+    TREE_LIMIT, UTF8, WITH_NAME, WORDS,
 };
 use clap::Command;
 use std::alloc::{AllocError, Global};
@@ -45,12 +47,14 @@ path, 3 a failed read or write, 4 no memory. The rules: man bplint, or docs/RULE
 const SHOW_HELP: &str = "Example: bplint show Info.plist /CFBundleName /LSArchitecturePriority/0
          bplint show --text Info.plist /CFBundleURLTypes
          bplint show --raw Info.plist /inner | bplint lint -
+         bplint show --readable --files-from LIST /CFBundleName
 
 Exit status: 0 yes, 1 a broken rule, a path that leads nowhere or no text of that length, 2 a wrong command line or
 path, 3 a failed read or write, 4 no memory. The rules: man bplint, or docs/RULES.md.";
 
 const LS_HELP: &str = "Example: bplint ls Info.plist /LSArchitecturePriority
          bplint ls --recursive Info.plist
+         bplint ls --tree Info.plist
 
 A line has a path, a tab and what lies there. Where no path leads, an index in brackets stands in place of the path.
 Exit status: 0 yes, 1 a broken rule or a path that leads nowhere, 2 a wrong command line or path, 3 a failed read or
@@ -66,8 +70,8 @@ The rules: man bplint, or docs/RULES.md.";
 const TEXTCONV_HELP: &str =
     "Example: git config diff.bplist.textconv \"bplint textconv\", and in .gitattributes *.plist diff=bplist
 
-A sound binary property list is shown as ls --recursive --utf8 lists it, and another one by its fault and its first bytes
-in hexadecimal. Any other file is shown as it is.
+A sound binary property list is shown as ls --recursive --readable --sort lists it, and another one by its fault and its
+first bytes in hexadecimal. Any other file is shown as it is.
 Exit status: 0 the file could be read, 2 a wrong command line, 3 a failed read or write, 4 no memory.";
 
 const EXPLAIN_HELP: &str = "Example: bplint explain KeyTwice
@@ -108,7 +112,18 @@ static SHOWING: [Subcommand; 5] = [
         about: "Prints what lies under each PATH, or the whole",
         help: SHOW_HELP,
         arguments: &[
-            HEX, TEXT, TEXT_LIMIT, RAW, SHOWN_UTF8, PATHS_FROM, WITH_NAME, EXPLAIN, FILE, ANY_PATHS,
+            HEX,
+            TEXT,
+            TEXT_LIMIT,
+            RAW,
+            SHOWN_UTF8,
+            SHOWN_READABLE,
+            PATHS_FROM,
+            MORE_FILES,
+            WITH_NAME,
+            EXPLAIN,
+            MAYBE_FILE,
+            ANY_PATHS,
         ],
     },
     Subcommand {
@@ -116,8 +131,8 @@ static SHOWING: [Subcommand; 5] = [
         about: "Lists the members of the value under PATH, or of the whole",
         help: LS_HELP,
         arguments: &[
-            HEX, TREE, TREE_LIMIT, LIST_BYTES, JSON, OBJECTS, UTF8, WITH_NAME, EXPLAIN, FILE,
-            MAYBE_PATH,
+            HEX, TREE, TREE_LIMIT, LIST_BYTES, JSON, OBJECTS, UTF8, READABLE, SORT, INDENTED,
+            MORE_FILES, WITH_NAME, EXPLAIN, MAYBE_FILE, MAYBE_PATH,
         ],
     },
     Subcommand {

@@ -4,8 +4,8 @@
 use crate::first_lines::{FirstLines, Full};
 use crate::input::HEADER;
 use crate::labels::{Labelled, Labels};
-use bplint_engine::{Branch, list_all_on, list_on};
-use bplint_lines::{RunFault, Said, Style};
+use bplint_json::{Depth, Form, Listed, Values, list_rows_on};
+use bplint_lines::{RunFault, Said};
 use bplist_octets::{Sink, Source};
 use std::alloc::{AllocError, Global};
 use std::io::Write;
@@ -32,9 +32,9 @@ const LEAST: u64 = 1 << 20;
 /// The largest number of bytes of lines that are shown.
 const MOST: u64 = 1 << 26;
 
-/// Shows a file: the lines of `ls --recursive --utf8`; or, of a binary property list that is not sound, its fault and
-/// its first bytes; or the file itself, if it is no binary property list. Returns the file too. The prefix begins each
-/// line, but not those of a file that is written as it is.
+/// Shows a file: the lines of `ls --recursive --readable --sort`; or, of a binary property list that is not sound, its
+/// fault and its first bytes; or the file itself, if it is no binary property list. Returns the file too. The prefix
+/// begins each line, but not those of a file that is written as it is.
 pub fn show_any<S: Source + Drop, W: Write>(
     alloc: Global,
     src: S,
@@ -106,22 +106,27 @@ fn list<S: Source + Drop, W: Write>(
     src: S,
     out: &mut W,
 ) -> (Result<Said, RunFault>, S) {
-    let whole = Branch {
-        path: "",
-        limit: u64::MAX,
-        style: Style::Utf8,
-    };
-    let (answer, src) = list_all_on(alloc, src, &whole, out);
+    let (answer, src) = list_rows_on(alloc, src, &listed(Depth::All(u64::MAX)), None, out);
     let Err(RunFault::TooLong) = &answer else {
         return (answer, src);
     };
-    let (answer, src) = list_on(alloc, src, "", Style::Utf8, out);
+    let (answer, src) = list_rows_on(alloc, src, &listed(Depth::Members), None, out);
     match answer {
         Ok(_) => (
             send(format!(in alloc; "more than {LINES} lines\n"), out),
             src,
         ),
         Err(fault) => (Err(fault), src),
+    }
+}
+
+/// Keys are sorted, so that a file that was written in another order shows no difference.
+fn listed(depth: Depth) -> Listed<'static> {
+    Listed {
+        path: "",
+        depth,
+        form: Form::Lines(Values::Readable),
+        sorted: true,
     }
 }
 

@@ -153,7 +153,7 @@ fn broken_line<'a>(name: Name<'a>, rule: Rule, way: &'a Way) -> BrokenLine<'a> {
         object: None,
         place: None,
         sentence,
-        way: Named::new(text, way.index),
+        way: Named::new(None, text, way.index),
         no_path: way.missing,
         circle: None,
         looks_like: None,

@@ -1,6 +1,7 @@
-//! Lines for scripts: what `lint` finds out about a file, as JSON, and what `ls` lists, with the object and place of
-//! each value, as JSON or in columns. Not here: the lines that people read (crate `bplint_lines`), and which answer or
-//! fault a command has (crates `bplint_engine` and `bplist_lint`).
+//! Lines that are tested, not proved: what `lint` finds out about a file, as JSON; what `ls` lists, as JSON, with the
+//! object and place of each value, as people read it, indented, or in the order of keys; and what `show` prints, as
+//! people read it. Not here: the wording of other lines (crate `bplint_lines`), and which answer or fault a command
+//! has (crates `bplint_engine` and `bplist_lint`).
 //!
 //! ```
 //! let finding = find_in(alloc, &mut source);
@@ -12,7 +13,8 @@
 //! |---|---|
 //! | lint a source | [`find_in`], which gives a [`Finding`] |
 //! | get the line and the exit status of a finding | [`Finding`]: `line`, `status` |
-//! | list a value | [`list_rows_on`], with a [`Listed`]: path, [`Depth`] and [`Form`] |
+//! | list a value | [`list_rows_on`], with a [`Listed`]: path, [`Depth`], [`Form`] with [`Values`], and order |
+//! | show values | [`show_readable_on`] |
 //!
 //! The crate `serde_json` writes each JSON line. That the lines say what the files hold is shown by tests, not by
 //! proof.
@@ -22,9 +24,10 @@
 //! - `finding`: what `lint` finds out about a file.
 //! - `finding_lines`: its line.
 //! - `listing`: the walk over a value.
-//! - `names`: the names of values.
-//! - `rows`, `columns`: their lines, as JSON or in columns.
-//! - `readable`: dates as people write them.
+//! - `sorted`, `names`: the order and the names of values.
+//! - `rows`, `columns`: their lines, as JSON or in other forms.
+//! - `readable_values`, `readable`: values and dates as people read them.
+//! - `show`: values under paths.
 #![tactic(auto)]
 
 mod columns;
@@ -33,12 +36,17 @@ mod finding_lines;
 mod listing;
 mod names;
 mod readable;
+mod readable_values;
 mod rows;
+mod show;
+mod sorted;
 
 use bplint_lines::is_unshown;
+pub use columns::Values;
 pub use finding::{Finding, Way, find_in};
 pub use listing::{Depth, Form, Listed, list_rows_on};
 use serde::Serialize;
+pub use show::show_readable_on;
 use std::alloc::{AllocError, Global};
 
 /// A character that a line may not show is `\u` and four digits. The only error is refused memory, since each key is a

@@ -1,10 +1,10 @@
-//! The commands `ls --json` and `ls --objects`: list the members of a value, or the value and everything inside it,
-//! with the object of each value and its place.
+//! The forms of `ls` that are not proved: the members of a value, or the value and everything inside it, as JSON, with
+//! the object of each value and its place, as people read values, indented, or in the order of keys.
 
-use crate::columns::{columns_of, missing_columns};
+use crate::columns::{Values, add_site, indented, line_of, missing_line};
 use crate::names::{Name, Names};
 use crate::rows::{Named, Site, missing_row, row_of, with_key};
-use bplint_engine::checked_by_lint;
+use crate::sorted::{linted, listed_pair};
 use bplint_lines::{Pair, RunFault, Said, Style};
 use bplist_cert::Checked;
 use bplist_cursor::{CursorFault, Face, Found, Node, Path, count_nodes, face, locate, member};
@@ -27,9 +27,25 @@ pub enum Depth {
 pub enum Form {
     /// A JSON object.
     Json,
-    /// The line of `ls` with texts in this style, and two more columns, each after a tab: the number of the object, and
-    /// its place from the beginning of the file.
-    Columns(Style),
+    /// The line of `ls`.
+    Lines(Values),
+    /// The line of `ls`, and two more columns, each after a tab: the number of the object, and its place from the
+    /// beginning of the file.
+    Columns(Values),
+    /// Two blanks for each container around the value, the name of the value in its container, a colon, and the value
+    /// as people read it.
+    Tree,
+}
+
+impl Form {
+    /// How a name shows keys, or `None` if it has them whole.
+    pub(crate) fn style(self) -> Option<Style> {
+        match self {
+            Form::Json => None,
+            Form::Lines(Values::Exact(style)) | Form::Columns(Values::Exact(style)) => Some(style),
+            _ => Some(Style::Utf8),
+        }
+    }
 }
 
 /// What to list, and how.
@@ -41,11 +57,14 @@ pub struct Listed<'a> {
     pub depth: Depth,
     /// The form of a line.
     pub form: Form,
+    /// True if the pairs of a dictionary come in the order of their keys' units. Otherwise they come in the order of
+    /// the file.
+    pub sorted: bool,
 }
 
-/// Lists the value under a path: writes one line of the form for each value that `ls` has a line for, in the same
-/// order. Returns the source too. A path that leads nowhere gets a JSON object that says so, or in columns the line of
-/// `ls`.
+/// Lists the value under a path: writes one line of the form for each value that `ls` has a line for. Returns the
+/// source too. A path that leads nowhere gets a JSON object that says so, or in other forms the line of `ls`. If there
+/// is a name of the file, each JSON object has it.
 ///
 /// These errors come before anything is written, in this order: `Path` for a wrong path text; `Fault` or `Circle` as
 /// `lint` returns it; `TooLong` if the value has more nodes than [`Depth::All`] allows. Before `Read`, `Memory`,
@@ -54,55 +73,23 @@ pub fn list_rows_on<S: Source, W: Write>(
     alloc: Global,
     src: S,
     listed: &Listed<'_>,
+    file: Option<&str>,
     out: &mut W,
 ) -> (Result<Said, RunFault>, S) {
     let steps = match Path::parse(alloc, listed.path) {
         Ok(steps) => steps,
         Err(fault) => return (Err(RunFault::from(fault)), src),
     };
-    match checked_by_lint(alloc, src) {
+    match linted(alloc, src, listed.sorted) {
         Ok(mut checked) => {
-            let made = match locate(&mut checked, &steps) {
-                Ok(found) => list_found(alloc, &mut checked, found, listed, out),
-                Err(fault) => Err(RunFault::from(fault)),
+            let made = match Listing::new(alloc, listed, file, out) {
+                Ok(mut listing) => listing.list_path(&mut checked, &steps, listed),
+                Err(_) => Err(RunFault::Memory),
             };
             (made, checked.into_parts().0)
         }
         Err((fault, src)) => (Err(fault), src),
     }
-}
-
-fn list_found<S: Source, W: Write>(
-    alloc: Global,
-    checked: &mut Checked<S>,
-    found: Found,
-    listed: &Listed<'_>,
-    out: &mut W,
-) -> Result<Said, RunFault> {
-    let mut listing = Listing {
-        alloc,
-        form: listed.form,
-        stack: Vec::new(alloc),
-        names: Names::new(alloc, listed.form, listed.path)?,
-        sink: Sink::new(),
-        out,
-    };
-    let said = match found {
-        Found::At(node) => {
-            listing.list(checked, node, listed.depth)?;
-            Said::All
-        }
-        Found::Missing { step, why } => {
-            let row = match listed.form {
-                Form::Json => missing_row(alloc, listed.path, step, why)?,
-                Form::Columns(_) => missing_columns(alloc, step, why)?,
-            };
-            listing.put(row)?;
-            Said::SomeMissing
-        }
-    };
-    listing.finish()?;
-    Ok(said)
 }
 
 /// The members of a container.
@@ -126,17 +113,62 @@ struct Opened {
 
 /// The state of a listing.
 #[derive(Drop)]
-struct Listing<'a, W> {
+struct Listing<'f, 'o, W> {
     alloc: Global,
     form: Form,
+    sorted: bool,
+    /// The name of the file that JSON objects have.
+    file: Option<&'f str>,
     /// The containers around the current node, the outermost first.
     stack: Vec<Opened>,
     names: Names,
     sink: Sink,
-    out: &'a mut W,
+    out: &'o mut W,
 }
 
-impl<'a, W: Write> Listing<'a, W> {
+impl<'f, 'o, W: Write> Listing<'f, 'o, W> {
+    fn new(
+        alloc: Global,
+        listed: &Listed<'_>,
+        file: Option<&'f str>,
+        out: &'o mut W,
+    ) -> Result<Listing<'f, 'o, W>, AllocError> {
+        Ok(Listing {
+            alloc,
+            form: listed.form,
+            sorted: listed.sorted,
+            file,
+            stack: Vec::new(alloc),
+            names: Names::new(alloc, listed.form, listed.path)?,
+            sink: Sink::new(),
+            out,
+        })
+    }
+
+    fn list_path<S: Source>(
+        &mut self,
+        checked: &mut Checked<S>,
+        steps: &Path,
+        listed: &Listed<'_>,
+    ) -> Result<Said, RunFault> {
+        let said = match locate(checked, steps)? {
+            Found::At(node) => {
+                self.list(checked, node, listed.depth)?;
+                Said::All
+            }
+            Found::Missing { step, why } => {
+                let row = match self.form {
+                    Form::Json => missing_row(self.alloc, self.file, listed.path, (step, why))?,
+                    _ => missing_line(self.alloc, step, why)?,
+                };
+                self.put(row)?;
+                Said::SomeMissing
+            }
+        };
+        self.sink.flush(self.out)?;
+        Ok(said)
+    }
+
     fn list<S: Source>(
         &mut self,
         checked: &mut Checked<S>,
@@ -223,6 +255,7 @@ impl<'a, W: Write> Listing<'a, W> {
                 Ok((node, self.names.push_place(opened.name, i)?))
             }
             Members::Dict => {
+                let i = self.pair_at(checked, opened)?;
                 let key = member_of(checked, opened.node, i.saturating_mul(2))?;
                 let number = i.saturating_mul(2).saturating_add(1);
                 let node = member_of(checked, opened.node, number)?;
@@ -240,6 +273,18 @@ impl<'a, W: Write> Listing<'a, W> {
         }
     }
 
+    /// The number of the pair that comes next.
+    fn pair_at<S: Source>(
+        &self,
+        checked: &Checked<S>,
+        opened: &Opened,
+    ) -> Result<u64, CursorFault> {
+        if !self.sorted {
+            return Ok(opened.next);
+        }
+        listed_pair(checked, opened.node, opened.next).ok_or(CursorFault::Changed)
+    }
+
     fn put_row<S: Source>(
         &mut self,
         checked: &mut Checked<S>,
@@ -247,28 +292,27 @@ impl<'a, W: Write> Listing<'a, W> {
         name: Name,
         shown: &Face,
     ) -> Result<(), RunFault> {
-        let site = site_of(checked, node)?;
+        let (alloc, text) = (self.alloc, self.names.get(name));
         let row = match self.form {
-            Form::Json => self.json_row(name, shown, site)?,
-            Form::Columns(style) => {
-                columns_of(self.alloc, style, self.names.get(name), shown, site)?
+            Form::Json => self.json_row(name, shown, site_of(checked, node)?)?,
+            Form::Lines(values) => line_of(alloc, values, text, shown)?,
+            Form::Columns(values) => {
+                let mut row = line_of(alloc, values, text, shown)?;
+                add_site(alloc, site_of(checked, node)?, &mut row)?;
+                row
             }
+            Form::Tree => indented(alloc, self.stack.len(), self.names.own(name), shown)?,
         };
         self.put(row)
     }
 
     fn json_row(&self, name: Name, shown: &Face, site: Site) -> Result<Vec<u8>, AllocError> {
-        let named = Named::new(Some(self.names.get(name)), name.index);
+        let named = Named::new(self.file, Some(self.names.get(name)), name.index);
         let row = row_of(self.alloc, named, shown, site)?;
         match (name.index, self.names.key_of(name)) {
-            (Some(index), Some(key)) => with_key(self.alloc, &row, index, key),
+            (Some(index), Some(key)) => with_key(self.alloc, &row, self.file, index, key),
             _ => Ok(row),
         }
-    }
-
-    fn finish(&mut self) -> Result<(), RunFault> {
-        self.sink.flush(self.out)?;
-        Ok(())
     }
 
     fn put(&mut self, row: Vec<u8>) -> Result<(), RunFault> {

@@ -11,6 +11,8 @@ use std::alloc::{AllocError, Global};
 pub(crate) struct Name {
     /// Where its text begins in the buffer.
     start: usize,
+    /// Where the part begins that names the node in its container.
+    own: usize,
     /// Where its text ends.
     end: usize,
     /// The index of the innermost member around the node that has no path. If there is one, the text is the path from
@@ -42,6 +44,7 @@ impl Names {
     pub(crate) fn whole(&self) -> Name {
         Name {
             start: 0,
+            own: 0,
             end: self.text.len(),
             index: None,
             key: None,
@@ -51,6 +54,11 @@ impl Names {
     /// Returns the text of a name.
     pub(crate) fn get(&self, name: Name) -> &str {
         self.part(name.start, name.end)
+    }
+
+    /// Returns the part of a name that names the node in its container.
+    pub(crate) fn own(&self, name: Name) -> &str {
+        self.part(name.own, name.end)
     }
 
     /// Returns the key of the innermost member around the node that has no path, as it stands in a JSON text.
@@ -73,7 +81,7 @@ impl Names {
     /// Returns the name of member `i` of a container, which has no path. Drops what followed the container's name.
     pub(crate) fn push_place(&mut self, container: Name, i: u64) -> Result<Name, AllocError> {
         self.text.truncate(container.end);
-        if let Form::Columns(_) = self.form {
+        if self.form.style().is_some() {
             add_index(self.alloc, i, &mut self.text)?;
         }
         Ok(self.beginning(container.end, i))
@@ -81,9 +89,9 @@ impl Names {
 
     /// Returns the name of the value of a pair of a dictionary. Drops what followed the dictionary's name.
     pub(crate) fn push_key(&mut self, dict: Name, pair: &Pair<'_>) -> Result<Name, AllocError> {
-        match self.form {
-            Form::Json => self.push_whole_key(dict, pair),
-            Form::Columns(style) => self.push_shown_key(dict, pair, style),
+        match self.form.style() {
+            None => self.push_whole_key(dict, pair),
+            Some(style) => self.push_shown_key(dict, pair, style),
         }
     }
 
@@ -119,6 +127,7 @@ impl Names {
     fn beginning(&self, start: usize, i: u64) -> Name {
         Name {
             start,
+            own: start,
             end: self.text.len(),
             index: Some(i),
             key: None,
@@ -127,6 +136,7 @@ impl Names {
 
     fn extended(&self, container: Name) -> Name {
         Name {
+            own: container.end,
             end: self.text.len(),
             ..container
         }

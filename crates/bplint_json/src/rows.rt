@@ -11,6 +11,9 @@ use std::alloc::{AllocError, Global};
 /// The name of a value in a line.
 #[derive(Clone, Copy, Drop, Serialize)]
 pub(crate) struct Named<'a> {
+    /// The name of the file, if the line has it.
+    #[serde(skip_serializing_if = "Option::is_none")]
+    pub file: Option<&'a str>,
     /// The path of the value, if it has one.
     pub path: Option<&'a str>,
     /// For a value without a path: the index of the innermost member around it that has no path.
@@ -23,23 +26,21 @@ pub(crate) struct Named<'a> {
 
 impl<'a> Named<'a> {
     /// The name with this text, which is a path, or the path from the member with this index on.
-    pub(crate) fn new(text: Option<&'a str>, index: Option<u64>) -> Named<'a> {
-        match (text, index) {
-            (Some(""), Some(_)) | (None, _) => Named {
-                path: None,
-                index,
-                below: None,
-            },
-            (_, Some(_)) => Named {
-                path: None,
-                index,
-                below: text,
-            },
-            (_, None) => Named {
-                path: text,
-                index,
-                below: None,
-            },
+    pub(crate) fn new(
+        file: Option<&'a str>,
+        text: Option<&'a str>,
+        index: Option<u64>,
+    ) -> Named<'a> {
+        let (path, below) = match (text, index) {
+            (Some(""), Some(_)) => (None, None),
+            (_, Some(_)) => (None, text),
+            (_, None) => (text, None),
+        };
+        Named {
+            file,
+            path,
+            index,
+            below,
         }
     }
 }
@@ -103,6 +104,8 @@ struct RowFront<'a> {
 /// The line for a path that leads nowhere.
 #[derive(Drop, Serialize)]
 struct MissingRow<'a> {
+    #[serde(skip_serializing_if = "Option::is_none")]
+    file: Option<&'a str>,
     path: &'a str,
     missing: &'a str,
     step: u64,
@@ -254,21 +257,22 @@ fn broken_text_row(
     Ok(row)
 }
 
-/// Adds the key of the innermost member that has no path to a line that begins with its index. The key is given as it
-/// stands in a JSON text.
+/// Adds the key of the innermost member that has no path to a line of this file, which begins with the member's index.
+/// The key is given as it stands in a JSON text.
 pub(crate) fn with_key(
     alloc: Global,
     row: &[u8],
+    file: Option<&str>,
     index: u64,
     key: &str,
 ) -> Result<Vec<u8>, AllocError> {
-    let front = format!(in alloc; "{{\"path\":null,\"index\":{index},")?;
-    let mut line = Vec::new(alloc);
-    line.extend_from_slice(front.as_bytes())?;
-    line.extend_from_slice(b"\"key\":\"")?;
+    let mut line = json_of(alloc, &Named::new(file, Some(""), Some(index)))?;
+    let front = line.len();
+    line.pop();
+    line.extend_from_slice(b",\"key\":\"")?;
     line.extend_from_slice(key.as_bytes())?;
     line.extend_from_slice(b"\",")?;
-    line.extend_from_slice(row.get(front.len()..).unwrap_or(&[]))?;
+    line.extend_from_slice(row.get(front..).unwrap_or(&[]))?;
     Ok(line)
 }
 
@@ -303,17 +307,19 @@ fn add_part(alloc: Global, part: &str, row: &mut Vec<u8>) -> Result<(), AllocErr
     }
 }
 
-/// Returns the line for a path that leads nowhere, without its line feed.
-pub(crate) fn missing_row(
+/// Returns the line for a path that leads nowhere, without its line feed: which step does not lead on, and why.
+pub(crate) fn missing_row<'a>(
     alloc: Global,
-    path: &str,
-    step: u64,
-    why: Why,
+    file: Option<&'a str>,
+    path: &'a str,
+    reason: (u64, Why),
 ) -> Result<Vec<u8>, AllocError> {
+    let (step, why) = reason;
     let missing = reason_of(why);
     json_of(
         alloc,
         &MissingRow {
+            file,
             path,
             missing,
             step,
