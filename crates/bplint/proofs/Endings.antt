@@ -1,5 +1,6 @@
 -- What the exit status of a run says that leaves an answer.
-use Rattle.std.proofs.Common.{◌≡◌, ◌⊎◌, inl, inr, ℕ, ◌≤◌, List, [], ◌∷◌, Bool, Option, None, Some, Result, Ok, Err, refl, subst, sym, ◌∙◌, arith, ⊤}
+use Rattle.std.proofs.Common.{◌≡◌, ◌⊎◌, inl, inr, ℕ, ◌≤◌, List, [], ◌∷◌, Bool, Option, None, Some, Result, Ok, Err, refl, subst, sym, ◌∙◌, arith, rules}
+use Rattle.std.specs.Bool.{⊤}
 use Rattle.std.specs.List.{AllByRecursion}
 use Rattle.std.proofs.Math.Logic.{∥∥₁_map}
 use Rattle.std.proofs.lemmas.Grind.{merely}
@@ -7,9 +8,12 @@ use Rattle.bplist_objects.specs.declared.fault.Fault.{Fault}
 use Rattle.bplist_objects.specs.declared.frame.ObjectNo.{ObjectNo}
 use Rattle.bplist_objects.specs.declared.rule.Rule.{Rule}
 use Rattle.bplist_objects.specs.declared.rule.Rule.TheVariants.{PathText}
-use Rattle.bplist_objects.specs.Frame.{frame_rules}
-use Rattle.bplist_objects.specs.Rules.{IsFirstFault}
-use Rattle.bplist_cert.specs.CheckRules.{key_rules}
+use Rattle.bplist_objects.specs.declared.frame.Frame.{Frame}
+use Rattle.bplist_objects.specs.Frame.{Keeps, frame_rules}
+use Rattle.bplist_objects.specs.FrameRules.{Breaks}
+use Rattle.bplist_objects.specs.Rules.{IsFirstFault, OfObject}
+use Rattle.bplist_cert.specs.CheckRules.{BreaksRule as BreaksByRule, IsLeastFault, KeepsRule, key_rules}
+use Rattle.bplist_cert.specs.Lists.{Lists}
 use Rattle.bplist_cert.specs.Sound.{IsSound}
 use Rattle.bplist_cert.proofs.VouchedObjects.{sound}
 use Rattle.bplist_lint.specs.FileFault.{IsFileFault}
@@ -44,7 +48,7 @@ module _ (Says : Answer → Type 0) (bound : Option ℕ) (old new : Option (List
   left_status (Err (faults.Write _)) left (inl is) = inr (omega (arith, is))
   left_status (Err (faults.Read _)) left (inl is) = inr (omega (arith, is))
   left_status (Err faults.Memory) left (inl is) = inr (omega (arith, is))
-  left_status (Err fault) (says, _) (inl is) = inl (refuses fault, says, is)
+  left_status (Err fault) left (inl is) = inl (refuses fault, left.0, is)
 
   led_status : (led : Result Led RunFault) → LeavesLed Says bound old new led → EndsWith (answer_of_led (led_of led)) status
       → HasStatus Says status ⊎ (3 ≤ status)
@@ -112,7 +116,7 @@ failed_asked ask hex f cert status high = merely (inr (inr high))
 -- ---- lint
 -- the exit status of a fault of this rule is 1
 abbrev IsOne : Rule → Type 0
-IsOne rule = elim rule [ PathText ↦ 2 | _ ↦ 1 ] ≡ 1
+IsOne rule = (elim rule as (λ _. ℕ) [ PathText ↦ 2 | _ ↦ 1 ]) ≡ 1
 
 first_is_one : (keeps : Rule → Type 0) (breaks : Rule → Option ObjectNo → ℕ → Type 0) (listed : List Rule) (fault : Fault)
     → AllByRecursion IsOne listed → IsFirstFault keeps breaks listed fault → IsOne fault.rule
@@ -120,10 +124,15 @@ first_is_one keeps breaks [] fault all never = absurd never
 first_is_one keeps breaks (rule ∷ listed) fault all (inl (is, _)) = subst IsOne (sym is) all.0
 first_is_one keeps breaks (rule ∷ listed) fault all (inr (_, first)) = first_is_one keeps breaks listed fault all.1 first
 
+least_is_one : (f : List ℕ) (F : Frame) (S : ℕ → Type 0) (certificate : Lists) (listed : List Rule) (fault : Fault)
+    → AllByRecursion IsOne listed → IsLeastFault f F S certificate listed fault → IsOne fault.rule
+least_is_one f F S certificate listed fault all least = first_is_one (KeepsRule f F S certificate least.object)
+    (OfObject least.object (BreaksByRule f F S certificate least.object)) listed fault all least.first
+
 fault_is_one : (f : List ℕ) (fault : Fault) → IsFileFault f fault → IsOne fault.rule
-fault_is_one f fault (inl first) = first_is_one _ _ frame_rules fault (search rules) first
-fault_is_one f fault (inr (F, frame, inl reached)) = first_is_one _ _ reach_rules fault (search rules) reached.first
-fault_is_one f fault (inr (F, frame, inr (kept, reached))) = first_is_one _ _ (key_rules None) fault (search rules) reached.first
+fault_is_one f fault (inl first) = first_is_one (Keeps f) (Breaks f) frame_rules fault (search rules) first
+fault_is_one f fault (inr (F, frame, inl reached)) = least_is_one f F _ _ reach_rules fault (search rules) reached
+fault_is_one f fault (inr (F, frame, inr (kept, reached))) = least_is_one f F _ _ (key_rules None) fault (search rules) reached
 
 module _ (f : List ℕ) where
   said_sound : (bytes : List ℕ) → LintSays f (gives All bytes) → IsSound f
@@ -135,7 +144,7 @@ module _ (f : List ℕ) where
   asked_lint : (status : ℕ) → HasStatus (LintSays f) status ⊎ (⊥ ⊎ (3 ≤ status))
       → ((status ≡ 0) × IsSound f) ⊎ (((status ≡ 1) × BreaksRule f) ⊎ (3 ≤ status))
   asked_lint status (inl (gives All bytes, says, is)) = inl (is, said_sound bytes says)
-  asked_lint status (inl (gives SomeMissing bytes, (lint, kind, linted, all, _), is)) = absurd all
+  asked_lint status (inl (gives SomeMissing bytes, (lint, kind, linted, all, _), is)) = cc all
   asked_lint status (inl (refuses (faults.Fault fault), says, is)) = inr (inl (is ∙ fault_is_one f fault says, inl (fault, says)))
   asked_lint status (inl (refuses (faults.Circle objects), says, is)) = inr (inl (is, inr (_, says)))
   asked_lint status (inl (refuses fault, says, is)) = absurd says

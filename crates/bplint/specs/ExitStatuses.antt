@@ -19,6 +19,10 @@ EndsWith (Err fault) status = (status ≡ (raw_report_of fault).1) ⊎ (status �
 abbrev pub IsStillEnd : Result Said RawFault → Result Said RawFault → Type 0
 IsStillEnd old new = (new ≡ old) ⊎ (new ≡ Err (Run Memory))
 
+-- each exit status of the answer is 3 or more
+abbrev pub Fails : Result Said RawFault → Type 0
+Fails answer = (status : ℕ) → EndsWith answer status → 3 ≤ status
+
 -- the exit status is this one, or it is 3 or more, because a read or a write failed or memory was refused
 abbrev pub IsOrFails : ℕ → ℕ → Type 0
 IsOrFails wanted status = (status ≡ wanted) ⊎ (3 ≤ status)

@@ -1,9 +1,9 @@
 //! What `lint` says of each file: its line or its fault, its name alone, or nothing. A run counts its files, and keeps
 //! the greatest exit status.
 
-ghost use Rattle.std.specs.Prelude.{◌≡◌, ◌≤◌, IsTrue};
+ghost use Rattle.std.specs.Prelude.{◌≡◌, ◌≤◌, IfOk, IsTrue};
 ghost use Rattle.bplint_json.specs.Findings.{status_of};
-ghost use Rattle.bplint.specs.ExitStatuses.{Counts, EndsWith, IsOrFails};
+ghost use Rattle.bplint.specs.ExitStatuses.{Counts, EndsWith, Fails, IsOrFails};
 ghost use Rattle.bplint.specs.Questions.{LintEnds};
 
 use crate::args::{Ask, Lint, Printed, Run};
@@ -225,11 +225,9 @@ impl<'a, R: Files<File = File> + Print + Eprint> Findings<'a, R> {
 }
 
 /// The path is not UTF-8.
-fn unnamed_ending(
-    alloc: Global,
-    path: &[u8],
-    explain: bool,
-) -> Result<(String, Ending), AllocError> {
+fn unnamed_ending(alloc: Global, path: &[u8], explain: bool) -> Result<(String, Ending), AllocError>
+    ensures { IfOk result (λ made. Fails made.1.answer) }
+{
     let shown = shown_octets(alloc, path)?;
     let prefix = format!(in alloc; "{shown}: ")?;
     let mut ending = Ending::with(alloc, RunFault::Open);

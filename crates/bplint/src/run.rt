@@ -166,13 +166,11 @@ pub fn answer<S: Source + Drop, C: Source + Drop, W: Write>(
         return Ending::with(alloc, RunFault::Memory);
     }
     let Ending { answer, under, .. } = ending;
-    match answer {
-        Err(fault) if line.explain => {
-            let under = under_fault(alloc, line, &mut file, &mut cert, &fault);
-            Ending::over(Err(fault), under)
-        }
-        answer => Ending::over(answer, under),
-    }
+    let under = match &answer {
+        Err(fault) if line.explain => under_fault(alloc, line, &mut file, &mut cert, fault),
+        _ => under,
+    };
+    Ending::over(answer, under)
 }
 
 /// Returns FILE too. CERT is empty if there is none.
