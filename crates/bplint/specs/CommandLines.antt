@@ -52,4 +52,5 @@ module _ (m : ArgMatches) where
   IsAskOf name asks.Textconv = (bytes_eq name (codes "certify") ≡ false) × (bytes_eq name (codes "check") ≡ false)
       × (bytes_eq name (codes "get") ≡ false) × (bytes_eq name (codes "print") ≡ false)
       × (bytes_eq name (codes "show") ≡ false) × (bytes_eq name (codes "ls") ≡ false)
-  IsAskOf name ask = ((bytes_eq name (codes "show") ≡ true) × IsShown ask) ⊎ ((bytes_eq name (codes "ls") ≡ true) × IsListed ask)
+  IsAskOf name ask = ((bytes_eq name (codes "show") ≡ true) × IsShown ask)
+      ⊎ ((bytes_eq name (codes "ls") ≡ true) × IsListed ask)

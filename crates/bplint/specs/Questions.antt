@@ -104,10 +104,11 @@ EndsUnanswered (asks.Raw path) f status = (status ≡ 1) × (n : ℕ) × IsRawle
 EndsUnanswered (asks.Certify sorted) f status = status ≡ 2
 EndsUnanswered _ f status = ⊥
 
--- the exit status of a run about f and cert: that of a right answer, or that of a run without one, or 3 or more, because
--- a read or a write failed or memory was refused
+-- the exit status of a run about f and cert: that of a right answer, or of a run without one, or 3 or more, because a
+-- read or a write failed or memory was refused
 abbrev pub StatusAsked : Ask → Bool → List ℕ → List ℕ → ℕ → Type 0
-StatusAsked ask hex f cert status = ∥ HasStatus (SaysAsked ask hex f cert) status ⊎ (EndsUnanswered ask f status ⊎ (3 ≤ status)) ∥₁
+StatusAsked ask hex f cert status =
+    ∥ HasStatus (SaysAsked ask hex f cert) status ⊎ (EndsUnanswered ask f status ⊎ (3 ≤ status)) ∥₁
 
 -- each exit status that the answer may have is right
 abbrev pub EndsAsked : Ask → Bool → List ℕ → List ℕ → Result Said RawFault → Type 0
@@ -117,7 +118,7 @@ EndsAsked ask hex f cert result = (status : ℕ) → EndsWith result status → 
 abbrev pub BreaksRule : List ℕ → Type 0
 BreaksRule f = ((fault : Fault) × IsFileFault f fault) ⊎ ((circle : List ℕ) × IsFileCircle f circle)
 
--- the exit status of `lint`: 0 for a sound file and 1 for one that breaks a rule, or 3 or more, because a read or a write
--- failed or memory was refused. No file is both sound and broken, so 0 means exactly the one and 1 exactly the other
+-- the exit status of `lint`: 0 for a sound file, 1 for one that breaks a rule, or 3 or more, because a read or a write
+-- failed or memory was refused. No file is both, so 0 means exactly that it is sound and 1 exactly that it is not
 abbrev pub LintEnds : List ℕ → ℕ → Type 0
 LintEnds f status = ∥ ((status ≡ 0) × IsSound f) ⊎ (((status ≡ 1) × BreaksRule f) ⊎ (3 ≤ status)) ∥₁

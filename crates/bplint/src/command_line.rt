@@ -130,7 +130,8 @@ fn run_of<'a>(
 ) -> Result<Run<'a>, Error>
     ensures asks { IfOk result (λ run. IsAskOf matches.now name.now run.ask) }
     ensures hex { IfOk result (λ run. IsFlag matches.now (codes "hex") run.hex) }
-    ensures cert { IfOk result (λ run. option_map (λ cert. cert.now) run.cert ≡ first_value (found_of matches.now) (codes "CERT")) }
+    ensures cert { IfOk result (λ run. option_map (λ cert. cert.now) run.cert
+        ≡ first_value (found_of matches.now) (codes "CERT")) }
 {
     let file = matches.get_str("FILE").unwrap_or("");
     Ok(Run {
