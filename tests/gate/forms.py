@@ -69,6 +69,7 @@ LONG_PATHS = {
 }
 MORE = {
     "show --paths-from": LONG_PATHS,
+    "show --readable": LONG_PATHS,
     "get, version 1": LONG_PATHS,
     "get, version 2": LONG_PATHS,
     "map --paths": {"map_paths": (READ, 96, MEMORY)},  # each path may have some 5,000 bytes

@@ -4,12 +4,14 @@
 Shows what PROGRAM writes for people: `--readable` in `show`, `ls` and `textconv`, `--sort`, `--tree` and
 `--files-from`.
 
-Dates are those of Python's datetime, and reals those of its repr. In git a file that was written twice, in two orders
-of keys and with one value changed, differs in two lines. The last line is `N passed, M failed`. The exit status is 1 if
-one failed.
+Dates are those of Python's datetime, and reals the decimals of its repr. The package's readable.py writes the same. In
+git a file that was written twice, in two orders of keys and with one value changed, differs in two lines. The last line
+is `N passed, M failed`. The exit status is 1 if one failed.
 """
 import datetime
+import decimal
 import hashlib
+import importlib.util
 import json
 import math
 import os
@@ -20,10 +22,20 @@ import subprocess
 import sys
 import tempfile
 
+ROOT = pathlib.Path(__file__).resolve().parents[2]
 START = datetime.datetime(2001, 1, 1)
-REALS = [0.0, -0.0, 1.0, 3.25, -3.25, 0.1, 1e16, 1e17, 1e-7, 123456789.125, 5e-324, 1.7976931348623157e308, 2.0**53, math.pi]
-DATES = [0.0, 1.0, -1.0, 0.5, -0.5, 0.125, 730902896.0, -63113904000.0, 252423993599.0, 730902896.75, -978307200.25, 86399.0]
-OTHERS = [252423993600.0, -63113904001.0, 1e300, -1e300, math.inf, -math.inf, math.nan]
+REALS = [0.0, 1.0, 3.25, 0.1, 1e16, 1e17, 1e-7, 123456789.125, 2.0**53, math.pi, 1e23, 5e-324, 2.2250738585072014e-308]
+REALS += [sys.float_info.max, math.inf]
+LARGEST = decimal.Decimal("3.4028235e38")
+NARROW = [0.0, 0.1, 1.5, 16777216.0, 1e10, 1e-45, 1.1754944e-38, float(LARGEST)]
+OTHER_REALS = [(0x22, "7f800000", "inf in 4 bytes"), (0x22, "ff800000", "-inf in 4 bytes")]
+OTHER_REALS += [(0x22, nan, nan) for nan in ("7fc00000", "ff800001")]
+OTHER_REALS += [(0x23, nan, nan) for nan in ("7ff8000000000001", "fff0000000000001")]
+# The ends of year 1 and of year 9999, the beginning of 2001, and dates before it.
+DATES = [-63113904000.0, -63113903999.5, 252423993599.0, 252423993599.5, 0.0, 1.0, -1.0, 0.5, -0.5, 0.125, 0.00001]
+DATES += [-0.00001, 730902896.0, 730902896.75, -978307200.25, 86399.0]
+OTHERS = [-63113904001.0, -63113904000.5, 252423993600.0, -0.0, 9e-6, -9e-6, 1e300, -1e300]
+OTHERS += [math.inf, -math.inf, math.nan]
 
 
 def leaf(marker, octets):
@@ -72,38 +84,61 @@ def date_words(seconds):
     return f"date {front}.{fraction}Z" if fraction else f"date {front}Z"
 
 
-def test_leaves(cases):
-    for real in REALS:
-        text = cases.shown(leaf(0x23, struct.pack(">d", real)))
-        word, _, digits = text.partition(" ")
-        cases.expect("kind", word, "real")
-        cases.expect("bits of the decimal", struct.pack(">d", float(digits)), struct.pack(">d", real))
-        cases.expect("shortest", len(digits.replace(".0", "").rstrip("0")) <= len(repr(real)), True)
-        if abs(real) < 1e16 and abs(real) >= 1e-4 or real == 0:
-            cases.expect("repr", digits, repr(real))
-    for real in [0.1, 1.5, -2.0]:
-        narrow = struct.unpack(">f", struct.pack(">f", real))[0]
-        digits = cases.shown(leaf(0x22, struct.pack(">f", real))).removeprefix("real ").removesuffix(" in 4 bytes")
-        cases.expect("4 bytes", struct.pack(">f", float(digits)), struct.pack(">f", narrow))
-    for marker, octets, wanted in [
-        (0x23, struct.pack(">d", math.inf), "real inf"),
-        (0x23, struct.pack(">d", -math.inf), "real -inf"),
-        (0x23, bytes.fromhex("7ff8000000000001"), "real 7ff8000000000001"),
-        (0x22, bytes.fromhex("7fc00000"), "real 7fc00000"),
-        (0x33, bytes.fromhex("8000000000000000"), "date 8000000000000000"),
-    ]:
-        cases.expect("bits", cases.shown(leaf(marker, octets)), wanted)
-    for seconds in DATES:
-        cases.expect(f"date {seconds}", cases.shown(leaf(0x33, struct.pack(">d", seconds))), date_words(seconds))
-    for seconds in OTHERS:
+def package():
+    """The readable.py of the Python package, which needs no library."""
+    spec = importlib.util.spec_from_file_location("readable", ROOT / "python/bplist/readable.py")
+    module = importlib.util.module_from_spec(spec)
+    spec.loader.exec_module(module)
+    return module
+
+
+def narrowest(octets):
+    """The shortest decimal of a finite real of 4 bytes."""
+    (number,) = struct.unpack(">f", octets)
+    tries = (decimal.Decimal(f"{number:.{digits}g}") for digits in range(1, 10))
+    return next(shown for shown in tries if abs(shown) <= LARGEST and struct.pack(">f", float(shown)) == octets)
+
+
+def test_reals(cases):
+    readable = package()
+    for real in [sign * real for real in REALS for sign in (1, -1)]:
+        octets = struct.pack(">d", real)
+        text = cases.shown(leaf(0x23, octets))
+        word, digits = text.split(" ")
+        cases.expect("real", (word, struct.pack(">d", float(digits))), ("real", octets))
+        cases.expect("repr", decimal.Decimal(digits), decimal.Decimal(repr(real)))
+        cases.expect("package", f"real {readable.real(octets)}", text)
+    for real in [sign * real for real in NARROW for sign in (1, -1)]:
+        octets = struct.pack(">f", real)
+        text = cases.shown(leaf(0x22, octets))
+        digits = text.removeprefix("real ").removesuffix(" in 4 bytes")
+        cases.expect("4 bytes", (len(text), struct.pack(">f", float(digits))), (len(digits) + 16, octets))
+        cases.expect("shortest", decimal.Decimal(digits), narrowest(octets))
+        cases.expect("package", f"real {readable.real(octets)}", text)
+    for marker, bits, wanted in OTHER_REALS:
+        text = cases.shown(leaf(marker, bytes.fromhex(bits)))
+        cases.expect(bits, (text, readable.real(bytes.fromhex(bits))), (f"real {wanted}", wanted))
+
+
+def test_dates(cases):
+    readable = package()
+    for seconds in DATES + OTHERS:
         octets = struct.pack(">d", seconds)
-        cases.expect("no calendar", cases.shown(leaf(0x33, octets)), f"date {octets.hex()}")
+        text = cases.shown(leaf(0x33, octets))
+        wanted = date_words(seconds) if seconds in DATES and octets != readable.MINUS_ZERO else f"date {octets.hex()}"
+        cases.expect(f"date {seconds}", text, wanted)
+        cases.expect("package", f"date {readable.date(octets)}", text)
+
+
+def test_octets(cases):
+    readable = package()
     for size in [0, 1, 1024, 1025, 100000]:
         octets = os.urandom(size)
         text = cases.shown(plistlib.dumps(octets, fmt=plistlib.FMT_BINARY))
         digest = hashlib.sha256(octets).hexdigest()
         long = f"data <{octets[:32].hex()}..> {size} bytes sha256 {digest}"
         cases.expect("data", text, long if size > 1024 else f"data <{octets.hex()}>")
+        cases.expect("package", f"data {readable.data(octets)}", text)
     cases.expect("text", cases.shown(plistlib.dumps("日本", fmt=plistlib.FMT_BINARY)), 'text "日本"')
 
 
@@ -111,20 +146,21 @@ def test_order(cases):
     units = {"b": 1, "a": 2, "B": 3, "é": 4, "\U0001f600": 5, "\uffff": 6, "aa": 7, "": 8}
     path = cases.file("order", plistlib.dumps({"top": units}, fmt=plistlib.FMT_BINARY, sort_keys=False))
     wanted = sorted(units, key=lambda key: key.encode("utf-16-be"))
-    for words in [["ls", "--sort"], ["ls", "--sort", "--json"], ["ls", "--sort", "--objects"], ["ls", "--sort", "--utf8"]]:
-        lines = run(cases.program, *words, path, "/top").stdout.decode().splitlines()
-        if "--json" in words:
+    for form in [[], ["--json"], ["--objects"], ["--utf8"]]:
+        words = ["ls", "--sort", *form, path, "/top"]
+        lines = run(cases.program, *words).stdout.decode().splitlines()
+        if form == ["--json"]:
             found = [json.loads(line)["path"].removeprefix("/top/") for line in lines]
         else:
             found = [line.split("\t")[0].removeprefix("/top/") for line in lines]
-        cases.expect(" ".join(words), found, wanted)
-    plain = run(cases.program, "ls", path, "/top").stdout.splitlines()
-    cases.expect("the same lines", sorted(run(cases.program, "ls", "--sort", path, "/top").stdout.splitlines()), sorted(plain))
+        cases.expect(f"sorted {form}", found, wanted)
+        plain = run(cases.program, "ls", *form, path, "/top").stdout.decode().splitlines()
+        cases.expect(f"the same lines {form}", sorted(lines), sorted(plain))
     nested = {"z": [{"q": 1, "p": {"n": True, "m": b"x"}}], "a": "first"}
     path = cases.file("nested", plistlib.dumps(nested, fmt=plistlib.FMT_BINARY, sort_keys=False))
     lines = run(cases.program, "ls", "--tree", "--sort", path).stdout.decode()
-    wanted = "dict 2\n  a: text first\n  z: array 1\n    0: dict 2\n      p: dict 2\n        m: data <78>\n        n: true\n      q: int 1\n"
-    cases.expect("tree", lines, wanted)
+    wanted = "dict 2\n  a: text first\n  z: array 1\n    0: dict 2\n      p: dict 2\n        m: data <78>\n"
+    cases.expect("tree", lines, f"{wanted}        n: true\n      q: int 1\n")
     part = run(cases.program, "ls", "--tree", "--sort", path, "/z/0/p").stdout.decode()
     cases.expect("part of the tree", part, "z/0/p: dict 2\n  m: data <78>\n  n: true\n")
     deep = run(cases.program, "ls", "-R", "--readable", "--sort", path).stdout
@@ -170,7 +206,8 @@ def test_lists(cases):
     cases.expect("ls of the whole", ran.stdout, b"one: /a\tint 1\none: /b\tarray 1\n")
     ran = run(cases.program, "ls", "--json", "--files-from", "-", "/b", input=b"one\ntwo words\n", **here)
     found = [json.loads(line) for line in ran.stdout.splitlines()]
-    cases.expect("json", [(row["file"], row["path"], row["value"]) for row in found], [("one", "/b/0", 2), ("two words", "/b/0", 2)])
+    rows = [(row["file"], row["path"], row["value"]) for row in found]
+    cases.expect("json", rows, [("one", "/b/0", 2), ("two words", "/b/0", 2)])
     ran = run(cases.program, "ls", "--json", "-H", "one", "/none", **here)
     cases.expect("missing", json.loads(ran.stdout), {"file": "one", "path": "/none", "missing": "NoKey", "step": 0})
     ran = run(cases.program, "ls", "--json", "one", "/b", **here)
@@ -178,15 +215,15 @@ def test_lists(cases):
     cases.file("paths", b"/a\n/c\n")
     ran = run(cases.program, "show", "--files-from", "-", "--paths-from", "paths", input=b"one\n", **here)
     cases.expect("paths", ran.stdout, b"one: /a\tint 1\none: /c\tmissing 0 NoKey\n")
-    for words in [["ls", "--files-from", "list", "/a", "/b"], ["show", "--raw", "--files-from", "list"], ["show"], ["ls"]]:
-        cases.expect(" ".join(words), run(cases.program, *words, **here).returncode, 2)
+    for words in ["ls --files-from list /a /b", "show --raw --files-from list", "show", "ls"]:
+        cases.expect(words, run(cases.program, *words.split(), **here).returncode, 2)
 
 
 def main():
     program = str(pathlib.Path(sys.argv[1]).resolve())
     with tempfile.TemporaryDirectory() as name:
         cases = Cases(program, pathlib.Path(name))
-        for test in [test_leaves, test_order, test_git, test_lists]:
+        for test in [test_reals, test_dates, test_octets, test_order, test_git, test_lists]:
             test(cases)
     print(f"{cases.passed} passed, {cases.failed} failed")
     return 1 if cases.failed else 0

@@ -1,16 +1,16 @@
 //! What `lint` says of each file: its line or its fault, its name alone, or nothing. A run counts its files, and keeps
 //! the greatest exit status.
 
-ghost use Rattle.std.specs.Prelude.{◌≡◌, ◌≤◌, IfOk, IsTrue};
+ghost use Rattle.std.specs.Prelude.{◌≡◌, ◌≤◌, IsTrue};
 ghost use Rattle.bplint_json.specs.Findings.{status_of};
-ghost use Rattle.bplint.specs.ExitStatuses.{Counts, EndsWith, Fails, IsOrFails};
+ghost use Rattle.bplint.specs.ExitStatuses.{Counts, EndsWith, IsOrFails};
 ghost use Rattle.bplint.specs.Questions.{LintEnds};
 
 use crate::args::{Ask, Lint, Printed, Run};
 use crate::ending::{Ending, end};
-use crate::folders::{shown_name, shown_octets};
+use crate::folders::shown_name;
 use crate::output::{NoOut, OutFile, Replaces};
-use crate::reasons::{completed, prefix_of};
+use crate::reasons::{completed, prefix_of, unnamed_ending};
 use crate::run::answer;
 use crate::tally::Tally;
 use crate::unread::Unread;
@@ -222,17 +222,4 @@ impl<'a, R: Files<File = File> + Print + Eprint> Findings<'a, R> {
     fn prefix_of(&self, name: &str) -> Result<String, AllocError> {
         prefix_of(self.alloc, name, self.lint.named)
     }
-}
-
-/// The path is not UTF-8.
-fn unnamed_ending(alloc: Global, path: &[u8], explain: bool) -> Result<(String, Ending), AllocError>
-    ensures { IfOk result (λ made. Fails made.1.answer) }
-{
-    let shown = shown_octets(alloc, path)?;
-    let prefix = format!(in alloc; "{shown}: ")?;
-    let mut ending = Ending::with(alloc, RunFault::Open);
-    if explain {
-        ending.under.push_str("  file: its name is not UTF-8\n")?;
-    }
-    Ok((prefix, ending))
 }

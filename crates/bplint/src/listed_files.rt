@@ -6,14 +6,15 @@ use crate::args::Run;
 use crate::ending::{Ending, end};
 use crate::input::{open_inputs, read_input};
 use crate::lists::with_listed_paths;
-use crate::reasons::{octets_prefix, prefix_of};
+use crate::reasons::{prefix_of, unnamed_ending};
 use crate::run::{Ended, run, run_opened};
 use crate::unread::Unread;
 use bplint_lines::RunFault;
 use std::alloc::Global;
 use std::fs::{File, Files};
 
-/// Answers what is asked about FILE, or about the FILEs of a list. Returns the exit status.
+/// Answers what is asked about FILE, or about the FILEs of a list. Returns the exit status, which for a list is the
+/// greatest of all.
 pub fn run_all<R: Files<File = File> + Input + Print + Eprint>(
     rt: &R,
     alloc: Global,
@@ -21,21 +22,9 @@ pub fn run_all<R: Files<File = File> + Input + Print + Eprint>(
 ) -> u8
     ensures { result ≤ 4 }
 {
-    match line.files_from {
-        None => run(rt, alloc, line),
-        Some(list) => run_list(rt, alloc, line, list),
-    }
-}
-
-/// Returns the greatest of the exit statuses.
-fn run_list<R: Files<File = File> + Input + Print + Eprint>(
-    rt: &R,
-    alloc: Global,
-    line: Run<'_>,
-    list: &str,
-) -> u8
-    ensures { result ≤ 4 }
-{
+    let Some(list) = line.files_from else {
+        return run(rt, alloc, line);
+    };
     let line = match with_listed_paths(rt, alloc, line) {
         Ok(line) => line,
         Err(status) => return status,
@@ -67,7 +56,7 @@ fn run_names<'a, R: Files<File = File> + Input + Print + Eprint>(
                 line.file = name;
                 run_named(rt, alloc, &mut line)
             }
-            Err(_) => refuse_name(rt, alloc, name),
+            Err(_) => refuse_name(rt, alloc, name, line.explain),
         };
         greatest = ended.status.max(greatest);
         if ended.is_closed {
@@ -98,14 +87,12 @@ fn run_named<R: Files<File = File> + Input + Print + Eprint>(
     }
 }
 
-/// No file can be opened by a name that is not UTF-8.
-fn refuse_name<R: Eprint>(rt: &R, alloc: Global, name: &[u8]) -> Ended
+/// The name is not UTF-8.
+fn refuse_name<R: Eprint>(rt: &R, alloc: Global, name: &[u8], explain: bool) -> Ended
     ensures { result.status ≤ 4 }
 {
-    let ending = Ending::with(alloc, RunFault::Open);
-    let status = match octets_prefix(alloc, name) {
-        Ok(prefix) => end(rt, alloc, &prefix, ending),
-        Err(_) => end(rt, alloc, "", ending),
-    };
-    Ended::with(status)
+    Ended::with(match unnamed_ending(alloc, name, explain) {
+        Ok((prefix, ending)) => end(rt, alloc, &prefix, ending),
+        Err(_) => end(rt, alloc, "", Ending::with(alloc, RunFault::Memory)),
+    })
 }

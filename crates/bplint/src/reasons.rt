@@ -1,7 +1,8 @@
 //! What is below the line of a fault: the name of the file, the path text that is wrong, the value that has not the
 //! form that was asked for, and why the system failed.
 
-ghost use Rattle.bplint.specs.ExitStatuses.{IsStillEnd};
+ghost use Rattle.std.specs.Prelude.{IfOk};
+ghost use Rattle.bplint.specs.ExitStatuses.{Fails, IsStillEnd};
 
 use crate::args::{Ask, Run};
 use crate::ending::Ending;
@@ -32,10 +33,21 @@ pub fn prefix_of(alloc: Global, name: &str, named: bool) -> Result<String, Alloc
     format!(in alloc; "{shown}: ")
 }
 
-/// The same for a name that is not UTF-8.
-pub fn octets_prefix(alloc: Global, name: &[u8]) -> Result<String, AllocError> {
+/// Returns what begins the lines of a file whose name is not UTF-8, and how its run ends, since it cannot be opened.
+pub fn unnamed_ending(
+    alloc: Global,
+    name: &[u8],
+    explain: bool,
+) -> Result<(String, Ending), AllocError>
+    ensures { IfOk result (λ made. Fails made.1.answer) }
+{
     let shown = shown_octets(alloc, name)?;
-    format!(in alloc; "{shown}: ")
+    let prefix = format!(in alloc; "{shown}: ")?;
+    let mut ending = Ending::with(alloc, RunFault::Open);
+    if explain {
+        ending.under.push_str("  file: its name is not UTF-8\n")?;
+    }
+    Ok((prefix, ending))
 }
 
 /// Completes the end of a run whose answer went to OUT: a fault gets the name of its file, or why OUT could not be

@@ -1,5 +1,5 @@
 -- The raw bytes of values, by the heads of their objects.
-use Rattle.std.proofs.Common.{◌≡◌, ◌⊎◌, inl, inr, ℕ, List, Some, None, ap, refl, ◌∙◌, true, false}
+use Rattle.std.proofs.Common.{◌≡◌, ◌⊎◌, inl, inr, ℕ, List, Some, ap, refl, ◌∙◌, false}
 use Rattle.std.specs.Prelude.{encode_utf8_all}
 use Rattle.std.specs.Char.Utf16.{has_unpaired_surrogate, utf16_lossy_chars}
 use Rattle.bplist_octets.specs.Octets.{part}
@@ -58,6 +58,3 @@ module _ (f : List ℕ) (F : Frame) where
 -- a text whose surrogates all have partners
 pub paired_raw : (units : List ℕ) → has_unpaired_surrogate units ≡ false → utf8_of_units units ≡ Some (encode_utf8_all (utf16_lossy_chars units))
 paired_raw units h = rw h refl
-
-pub unpaired_raw : (units : List ℕ) → has_unpaired_surrogate units ≡ true → utf8_of_units units ≡ None
-unpaired_raw units h = rw h refl

@@ -1,5 +1,5 @@
 -- Different numbers, bytes, texts and keys are written differently.
-use Rattle.std.proofs.Common.{◌≡◌, ◌<◌, ◌≤◌, ◌+◌, ◌-◌, ◌*◌, ◌/◌, ◌%◌, ◌^◌, ◌⊎◌, inl, inr, ℕ, zero, suc, List, [], ◌∷◌, ◌++◌, Bool, true, false, cond, not, ◌||◌, ◌&&◌, nat_le, nat_lt, Option, None, Some, is_some, slice_index, take, drop, refl, sym, ap, ◌∙◌, subst, arith, append_assoc, append-nil}
+use Rattle.std.proofs.Common.{◌≡◌, ◌<◌, ◌≤◌, ◌+◌, ◌-◌, ◌/◌, ◌%◌, ◌^◌, ◌⊎◌, inl, inr, ℕ, zero, suc, List, [], ◌∷◌, ◌++◌, Bool, true, false, cond, not, ◌||◌, ◌&&◌, nat_le, nat_lt, Option, None, Some, is_some, slice_index, take, drop, refl, sym, ap, ◌∙◌, subst, arith, append_assoc, append-nil}
 use lib.Utf8.{encode}
 use Rattle.std.specs.Prelude.{◌==◌, ℤ, pos, negsuc, encode_utf8, encode_utf8_all}
 use Rattle.std.specs.Int.Signed.{mag}

@@ -1,8 +1,7 @@
 -- Values that files hold have numbers, bytes and units in the ranges of the format.
-use Rattle.std.proofs.Common.{◌≡◌, ℕ, zero, suc, ◌+◌, ◌^◌, ◌<◌, ◌≤◌, ◌||◌, inl, inr, List, [], ◌∷◌, Bool, true, false, cond, length, slice_index, drop, nat_le, nat_lt, ℤ, pos, negsuc, ◌-ℤ◌, refl, sym, ap, subst, arith}
+use Rattle.std.proofs.Common.{◌≡◌, ℕ, zero, suc, ◌+◌, ◌^◌, ◌<◌, ◌≤◌, ◌||◌, inl, inr, List, [], ◌∷◌, Bool, true, false, cond, length, slice_index, drop, nat_le, nat_lt, ℤ, pos, negsuc, ◌-ℤ◌, refl, sym, subst, arith}
 use Rattle.std.specs.Prelude.{⊤}
 use Rattle.std.specs.Int.Signed.{mag}
-use Rattle.std.specs.List.{AllByRecursion}
 use Rattle.std.proofs.Math.Nat.{pow-le-pow_right}
 use Rattle.std.proofs.lemmas.Bool.{cases_lt}
 use Rattle.std.proofs.lemmas.Int.{ints}

@@ -30,7 +30,10 @@ pub(crate) fn line_of(
 ) -> Result<Vec<u8>, AllocError> {
     let mut line = Vec::from_slice(alloc, name.as_bytes())?;
     line.push(b'\t')?;
-    add_value(alloc, values, shown, &mut line)?;
+    match values {
+        Values::Exact(style) => add_face(alloc, style, shown, &mut line)?,
+        Values::Readable => add_readable(alloc, shown, &mut line)?,
+    }
     Ok(line)
 }
 
@@ -52,10 +55,7 @@ pub(crate) fn indented(
     name: &str,
     shown: &Face,
 ) -> Result<Vec<u8>, AllocError> {
-    let mut line = Vec::new(alloc);
-    for _ in 0..depth {
-        line.extend_from_slice(b"  ")?;
-    }
+    let mut line = vec![in alloc; b' '; depth.saturating_mul(2)]?;
     let name = name.strip_prefix('/').unwrap_or(name);
     if depth > 0 || !name.is_empty() {
         line.extend_from_slice(name.as_bytes())?;
@@ -72,16 +72,4 @@ pub(crate) fn missing_line(alloc: Global, step: u64, why: Why) -> Result<Vec<u8>
     let mut line = Vec::new(alloc);
     add_missing(alloc, step, why, &mut line)?;
     Ok(line)
-}
-
-fn add_value(
-    alloc: Global,
-    values: Values,
-    shown: &Face,
-    line: &mut Vec<u8>,
-) -> Result<(), AllocError> {
-    match values {
-        Values::Exact(style) => add_face(alloc, style, shown, line),
-        Values::Readable => add_readable(alloc, shown, line),
-    }
 }

@@ -83,7 +83,7 @@ pub fn list_rows_on<S: Source, W: Write>(
     match linted(alloc, src, listed.sorted) {
         Ok(mut checked) => {
             let made = match Listing::new(alloc, listed, file, out) {
-                Ok(mut listing) => listing.list_path(&mut checked, &steps, listed),
+                Ok(mut listing) => listing.list_path(&mut checked, &steps),
                 Err(_) => Err(RunFault::Memory),
             };
             (made, checked.into_parts().0)
@@ -113,12 +113,11 @@ struct Opened {
 
 /// The state of a listing.
 #[derive(Drop)]
-struct Listing<'f, 'o, W> {
+struct Listing<'l, 'o, W> {
     alloc: Global,
-    form: Form,
-    sorted: bool,
+    listed: &'l Listed<'l>,
     /// The name of the file that JSON objects have.
-    file: Option<&'f str>,
+    file: Option<&'l str>,
     /// The containers around the current node, the outermost first.
     stack: Vec<Opened>,
     names: Names,
@@ -126,17 +125,16 @@ struct Listing<'f, 'o, W> {
     out: &'o mut W,
 }
 
-impl<'f, 'o, W: Write> Listing<'f, 'o, W> {
+impl<'l, 'o, W: Write> Listing<'l, 'o, W> {
     fn new(
         alloc: Global,
-        listed: &Listed<'_>,
-        file: Option<&'f str>,
+        listed: &'l Listed<'l>,
+        file: Option<&'l str>,
         out: &'o mut W,
-    ) -> Result<Listing<'f, 'o, W>, AllocError> {
+    ) -> Result<Listing<'l, 'o, W>, AllocError> {
         Ok(Listing {
             alloc,
-            form: listed.form,
-            sorted: listed.sorted,
+            listed,
             file,
             stack: Vec::new(alloc),
             names: Names::new(alloc, listed.form, listed.path)?,
@@ -149,16 +147,15 @@ impl<'f, 'o, W: Write> Listing<'f, 'o, W> {
         &mut self,
         checked: &mut Checked<S>,
         steps: &Path,
-        listed: &Listed<'_>,
     ) -> Result<Said, RunFault> {
         let said = match locate(checked, steps)? {
             Found::At(node) => {
-                self.list(checked, node, listed.depth)?;
+                self.list(checked, node)?;
                 Said::All
             }
             Found::Missing { step, why } => {
-                let row = match self.form {
-                    Form::Json => missing_row(self.alloc, self.file, listed.path, (step, why))?,
+                let row = match self.listed.form {
+                    Form::Json => missing_row(self.alloc, self.file, self.listed.path, step, why)?,
                     _ => missing_line(self.alloc, step, why)?,
                 };
                 self.put(row)?;
@@ -169,15 +166,10 @@ impl<'f, 'o, W: Write> Listing<'f, 'o, W> {
         Ok(said)
     }
 
-    fn list<S: Source>(
-        &mut self,
-        checked: &mut Checked<S>,
-        node: Node,
-        depth: Depth,
-    ) -> Result<(), RunFault> {
+    fn list<S: Source>(&mut self, checked: &mut Checked<S>, node: Node) -> Result<(), RunFault> {
         let name = self.names.whole();
         let shown = face(self.alloc, checked, node)?;
-        match depth {
+        match self.listed.depth {
             Depth::Members => match opened_by(node, &shown, name) {
                 Some(opened) => self.list_members(checked, opened),
                 None => self.put_row(checked, node, name, &shown),
@@ -279,7 +271,7 @@ impl<'f, 'o, W: Write> Listing<'f, 'o, W> {
         checked: &Checked<S>,
         opened: &Opened,
     ) -> Result<u64, CursorFault> {
-        if !self.sorted {
+        if !self.listed.sorted {
             return Ok(opened.next);
         }
         listed_pair(checked, opened.node, opened.next).ok_or(CursorFault::Changed)
@@ -293,7 +285,7 @@ impl<'f, 'o, W: Write> Listing<'f, 'o, W> {
         shown: &Face,
     ) -> Result<(), RunFault> {
         let (alloc, text) = (self.alloc, self.names.get(name));
-        let row = match self.form {
+        let row = match self.listed.form {
             Form::Json => self.json_row(name, shown, site_of(checked, node)?)?,
             Form::Lines(values) => line_of(alloc, values, text, shown)?,
             Form::Columns(values) => {

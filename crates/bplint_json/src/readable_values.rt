@@ -50,25 +50,15 @@ fn date_words(alloc: Global, bytes: &[u8]) -> Result<Option<String>, AllocError>
 /// The width of a real of 4 bytes stands behind it, since one of 8 bytes may have the same decimal.
 fn real_words(alloc: Global, bytes: &[u8]) -> Result<Option<String>, AllocError> {
     let mut buffer = Buffer::new();
-    match bytes.len() {
-        4 => {
-            let number = BigEndian::read_f32(bytes);
-            if number.is_nan() {
-                return Ok(None);
-            }
-            let digits = buffer.format(number);
-            Ok(Some(format!(in alloc; "real {digits} in 4 bytes")?))
-        }
-        8 => {
-            let number = BigEndian::read_f64(bytes);
-            if number.is_nan() {
-                return Ok(None);
-            }
-            let digits = buffer.format(number);
-            Ok(Some(format!(in alloc; "real {digits}")?))
-        }
-        _ => Ok(None),
+    let (digits, width) = match bytes.len() {
+        4 => (buffer.format(BigEndian::read_f32(bytes)), " in 4 bytes"),
+        8 => (buffer.format(BigEndian::read_f64(bytes)), ""),
+        _ => return Ok(None),
+    };
+    if digits == "NaN" {
+        return Ok(None);
     }
+    Ok(Some(format!(in alloc; "real {digits}{width}")?))
 }
 
 fn data_words(alloc: Global, bytes: &[u8]) -> Result<Option<String>, AllocError> {

@@ -307,14 +307,14 @@ fn add_part(alloc: Global, part: &str, row: &mut Vec<u8>) -> Result<(), AllocErr
     }
 }
 
-/// Returns the line for a path that leads nowhere, without its line feed: which step does not lead on, and why.
+/// Returns the line for a path that leads nowhere, without its line feed.
 pub(crate) fn missing_row<'a>(
     alloc: Global,
     file: Option<&'a str>,
     path: &'a str,
-    reason: (u64, Why),
+    step: u64,
+    why: Why,
 ) -> Result<Vec<u8>, AllocError> {
-    let (step, why) = reason;
     let missing = reason_of(why);
     json_of(
         alloc,

@@ -1,5 +1,5 @@
 -- The result of opening a file: the linter's answer, or that of a certificate, after its session is kept.
-use Rattle.std.proofs.Common.{◌≡◌, ◌∙◌, ap, ℕ, List, Bool, IsSome, IsTrue, Result, Ok, Err, inl, inr, refl, subst, sym}
+use Rattle.std.proofs.Common.{◌≡◌, ◌∙◌, ℕ, List, Bool, IsSome, IsTrue, Result, Ok, Err, inl, inr, refl, subst, sym}
 use Rattle.std.specs.Prelude.{MatchResult}
 use denote.Ref.{Bor}
 use Rattle.bplist_octets.specs.Meaning.{Meaning}

@@ -1,10 +1,10 @@
 //! Opens and closes handles.
 
-ghost use Rattle.std.specs.Prelude.{◌≡◌, ◌≢◌, ◌⊎◌, ⊤, ℕ, Bool, List, None, Ok, Result, IsSome, MatchResult, false};
+ghost use Rattle.std.specs.Prelude.{◌≡◌, ◌≢◌, ⊤, ℕ, Bool, List, None, Ok, Result, IsSome, MatchResult, false};
 ghost use Rattle.bplist_c.specs.Prelude.{source_over, IsVouchingFault, IsChecked, octets_of as certificate_octets};
 ghost use Rattle.bplist_c.specs.Prelude.{IsCertificate, Lint as lint_answer, LintRefusal as lint_refusal};
 ghost use Rattle.bplist_c.specs.Prelude.{IsFileFault, IsFileCircle, IsLinted, Lints, no_circle, Status as status};
-ghost use Rattle.bplist_c.specs.Prelude.{Closed, Memory, Opened, CertificateSays, IsCheckedFor, IsOpened, IsPair, IsSame};
+ghost use Rattle.bplist_c.specs.Prelude.{Closed, Memory, Opened, CertificateSays, IsOpened, IsPair, IsSame};
 ghost use Rattle.bplist_c.specs.Prelude.{PutsItems, items_of, status_number as number, NO_VERDICT, ShowsLint};
 ghost use Rattle.bplist_c.specs.Prelude.{Accepts, KeepsHandle};
 ghost use Rattle.bplist_cert.specs.declared.certificate.CertRefusal.TheVariants as refusals;

@@ -42,12 +42,6 @@ pub record AreRising (n : ℕ) (order : List ℕ) : Type 0 where
   pub below : (m : ℕ) → Contains order m → m < n
   pub once : AreOnce n order
 
-pub rising_none : AreRising 0 []
-rising_none = record {
-  below = λ m c. absurd (omega (arith, c.1));
-  once = record { differ = λ i j d a b. absurd (omega (arith, b)); few = omega arith };
-}
-
 -- one more
 pub rising_more : (n : ℕ) (order : List ℕ) → AreRising n order → AreRising (n + 1) (order ++ n ∷ [])
 rising_more n order r = record {

@@ -6,7 +6,7 @@ use Rattle.bplist_objects.specs.declared.frame.Frame.{Frame}
 use Rattle.bplist_objects.specs.declared.head.Head.{Head}
 use Rattle.bplist_objects.specs.declared.head.Kind.TheVariants.{Dict}
 use Rattle.bplist_objects.specs.Extents.{Sums}
-use Rattle.bplist_objects.specs.Frame.{off, IsFrame}
+use Rattle.bplist_objects.specs.Frame.{off}
 use Rattle.bplist_objects.specs.Heads.{HasShape}
 use Rattle.bplist_objects.specs.Reach.{Reach}
 use Rattle.bplist_objects.specs.Safe.{ref_count}

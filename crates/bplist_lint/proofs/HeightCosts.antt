@@ -1,5 +1,5 @@
 -- What the walk that finds the least heights may ask for.
-use Rattle.std.proofs.Common.{◌≡◌, ◌≢◌, ℕ, zero, suc, ◌+◌, ◌-◌, ◌*◌, ◌<◌, ◌≤◌, inl, inr, Bool, true, false, cond, List, length, replicate, set, slice_index, slice_index_or, sum_by, refl, sym, ap, ◌∙◌, arith}
+use Rattle.std.proofs.Common.{◌≡◌, ◌≢◌, ℕ, zero, suc, ◌+◌, ◌-◌, ◌*◌, ◌<◌, ◌≤◌, inl, inr, Bool, true, false, cond, List, length, replicate, set, slice_index, slice_index_or, refl, sym, ap, ◌∙◌, arith}
 use Rattle.std.proofs.Math.Nat.{add-mul, mul-add, mul-le-mul_right}
 use Rattle.std.proofs.lemmas.Bool.{cases_eq, cases_lt}
 use Rattle.std.proofs.lemmas.List.{get_or-set_same, get_or-set_other}
@@ -7,7 +7,7 @@ use Rattle.bplist_keys.specs.Marks.{IsMarked}
 use Rattle.bplist_lint.proofs.RangeSums.{sum_below, sum_next, sum_on}
 use Rattle.bplist_lint.specs.HeightWalks.{state_at, resumed, left_for, left_below, Standing, HasMet}
 use Rattle.bplist_lint.specs.declared.heights.State.{State}
-use Rattle.bplist_lint.specs.declared.heights.State.TheVariants.{New, Open, Founded, Circular}
+use Rattle.bplist_lint.specs.declared.heights.State.TheVariants.{New, Open}
 use Rattle.bplist_lint.proofs.HeightSteps.{stays_known}
 use Rattle.bplist_lint.proofs.ListWrites.{at_set, unwritten}
 use Rattle.bplist_lint.specs.Trail.{trail_bytes}

@@ -1,5 +1,5 @@
 -- What one turn of the walk that finds the least heights may ask for.
-use Rattle.std.proofs.Common.{◌≡◌, ℕ, ◌+◌, ◌-◌, ◌*◌, ◌<◌, ◌≤◌, inl, inr, List, length, slice_index, sym, ap, ◌∙◌, arith}
+use Rattle.std.proofs.Common.{◌≡◌, ℕ, ◌+◌, ◌-◌, ◌*◌, ◌≤◌, inl, inr, List, length, slice_index, sym, ap, ◌∙◌, arith}
 use Rattle.std.proofs.lemmas.Bool.{cases_lt}
 use Rattle.bplist_lint.specs.HeightWalks.{state_at, resumed, scan_bytes, turn_bytes, Finds, GoesOn, HasMet, Passes, Shows}
 use Rattle.bplist_lint.specs.declared.heights.ScanResult.{ScanResult}

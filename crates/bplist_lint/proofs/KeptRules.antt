@@ -1,8 +1,7 @@
 -- A file is well formed exactly if its reached objects keep their rules and its top is founded.
-use Rattle.std.proofs.Common.{◌≡◌, ℕ, ◌<◌, ◌≤◌, ◌+◌, ◌++◌, inl, inr, true, false, List, [], ◌∷◌, None, subst, arith}
+use Rattle.std.proofs.Common.{◌≡◌, ℕ, ◌<◌, ◌≤◌, ◌+◌, ◌++◌, inl, inr, List, [], ◌∷◌, None, subst, arith}
 use Rattle.std.specs.List.{AllByRecursion}
 use Rattle.std.proofs.lemmas.Bool.{cases_lt}
-use Rattle.std.proofs.lemmas.List.{get_or-replicate}
 use Rattle.bplist_objects.specs.declared.rule.Rule.TheVariants as rules
 use Rattle.bplist_objects.specs.declared.frame.Frame.{Frame}
 use Rattle.bplist_objects.specs.declared.head.Head.{Head}
@@ -13,7 +12,6 @@ use Rattle.bplist_objects.specs.Announced.{HasHead}
 use Rattle.bplist_objects.specs.Rules.{KeepsAll}
 use Rattle.bplist_objects.specs.ObjectRules.{KeepsByObject, object_rules}
 use Rattle.bplist_objects.specs.Reach.{Reach, Founded}
-use Rattle.bplist_objects.specs.Scan.{ref}
 use Rattle.bplist_objects.specs.Extents.{HaveRoom, IsOverfull}
 use Rattle.bplist_objects.proofs.RuleLaws.{kept_all_after, kept_all_parts}
 use Rattle.bplist_objects.proofs.Lists.{all_weaker}
@@ -25,10 +23,8 @@ use Rattle.bplist_cert.specs.Lists.{lists}
 use Rattle.bplist_cert.specs.Valid.{HasKeys}
 use Rattle.bplist_cert.specs.CheckRules.{KeepsRule, key_rules}
 use Rattle.bplist_cert.proofs.CheckSteps.{kept_by_good, good_by_kept}
-use Rattle.bplist_cert.proofs.KeyRepeats.{keys_inside}
 use Rattle.bplist_cert.proofs.KeyTies.{HaveKeys, keys_from_rules, rules_from_keys}
 use Rattle.bplist_lint.specs.ReachRules.{KeepReached, reach_rules}
-use Rattle.bplist_lint.specs.ReachWalk.{AreNamed}
 use Rattle.bplist_lint.specs.WellFormed.{IsWellFormed}
 
 -- the greatest of some numbers is one of them

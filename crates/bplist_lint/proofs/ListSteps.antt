@@ -1,9 +1,8 @@
 -- Steps of making key lists, one after the other.
-use Rattle.std.proofs.Common.{◌≡◌, ◌↔◌, Bool, ◌≢◌, inl, inr, ℕ, zero, suc, ◌+◌, ◌-◌, ◌*◌, ◌<◌, ◌≤◌, rules, true, false, List, [], ◌++◌, length, take, drop, set, slice_index, Option, Some, None, is_some, unwrap_or, nat_lt, cond, refl, sym, ◌∙◌, ap, subst, arith, lt-ltb}
+use Rattle.std.proofs.Common.{◌≡◌, Bool, ◌≢◌, inl, inr, ℕ, zero, suc, ◌+◌, ◌-◌, ◌*◌, ◌<◌, ◌≤◌, rules, true, false, List, [], ◌++◌, length, take, drop, set, slice_index, Option, Some, None, is_some, unwrap_or, nat_lt, cond, refl, sym, ◌∙◌, ap, subst, arith, lt-ltb}
 use Rattle.std.proofs.Math.Seq.{drop-append_seam, take-length}
 use Rattle.std.proofs.lemmas.Bool.{cases_eq, ltb-true}
 use Rattle.std.proofs.lemmas.List.{get_or-set_same, get_or-set_other, length-append, length-drop, drop-append-le, take-append-le}
-use Rattle.std.proofs.lemmas.List.FromFn.{fill_by_all}
 use Rattle.bplist_octets.specs.Octets.{part}
 use Rattle.bplist_objects.specs.declared.frame.Frame.{Frame}
 use Rattle.bplist_objects.specs.declared.head.Kind.{Kind}

@@ -1,6 +1,6 @@
 //! A set of numbers that quickly finds the next number that is not in it.
 
-ghost use Rattle.std.specs.Prelude.{◌≡◌, ◌⊎◌, ℕ, ◌+◌, ◌*◌, ◌^◌, ◌≤◌, ◌<◌, IsTrue, IfOk, MatchOption, length, vec_len};
+ghost use Rattle.std.specs.Prelude.{◌≡◌, ◌⊎◌, ℕ, ◌+◌, ◌*◌, ◌^◌, ◌≤◌, ◌<◌, IfOk, MatchOption, length, vec_len};
 ghost use Rattle.bplist_lint.specs.BitSets.{IsIn, AreSkips};
 
 use std::alloc::{AllocError, Global};

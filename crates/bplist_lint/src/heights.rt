@@ -1,7 +1,7 @@
 //! Finds which objects are founded, and their least heights.
 
 ghost use Rattle.std.specs.Prelude.{◌≡◌, ◌≢◌, ℕ, ◌+◌, ◌-◌, ◌*◌, ◌^◌, ◌<◌, ◌≤◌, Bool, List, [], ◌∷◌, ◌++◌, IsTrue, count_by, length};
-ghost use Rattle.std.specs.Prelude.{map, not, set, slice_index, take, vec_len, IfOk, MatchOption, OnOk};
+ghost use Rattle.std.specs.Prelude.{map, not, set, slice_index, vec_len, IfOk, MatchOption, OnOk};
 ghost use Rattle.bplist_lint.specs.Prelude.{from_bool, OnlyReads, failed_to_read, IsWhole, AreObjects, IsMarked, Finds};
 ghost use Rattle.bplist_lint.specs.Prelude.{Shows, Rests, Settles, Walks, AreClosed, AreLeastOf, state_at};
 ghost use Rattle.bplist_lint.specs.Prelude.{first_state, AreFew, GoesOn, HasMet, Passes, left_below, resumed, scan_bytes};

@@ -1,7 +1,7 @@
 //! Laws about the definitions in specs/. Each law is the contract of a function that does nothing.
 
 ghost use Rattle.bplist_objects.specs.declared.fault.Fault.{Fault as fault};
-ghost use Rattle.std.specs.Prelude.{◌≡◌, ◌↔◌, ◌⊎◌, ℕ, ◌<◌, ◌≤◌, List, length, slice_index};
+ghost use Rattle.std.specs.Prelude.{◌≡◌, ◌↔◌, ◌⊎◌, ℕ, ◌≤◌, List, length, slice_index};
 ghost use Rattle.bplist_lint.specs.Prelude.{Frame as frame, Value, IsFrame, Content, Spells, FileHolds, Reach, Founded};
 ghost use Rattle.bplist_lint.specs.Prelude.{refs_at, IsValid, Reaches, Ends, AreLeast, IsCircleOf, StandLeast};
 ghost use Rattle.bplist_lint.specs.Prelude.{AreLeastHeights, IsWellFormed, KeepReached, key_rules, IsCircle};

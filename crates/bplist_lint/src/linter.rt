@@ -1,7 +1,7 @@
 //! The linter: the passes over a file, in their order. With classes the keys are only compared. With ranks, which are
 //! classes too, the certificate also gets key lists.
 
-ghost use Rattle.std.specs.Prelude.{◌≡◌, ◌↔◌, ℕ, ◌+◌, ◌*◌, ◌≤◌, ◌<◌, IsTrue, None, IfOk, IfSome, MatchOption, length, vec_len, ⊤};
+ghost use Rattle.std.specs.Prelude.{◌≡◌, ◌↔◌, ℕ, ◌+◌, ◌*◌, ◌≤◌, ◌<◌, IsTrue, None, IfOk, IfSome, length, vec_len, ⊤};
 ghost use Rattle.bplist_lint.specs.Prelude.{OnlyReads, frame_in, Honestly, HonestlyIn, IsFrame, IsSafeFrame, Reach};
 ghost use Rattle.bplist_lint.specs.Prelude.{AreOffsets32, Judges, refused_read, refs_at, Value, FileHolds, Never};
 ghost use Rattle.bplist_lint.specs.Prelude.{IsMarked, AreLeast, AreChildless, IsReachedFault, lists};

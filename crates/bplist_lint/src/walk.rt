@@ -1,10 +1,10 @@
 //! Checks all reached objects in one quick walk, which succeeds if none of them breaks a rule and all have room.
 
-ghost use Rattle.std.specs.Prelude.{◌≡◌, ◌↔◌, ℕ, ◌+◌, ◌*◌, ◌-◌, ◌≤◌, ◌<◌, [], ◌∷◌, ◌++◌, IsTrue, None, IfOk, IfSome};
-ghost use Rattle.std.specs.Prelude.{OnOk, count_by, not, length, min, slice_index, vec_len};
-ghost use Rattle.bplist_lint.specs.Prelude.{OnlyReads, ObjectFault as object_fault, frame_in, HonestlyIn, content_at};
+ghost use Rattle.std.specs.Prelude.{◌≡◌, ℕ, ◌+◌, ◌*◌, ◌-◌, ◌≤◌, ◌<◌, [], ◌∷◌, ◌++◌, None, IfOk, IfSome};
+ghost use Rattle.std.specs.Prelude.{OnOk, count_by, not, length, slice_index, vec_len};
+ghost use Rattle.bplist_lint.specs.Prelude.{OnlyReads, frame_in, HonestlyIn, content_at};
 ghost use Rattle.bplist_lint.specs.Prelude.{refs, IsSafeHead, ref_count, AreBelow, ref, Dict, failed_to_read, IsMarked};
-ghost use Rattle.bplist_lint.specs.Prelude.{IsRoomy, IsSteady, IsSteadyWalk, Worked, NotedIn, KeepsNames, IsWalking, HasRoomFor, IsWalked};
+ghost use Rattle.bplist_lint.specs.Prelude.{IsSteady, IsSteadyWalk, Worked, NotedIn, KeepsNames, IsWalking, HasRoomFor, IsWalked};
 ghost use Rattle.bplist_lint.specs.Prelude.{AreNamed, NamesMarked, of_object, stop_failed, Read as is_read};
 ghost use Rattle.bplist_lint.specs.declared.walk.Stop.TheVariants.{Memory as is_memory};
 

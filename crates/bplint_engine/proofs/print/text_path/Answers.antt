@@ -1,4 +1,4 @@
-use Rattle.std.proofs.Common.{Err, ap, subst, sym}
+use Rattle.std.proofs.Common.{ap, subst, sym}
 use Rattle.std.proofs.lemmas.Result.{err_from_is_err_and}
 use Rattle.bplint_lines.specs.declared.fault.Said.TheVariants.{SomeMissing}
 use Rattle.bplint_lines.specs.Answers.{gives}
