@@ -136,7 +136,7 @@ fault_is_one f fault (inr (F, frame, inr (kept, reached))) = least_is_one f F _ 
 
 module _ (f : List ℕ) where
   said_sound : (bytes : List ℕ) → LintSays f (gives All bytes) → IsSound f
-  said_sound bytes (lint, kind, (F, frame, linted, _), _) = sound f F lint.certificate.heights linted.valid
+  said_sound bytes (lint, kind, (F, frame, linted, _), _, _) = sound f F lint.certificate.heights linted.valid
 
   pub failed_lint : (status : ℕ) → 3 ≤ status → LintEnds f status
   failed_lint status high = merely (inr (inr high))

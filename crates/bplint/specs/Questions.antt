@@ -70,7 +70,7 @@ most_asked _ = Some 0
 
 module _ (ask : Ask) (hex : Bool) (f cert : List ℕ) (old new : Option (List ℕ)) where
   -- the writer has the answer, and the run ends with it
-  abbrev LeavesAnswer : Result Said RawFault → Type 0
+  abbrev pub LeavesAnswer : Result Said RawFault → Type 0
   LeavesAnswer result = (answer : Result Said RunFault) × LeavesWithin (SaysAsked ask hex f cert) (most_asked ask) old new answer
       × (result ≡ answer_of answer)
 
