@@ -4,6 +4,7 @@ use Rattle.std.specs.Bool.{⊤}
 use Rattle.std.specs.List.{AllByRecursion}
 use Rattle.std.proofs.Math.Logic.{∥∥₁_map}
 use Rattle.std.proofs.lemmas.Grind.{merely}
+use Rattle.bplist_octets.specs.declared.source.ReadFault.TheVariants.{Device}
 use Rattle.bplist_objects.specs.declared.fault.Fault.{Fault}
 use Rattle.bplist_objects.specs.declared.frame.ObjectNo.{ObjectNo}
 use Rattle.bplist_objects.specs.declared.rule.Rule.{Rule}
@@ -25,6 +26,7 @@ use Rattle.bplint_lines.specs.declared.raw_fault.RawFault.TheVariants.{Run, NoRa
 use Rattle.bplint_lines.specs.declared.fault.Said.{Said}
 use Rattle.bplint_lines.specs.declared.fault.Said.TheVariants.{All, SomeMissing}
 use Rattle.bplint_lines.specs.Answers.{Answer, gives, refuses, LeavesWithin}
+use Rattle.bplint_lines.specs.FaultLines.{report_of}
 use Rattle.bplint_json.specs.Findings.{IsFindingOf, status_of}
 use Rattle.bplint_json.specs.declared.finding.Finding.{Finding}
 use Rattle.bplint_json.specs.declared.finding.Finding.TheVariants as findings
@@ -35,7 +37,9 @@ use Rattle.bplint_engine.specs.Output.{LeavesLed}
 use Rattle.bplint_engine.specs.Raw.{IsRawless, LeavesRawBy}
 use Rattle.bplint.specs.declared.args.Ask.{Ask}
 use Rattle.bplint.specs.declared.args.Ask.TheVariants as asks
-use Rattle.bplint.specs.ExitStatuses.{Counts, EndsWith, IsOrFails, IsStillEnd}
+use Rattle.bplint.specs.declared.input_fault.InputFault.{InputFault}
+use Rattle.bplint.specs.declared.input_fault.InputFault.TheVariants as inputs
+use Rattle.bplint.specs.ExitStatuses.{Counts, EndsWith, Fails, IsOrFails, IsStillEnd}
 use Rattle.bplint.specs.Questions.{BreaksRule, EndsAsked, EndsUnanswered, HasStatus, LeavesAnswer, LeavesAsked, LintEnds, StatusAsked, answer_of, answer_of_led, led_of, most_asked, SaysAsked}
 
 -- ---- what a run leaves
@@ -113,6 +117,12 @@ still_ends P failed old new (inr memory) ends s is = failed s (memory_status s (
 pub failed_asked : (ask : Ask) (hex : Bool) (f cert : List ℕ) (status : ℕ) → 3 ≤ status → StatusAsked ask hex f cert status
 failed_asked ask hex f cert status high = merely (inr (inr high))
 
+-- certify left OUT as it is
+pub kept_asked : (sorted hex : Bool) (f cert : List ℕ) (status : ℕ) → (status ≡ 2) ⊎ (status ≡ 4)
+    → StatusAsked (asks.Certify sorted) hex f cert status
+kept_asked sorted hex f cert status (inl two) = merely (inr (inl two))
+kept_asked sorted hex f cert status (inr four) = merely (inr (inr (omega (arith, four))))
+
 -- ---- lint
 -- the exit status of a fault of this rule is 1
 abbrev IsOne : Rule → Type 0
@@ -161,6 +171,55 @@ module _ (f : List ℕ) where
   found_ends (findings.Circle objects way) is status (inl same) = merely (inr (inl (same, inr (_, is))))
   found_ends (findings.Unread fault cause) is status (inl same) = failed_lint status (subst (λ s. 3 ≤ s) (sym same) is)
 
+  -- only the name is printed
+  pub named_ends : (answer : Result Said RawFault) → ((s : ℕ) → EndsWith answer s → LintEnds f s) → EndsWith answer 1
+      → (s : ℕ) → IsOrFails 1 s → LintEnds f s
+  named_ends answer ends one s (inl is) = ends s (subst (λ n. EndsWith answer n) (sym is) one)
+  named_ends answer ends one s (inr high) = failed_lint s high
+
 -- ---- files that are counted
 pub counts : (P Q : ℕ → Type 0) (old new : ℕ) → ((s : ℕ) → P s → Q s) → Counts P old new → Counts Q old new
 counts P Q old new means (status, ends, is) = (status, means status ends, is)
+
+pub at_least : (n : ℕ) → 3 ≤ n → (s : ℕ) → IsOrFails n s → 3 ≤ s
+at_least n high s (inl is) = omega (arith, is, high)
+at_least n high s (inr higher) = higher
+
+is_four : (s : ℕ) → EndsWith (Err (Run faults.Memory)) s → s ≡ 4
+is_four s (inl is) = is
+is_four s (inr is) = is
+
+pub refused : (answer : Result Said RawFault) → answer ≡ Err (Run faults.Memory) → (s : ℕ) → EndsWith answer s → s ≡ 4
+refused answer is s ends = is_four s (subst (λ r. EndsWith r s) is ends)
+
+-- ---- inputs that could not be read
+pub fails : (fault : RunFault) → 3 ≤ (report_of fault).1 → Fails (Err (Run fault))
+fails fault high status (inl is) = omega (arith, is, high)
+fails fault high status (inr four) = omega (arith, four)
+
+-- the fault of a run whose input could not be read
+abbrev pub unread_fault : InputFault → RunFault
+unread_fault cause = elim cause [
+  | inputs.Open _ ↦ faults.Open
+  | inputs.Folder ↦ faults.Read Device
+  | inputs.TooLong ↦ faults.InputTooLong
+  | inputs.Read error ↦ faults.Read error
+  | inputs.NoDigit _ _ ↦ faults.Hex
+  | inputs.OddDigits _ ↦ faults.Hex
+  | inputs.Memory ↦ faults.Memory
+]
+
+pub unread : (cause : InputFault) (fault : RunFault) → fault ≡ unread_fault cause → 3 ≤ (report_of fault).1
+unread (inputs.Open _) fault is = subst (λ fault. 3 ≤ (report_of fault).1) (sym is) (omega arith)
+unread cause fault is = subst (λ fault. 3 ≤ (report_of fault).1) (sym is) (omega arith)
+
+-- a line could not be written
+pub unwritten : (sent : ℕ) (old new : Result Said RawFault) → old ≡ Err (Run (faults.Write sent)) → IsStillEnd old new → Fails new
+unwritten sent old new is still = still_ends (λ s. 3 ≤ s) (λ s high. high) old new still
+    (λ s ends. fails (faults.Write sent) (omega arith) s (subst (λ r. EndsWith r s) is ends))
+
+-- ---- a question of lint
+pub lint_asked : (f : List ℕ) (ask : Ask) (hex : Bool) (cert : List ℕ) (answer : Result Said RawFault) → ask ≡ asks.Lint
+    → EndsAsked ask hex f cert answer → (status : ℕ) → EndsWith answer status → LintEnds f status
+lint_asked f ask hex cert answer is ends status with_it =
+    lint_ends f hex cert status (subst (λ ask. StatusAsked ask hex f cert status) is (ends status with_it))

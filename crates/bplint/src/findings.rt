@@ -1,7 +1,7 @@
 //! What `lint` says of each file: its line or its fault, its name alone, or nothing. A run counts its files, and keeps
 //! the greatest exit status.
 
-ghost use Rattle.std.specs.Prelude.{◌≡◌, ◌≤◌, IsTrue};
+ghost use Rattle.std.specs.Prelude.{◌≡◌, ◌≤◌, ℕ, IsTrue};
 ghost use Rattle.bplint_json.specs.Findings.{status_of};
 ghost use Rattle.bplint.specs.ExitStatuses.{Counts, EndsWith, IsOrFails};
 ghost use Rattle.bplint.specs.Questions.{LintEnds};
@@ -59,16 +59,25 @@ impl<'a, R: Files<File = File> + Print + Eprint> Findings<'a, R> {
         };
         let line = self.line_of(name, prefix);
         let mut out = OutFile::new(self.rt, "-");
-        let cert = SliceSource::new(&[]);
-        let ending = match self.lint.printed {
-            Printed::Lines => answer(self.alloc, &line, file, cert, &mut out),
-            _ => answer(self.alloc, &line, file, cert, &mut NoOut),
-        };
+        let ending = self.answer(&line, file, &mut out);
         if self.is_named_alone(&ending) {
             return self.print_name(name);
         }
         let ending = completed(self.alloc, &line, ending, out.fault());
         self.end(&line.prefix, ending);
+    }
+
+    /// A sound file may have no line.
+    fn answer<S: Source + Drop, W: Write>(&self, line: &Run<'_>, file: S, out: &mut W) -> Ending
+        requires { line.now.ask ≡ Ask.Lint }
+        ensures { IsTrue (S.means file).honest → (status : ℕ) → EndsWith result.answer status
+            → LintEnds (S.means file).octets status }
+    {
+        let cert = SliceSource::new(&[]);
+        match self.lint.printed {
+            Printed::Lines => answer(self.alloc, line, file, cert, out),
+            _ => answer(self.alloc, line, file, cert, &mut NoOut),
+        }
     }
 
     fn line_of<'n>(&self, name: &'n str, prefix: String) -> Run<'n>
