@@ -4,9 +4,9 @@
 Tests what no row of a table can say of the program beside other programs: on a terminal a fault has lines below it; a
 reader that goes away ends a run without a word; `certify` opens no pipe to see what it holds, and says of a certificate
 that it is too long; lists of names go from one run to the next, whatever the names are, and a name that is not UTF-8 is
-answered for itself; OUT is never a standard descriptor; `textconv` bounds its bytes; and git shows binary, XML, broken
-and empty property lists by `textconv`. The last line is `N passed, M failed`, with a number of skipped tests if git is
-missing.
+answered for itself; OUT is never a standard descriptor; `textconv` bounds its bytes, and says that a read failed if the
+file is cut meanwhile; and git shows binary, XML, broken and empty property lists by `textconv`. The last line is
+`N passed, M failed`, with a number of skipped tests if git or gcc is missing.
 """
 import argparse
 import json
@@ -179,6 +179,31 @@ def textconv_tests(program, top):
     yield "textconv -H", ran.stdout.splitlines()[-1], b"same: more than 1048576 bytes"
 
 
+def cut_tests(program, top):
+    """A file that is cut before a read: that read fails, and what was written before is a first part of the answer."""
+    if lacks("gcc"):
+        yield "gcc is missing", None, None
+        return
+    library, source = top / "cut_file.so", pathlib.Path(__file__).with_name("cut_file.c")
+    subprocess.run(["gcc", "-shared", "-fPIC", "-O1", "-o", library, source], check=True)
+    sound = plistlib.dumps({f"key {k}": k for k in range(5_000)}, fmt=plistlib.FMT_BINARY)
+    broken = sound[:-1] + bytes([sound[-1] ^ 1])
+    for name, octets in (("sound", sound), ("broken", broken), ("other", b"text\n" * 20_000)):
+        file = top / name
+        file.write_bytes(octets)
+        usual = run(program, "textconv", file)
+        yield f"textconv of {name}: status", usual.returncode, 0
+        for number in range(1, 1_000):
+            cut = {"LD_PRELOAD": library, "CUT_BEFORE": str(number), "CUT_FILE": file}
+            ran = run(program, "textconv", file, env=cut)
+            if file.stat().st_size > 1:
+                break
+            file.write_bytes(octets)
+            said = (ran.returncode, ran.stderr, usual.stdout.startswith(ran.stdout))
+            yield f"textconv of {name}, cut before read {number}", said, (3, b"read Ended\n", True)
+        yield f"textconv of {name}: reads", (number > 1, ran.stdout == usual.stdout), (True, True)
+
+
 FILES = {"binary.plist": 0, "xml.plist": 1, "broken.plist": 2, "empty.plist": 3}
 
 
@@ -232,7 +257,8 @@ def main():
     parser.add_argument("program", type=os.path.abspath)
     program = parser.parse_args().program
     passed = failed = skipped = 0
-    for tests in (terminal_tests, pipe_tests, certify_tests, list_tests, word_tests, textconv_tests, git_tests):
+    parts = (terminal_tests, pipe_tests, certify_tests, list_tests, word_tests, textconv_tests, cut_tests, git_tests)
+    for tests in parts:
         with tempfile.TemporaryDirectory(prefix="bplint") as name:
             for what, got, wanted in tests(program, pathlib.Path(name)):
                 if got is None and wanted is None:

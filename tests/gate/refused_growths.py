@@ -8,6 +8,8 @@ of FILE with `-H`. Nothing is written, or by the commands of `PARTLY` a first pa
 The last run is the first one without a refusal. A list that std collects is an exception: std first asks for room for
 all items, and if that is refused, it grows the list item by item. The words of each command and the objects of a circle
 are such lists. A page of FILE or CERT is another exception: without memory for it, its bytes are read each time.
+`lint --json` says `memory` in its line, if there is memory for the line; and once it knows that a rule is broken, a
+refusal leaves out the path, or what the file looks like.
 
 CALLS is bplist_calls, which makes each call of the library twice on the same value. If a request of the first call is
 refused, that call returns `Memory`, and the second returns the same as without a refusal. If the request for the text
@@ -19,6 +21,7 @@ One subcommand, or one call, on one file counts as one test. Without gcc nothing
 """
 import concurrent.futures
 import dataclasses
+import json
 import os
 import pathlib
 import subprocess
@@ -50,17 +53,22 @@ FILES = {
     "a-to-one": (expression("hd d10102 5161 1001 080b0d tr(1,1,3,0,15)"), [2, 1, 1]),
 }
 
-# Files that hold no value: `lint` and `certify` write a fault's line.
+# Files that hold no value, for the commands of `LINTING`.
 FAULTY = {
     "reached-broken": expression("hd a101 7f 080a tr(1,1,2,0,11)"),
     "circle-below-top": expression("hd a20102 09 a103 a102 080b0c0e tr(1,1,4,0,16)"),
 }
 
-# `\e` is the empty word.
-COMMANDS = [
+LINTING = [
     "lint FILE",
+    "lint -l FILE",
+    "lint --json FILE",
     "certify FILE OUT",
     "certify --sorted FILE OUT",
+]
+# `\e` is the empty word.
+COMMANDS = [
+    *LINTING,
     "check FILE CERT",
     "get FILE CERT / /0 /a /a~1b/0",
     "print FILE CERT \\e 100",
@@ -87,6 +95,8 @@ PARTLY = ("print", "ls", "map", "textconv")
 NO_HEX = ("textconv",)
 # Its paths are one more list that std collects.
 PATHS = ["map", "--paths"]
+# Its line says what was refused.
+JSON = ["lint", "--json"]
 
 # In how many growths a run of a row may give its usual answer, since std collects so many lists; 1 in all others.
 COLLECTED = {"circle-below-top": 2}
@@ -216,9 +226,19 @@ def untouched(words):
 
 
 def is_refusal(words, ran, usual):
+    if words[:2] == JSON and ran.stdout:
+        return is_json_refusal(ran, usual)
     wrote_nothing = usual.stdout.startswith(ran.stdout) if words[0] in PARTLY else ran.stdout == b""
     says_memory = ran.stderr == b"memory\n" or "-H" in words and ran.stderr.endswith(b"/file: memory\n")
     return ran.status == 4 and says_memory and wrote_nothing and ran.out == untouched(words)
+
+
+def is_json_refusal(ran, usual):
+    said, whole = json.loads(ran.stdout), json.loads(usual.stdout)
+    if said.get("error") == "memory":
+        return ran.status == 4 and ran.stderr == b"" and not said["ok"]
+    left_out = ({**whole, "path": None, "no_path": "memory"}, {key: whole[key] for key in whole if key != "looks_like"})
+    return ran.status == usual.status == 1 and ran.stderr == b"" and said in left_out
 
 
 def command_outcome(stage, program, row, words):
@@ -247,7 +267,7 @@ def command_outcomes(folder, library, program, pool):
         return [command_outcome(stage, program, row, words) for words in commands]
 
     tasks = [(row, *held, is_hex, COMMANDS + MORE.get(row, [])) for row, held in FILES.items() for is_hex in (False, True)]
-    tasks += [(row, file, [], False, COMMANDS[:3]) for row, file in FAULTY.items()]
+    tasks += [(row, file, [], False, LINTING) for row, file in FAULTY.items()]
     return [one for told in pool.map(lambda task: outcomes(*task), tasks) for one in told]
 
 

@@ -10,7 +10,7 @@ use Rattle.bplint_engine.specs.Raw.{ShowsRaw}
 use Rattle.bplint_engine.proofs.LeftBytes.{begins_within, kept_self}
 use Rattle.bplint.specs.declared.args.Ask.{Ask}
 use Rattle.bplint.specs.declared.args.Ask.TheVariants as asks
-use Rattle.bplint.specs.Questions.{LeavesAsked, SaysAsked}
+use Rattle.bplint.specs.Questions.{LeavesAsked, SaysAsked, most_asked}
 
 module _ (hex : Bool) (f cert : List ℕ) (old : Option (List ℕ)) (fault : ReadFault) where
   nothing : (Says : Answer → Type 0) (bound : Option ℕ) → LeavesWithin Says bound old old (Err (faults.Read fault))
@@ -18,17 +18,10 @@ module _ (hex : Bool) (f cert : List ℕ) (old : Option (List ℕ)) (fault : Rea
 
   -- nothing was written, and the run ends with the failed read
   pub unread_left : (ask : Ask) → LeavesAsked ask hex f cert old old (Err (Run (faults.Read fault)))
-  unread_left asks.Lint = (Err (faults.Read fault), nothing (SaysAsked asks.Lint hex f cert) (Some 0), refl)
-  unread_left (asks.Certify sorted) = (Err (faults.Read fault), nothing (SaysAsked (asks.Certify sorted) hex f cert) (Some 0), refl)
-  unread_left asks.Check = (Err (faults.Read fault), nothing (SaysAsked asks.Check hex f cert) (Some 0), refl)
-  unread_left (asks.Get paths) = (Err (faults.Read fault), nothing (SaysAsked (asks.Get paths) hex f cert) (Some 0), refl)
-  unread_left (asks.Print path limit) = (Err (faults.Read fault), nothing (SaysAsked (asks.Print path limit) hex f cert) (Some limit), refl)
-  unread_left (asks.Show paths style) = (Err (faults.Read fault), nothing (SaysAsked (asks.Show paths style) hex f cert) (Some 0), refl)
-  unread_left (asks.List path style) = (Err (faults.Read fault), nothing (SaysAsked (asks.List path style) hex f cert) None, refl)
-  unread_left (asks.Tree branch) = (Err (faults.Read fault), nothing (SaysAsked (asks.Tree branch) hex f cert) None, refl)
   unread_left (asks.Text path limit) = (Err (faults.Read fault), nothing (PrintSays limit (LintSays f) f (path.now ∷ [])) (Some limit), refl)
   unread_left (asks.Raw path) = (Err (Run (faults.Read fault)), nothing (ShowsRaw (LintSays f) f path.now) None, refl)
   unread_left (asks.Readable paths) = tt
   unread_left (asks.Rows listed) = tt
   unread_left (asks.Map paths) = tt
   unread_left asks.Textconv = tt
+  unread_left ask = (Err (faults.Read fault), nothing (SaysAsked ask hex f cert) (most_asked ask), refl)

@@ -1,8 +1,10 @@
 -- The exit status of a run. Source: profile.
-use Rattle.std.specs.Prelude.{◌≡◌, ◌⊎◌, ℕ, Result, Ok, Err}
+use Rattle.std.specs.Prelude.{◌≡◌, ◌⊎◌, ◌≤◌, ℕ, max, Result, Ok, Err}
 use Rattle.clap.specs.declared.error.kind.ErrorKind.{ErrorKind}
 use Rattle.clap.specs.declared.error.kind.ErrorKind.TheVariants as kinds
+use Rattle.bplint_lines.specs.declared.fault.RunFault.TheVariants.{Memory}
 use Rattle.bplint_lines.specs.declared.raw_fault.RawFault.{RawFault}
+use Rattle.bplint_lines.specs.declared.raw_fault.RawFault.TheVariants.{Run}
 use Rattle.bplint_lines.specs.declared.fault.Said.{Said}
 use Rattle.bplint_lines.specs.declared.fault.Said.TheVariants.{All, SomeMissing}
 use Rattle.bplint_lines.specs.RawFaults.{raw_report_of}
@@ -12,6 +14,22 @@ abbrev pub EndsWith : Result Said RawFault → ℕ → Type 0
 EndsWith (Ok All) status = status ≡ 0
 EndsWith (Ok SomeMissing) status = status ≡ 1
 EndsWith (Err fault) status = (status ≡ (raw_report_of fault).1) ⊎ (status ≡ 4)
+
+-- the same answer, unless memory was refused for what is said below it
+abbrev pub IsStillEnd : Result Said RawFault → Result Said RawFault → Type 0
+IsStillEnd old new = (new ≡ old) ⊎ (new ≡ Err (Run Memory))
+
+-- each exit status of the answer is 3 or more
+abbrev pub Fails : Result Said RawFault → Type 0
+Fails answer = (status : ℕ) → EndsWith answer status → 3 ≤ status
+
+-- the exit status is this one, or it is 3 or more, because a read or a write failed or memory was refused
+abbrev pub IsOrFails : ℕ → ℕ → Type 0
+IsOrFails wanted status = (status ≡ wanted) ⊎ (3 ≤ status)
+
+-- one more file is counted, with an exit status of which Ends holds: the greatest status is raised to it
+abbrev pub Counts : (ℕ → Type 0) → ℕ → ℕ → Type 0
+Counts Ends old new = (status : ℕ) × Ends status × (new ≡ max old status)
 
 -- the exit status of a text for standard output: that of a failed write if it cannot be written, or of refused memory
 abbrev pub IsPrintedWith : ℕ → Type 0

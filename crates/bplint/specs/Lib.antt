@@ -1,3 +1,4 @@
+pub mod CommandLines
 pub mod ExitStatuses
 pub mod Inputs
 pub mod Questions

@@ -1,5 +1,5 @@
 -- What FILE and CERT say about a question, and what a run leaves with the writer and ends with. Source: profile.
-use Rattle.std.specs.Prelude.{◌≡◌, ℕ, List, [], ◌∷◌, Bool, map, string_bytes, ⊤, Option, None, Some, Result, Ok, Err}
+use Rattle.std.specs.Prelude.{◌≡◌, ◌⊎◌, ◌≤◌, ℕ, List, [], ◌∷◌, Bool, map, string_bytes, ⊤, Option, None, Some, Result, Ok, Err}
 use Rattle.bplint.specs.declared.args.Ask.{Ask}
 use Rattle.bplint.specs.declared.args.Ask.TheVariants as asks
 use Rattle.bplint_lines.specs.declared.fault.RunFault.{RunFault}
@@ -8,7 +8,12 @@ use Rattle.bplint_lines.specs.declared.raw_fault.RawFault.TheVariants.{Run}
 use Rattle.bplint_lines.specs.declared.fault.Said.{Said}
 use Rattle.bplint_lines.specs.declared.fault.Said.TheVariants.{All, SomeMissing}
 use Rattle.bplint_lines.specs.declared.texts.Style.TheVariants.{OldStyle}
-use Rattle.bplint_lines.specs.Answers.{Answer, LeavesWithin}
+use Rattle.bplint_lines.specs.Answers.{Answer, gives, refuses, LeavesWithin}
+use Rattle.bplint_lines.specs.FaultLines.{report_of}
+use Rattle.bplist_objects.specs.declared.fault.Fault.{Fault}
+use Rattle.bplist_cert.specs.Sound.{IsSound}
+use Rattle.bplist_lint.specs.FileFault.{IsFileCircle, IsFileFault}
+use Rattle.bplint.specs.ExitStatuses.{EndsWith}
 use Rattle.bplint_engine.specs.declared.output.Led.{Led}
 use Rattle.bplint_engine.specs.declared.output.Led.TheVariants.{There, Nowhere}
 use Rattle.bplint_engine.specs.Certify.{CertifySays}
@@ -65,7 +70,7 @@ most_asked _ = Some 0
 
 module _ (ask : Ask) (hex : Bool) (f cert : List ℕ) (old new : Option (List ℕ)) where
   -- the writer has the answer, and the run ends with it
-  abbrev LeavesAnswer : Result Said RawFault → Type 0
+  abbrev pub LeavesAnswer : Result Said RawFault → Type 0
   LeavesAnswer result = (answer : Result Said RunFault) × LeavesWithin (SaysAsked ask hex f cert) (most_asked ask) old new answer
       × (result ≡ answer_of answer)
 
@@ -80,3 +85,40 @@ LeavesAsked (asks.Rows listed) hex f cert old new result = ⊤
 LeavesAsked (asks.Map paths) hex f cert old new result = ⊤
 LeavesAsked asks.Textconv hex f cert old new result = ⊤
 LeavesAsked ask hex f cert old new result = LeavesAnswer ask hex f cert old new result
+
+-- ---- exit statuses
+-- the exit status of an answer
+abbrev pub answer_status : Answer → ℕ
+answer_status (gives All bytes) = 0
+answer_status (gives SomeMissing bytes) = 1
+answer_status (refuses fault) = (report_of fault).1
+
+-- the exit status is that of a right answer
+abbrev pub HasStatus : (Answer → Type 0) → ℕ → Type 0
+HasStatus Says status = (answer : Answer) × Says answer × (status ≡ answer_status answer)
+
+-- the exit status of a run without an answer: of `show --raw`, if the path leads to a value without raw bytes; of
+-- `certify`, if OUT is left as it is
+abbrev pub EndsUnanswered : Ask → List ℕ → ℕ → Type 0
+EndsUnanswered (asks.Raw path) f status = (status ≡ 1) × (n : ℕ) × IsRawless (LintSays f) f path.now n
+EndsUnanswered (asks.Certify sorted) f status = status ≡ 2
+EndsUnanswered _ f status = ⊥
+
+-- the exit status of a run about f and cert: that of a right answer, or of a run without one, or 3 or more, because a
+-- read or a write failed or memory was refused
+abbrev pub StatusAsked : Ask → Bool → List ℕ → List ℕ → ℕ → Type 0
+StatusAsked ask hex f cert status =
+    ∥ HasStatus (SaysAsked ask hex f cert) status ⊎ (EndsUnanswered ask f status ⊎ (3 ≤ status)) ∥₁
+
+-- each exit status that the answer may have is right
+abbrev pub EndsAsked : Ask → Bool → List ℕ → List ℕ → Result Said RawFault → Type 0
+EndsAsked ask hex f cert result = (status : ℕ) → EndsWith result status → StatusAsked ask hex f cert status
+
+-- the file breaks a rule: this is its first fault, or its circle
+abbrev pub BreaksRule : List ℕ → Type 0
+BreaksRule f = ((fault : Fault) × IsFileFault f fault) ⊎ ((circle : List ℕ) × IsFileCircle f circle)
+
+-- the exit status of `lint`: 0 for a sound file, 1 for one that breaks a rule, or 3 or more, because a read or a write
+-- failed or memory was refused. No file is both, so 0 means exactly that it is sound and 1 exactly that it is not
+abbrev pub LintEnds : List ℕ → ℕ → Type 0
+LintEnds f status = ∥ ((status ≡ 0) × IsSound f) ⊎ (((status ≡ 1) × BreaksRule f) ⊎ (3 ≤ status)) ∥₁

@@ -1,5 +1,9 @@
 //! Reads the command line with `clap`.
 
+ghost use Rattle.std.specs.Prelude.{◌≡◌, IfOk, codes, option_map};
+ghost use Rattle.clap.specs.Matches.{first_value, found_of};
+ghost use Rattle.bplint.specs.CommandLines.{IsAskOf, IsDepth, IsFlag, IsListed, IsShown, IsStyle};
+
 use crate::args::{Ask, Choice, Line, Lint, Printed, Run};
 use crate::output::Replaces;
 use crate::reasons::prefix_of;
@@ -122,7 +126,12 @@ fn run_of<'a>(
     name: &str,
     matches: &ArgMatches<'a>,
     explain: bool,
-) -> Result<Run<'a>, Error> {
+) -> Result<Run<'a>, Error>
+    ensures asks { IfOk result (λ run. IsAskOf matches.now name.now run.ask) }
+    ensures hex { IfOk result (λ run. IsFlag matches.now (codes "hex") run.hex) }
+    ensures cert { IfOk result (λ run. option_map (λ cert. cert.now) run.cert
+        ≡ first_value (found_of matches.now) (codes "CERT")) }
+{
     let file = matches.get_str("FILE").unwrap_or("");
     Ok(Run {
         ask: ask_of(alloc, name, matches)?,
@@ -149,7 +158,9 @@ fn replaces_in(matches: &ArgMatches<'_>) -> Replaces {
     Replaces::Certificates
 }
 
-fn ask_of<'a>(alloc: Global, name: &str, matches: &ArgMatches<'a>) -> Result<Ask<'a>, Error> {
+fn ask_of<'a>(alloc: Global, name: &str, matches: &ArgMatches<'a>) -> Result<Ask<'a>, Error>
+    ensures { IfOk result (IsAskOf matches.now name.now) }
+{
     match name {
         "certify" => Ok(Ask::Certify {
             sorted: matches.get_flag("sorted"),
@@ -173,7 +184,9 @@ fn ask_of<'a>(alloc: Global, name: &str, matches: &ArgMatches<'a>) -> Result<Ask
 
 /// With `--text` or `--raw` there is at most one path. Without them no path means the empty one, which is the whole
 /// value.
-fn show_of<'a>(alloc: Global, matches: &ArgMatches<'a>) -> Result<Ask<'a>, Error> {
+fn show_of<'a>(alloc: Global, matches: &ArgMatches<'a>) -> Result<Ask<'a>, Error>
+    ensures { IfOk result (IsShown matches.now) }
+{
     let (text, raw) = (matches.get_flag("text"), matches.get_flag("raw"));
     let mut operands = operands_in(alloc, matches)?;
     if operands.is_empty() {
@@ -211,7 +224,9 @@ fn operands_in<'a>(alloc: Global, matches: &ArgMatches<'a>) -> Result<Vec<&'a st
     Ok(operands)
 }
 
-fn ls_of<'a>(alloc: Global, matches: &ArgMatches<'a>) -> Result<Ask<'a>, Error> {
+fn ls_of<'a>(alloc: Global, matches: &ArgMatches<'a>) -> Result<Ask<'a>, Error>
+    ensures { IfOk result (IsListed matches.now) }
+{
     let operands = operands_in(alloc, matches)?;
     if operands.len() > 1 {
         let message = "--files-from takes the place of FILE";
@@ -235,7 +250,9 @@ fn ls_of<'a>(alloc: Global, matches: &ArgMatches<'a>) -> Result<Ask<'a>, Error> 
 }
 
 /// A tree is that of the whole value.
-fn depth_in(matches: &ArgMatches<'_>) -> Depth {
+fn depth_in(matches: &ArgMatches<'_>) -> Depth
+    ensures { IsDepth matches.now result }
+{
     if matches.get_flag("recursive") || matches.get_flag("tree") {
         return Depth::All(limit_in(matches));
     }
@@ -260,7 +277,9 @@ fn form_in(matches: &ArgMatches<'_>) -> Form {
     Form::Lines(values)
 }
 
-fn style_in(matches: &ArgMatches<'_>) -> Style {
+fn style_in(matches: &ArgMatches<'_>) -> Style
+    ensures { IsStyle matches.now result }
+{
     if matches.get_flag("utf8") {
         return Style::Utf8;
     }

@@ -1,8 +1,10 @@
 //! What `lint` says of each file: its line or its fault, its name alone, or nothing. A run counts its files, and keeps
 //! the greatest exit status.
 
-ghost use Rattle.std.specs.Prelude.{◌≡◌, ◌≤◌, ℕ, max};
-ghost use Rattle.bplint.specs.ExitStatuses.{EndsWith};
+ghost use Rattle.std.specs.Prelude.{◌≡◌, ◌≤◌, ℕ, IsTrue};
+ghost use Rattle.bplint_engine.specs.Findings.{status_of};
+ghost use Rattle.bplint.specs.ExitStatuses.{Counts, EndsWith, IsOrFails};
+ghost use Rattle.bplint.specs.Questions.{LintEnds};
 
 use crate::args::{Ask, Lint, Printed, Run};
 use crate::ending::{Ending, end};
@@ -43,7 +45,10 @@ impl<'a, R: Files<File = File> + Print + Eprint> Findings<'a, R> {
     }
 
     /// Lints a file, and says what it found.
-    pub fn add<S: Source + Drop>(&mut self, name: &str, file: S) {
+    pub fn add<S: Source + Drop>(&mut self, name: &str, file: S)
+        ensures { IsTrue (S.means file).honest
+            → Counts (LintEnds (S.means file).octets) self.old.tally self.new.tally }
+    {
         if self.prints_json() {
             let mut file = file;
             let finding = find_in(self.alloc, &mut file);
@@ -54,11 +59,7 @@ impl<'a, R: Files<File = File> + Print + Eprint> Findings<'a, R> {
         };
         let line = self.line_of(name, prefix);
         let mut out = OutFile::new(self.rt, "-");
-        let cert = SliceSource::new(&[]);
-        let ending = match self.lint.printed {
-            Printed::Lines => answer(self.alloc, &line, file, cert, &mut out),
-            _ => answer(self.alloc, &line, file, cert, &mut NoOut),
-        };
+        let ending = self.answer(&line, file, &mut out);
         if self.is_named_alone(&ending) {
             return self.print_name(name);
         }
@@ -66,7 +67,22 @@ impl<'a, R: Files<File = File> + Print + Eprint> Findings<'a, R> {
         self.end(&line.prefix, ending);
     }
 
-    fn line_of<'n>(&self, name: &'n str, prefix: String) -> Run<'n> {
+    /// A sound file may have no line.
+    fn answer<S: Source + Drop, W: Write>(&self, line: &Run<'_>, file: S, out: &mut W) -> Ending
+        requires { line.now.ask ≡ Ask.Lint }
+        ensures { IsTrue (S.means file).honest → (status : ℕ) → EndsWith result.answer status
+            → LintEnds (S.means file).octets status }
+    {
+        let cert = SliceSource::new(&[]);
+        match self.lint.printed {
+            Printed::Lines => answer(self.alloc, line, file, cert, out),
+            _ => answer(self.alloc, line, file, cert, &mut NoOut),
+        }
+    }
+
+    fn line_of<'n>(&self, name: &'n str, prefix: String) -> Run<'n>
+        ensures { result.ask ≡ Ask.Lint }
+    {
         Run {
             ask: Ask::Lint,
             file: name,
@@ -83,7 +99,9 @@ impl<'a, R: Files<File = File> + Print + Eprint> Findings<'a, R> {
     }
 
     /// With `--list`, a file that breaks a rule has no other line.
-    fn is_named_alone(&self, ending: &Ending) -> bool {
+    fn is_named_alone(&self, ending: &Ending) -> bool
+        ensures { IsTrue result → EndsWith ending.now.answer 1 }
+    {
         match (&ending.answer, self.lint.printed) {
             (Err(fault), Printed::Names) => fault.status() == 1,
             _ => false,
@@ -91,7 +109,9 @@ impl<'a, R: Files<File = File> + Print + Eprint> Findings<'a, R> {
     }
 
     /// Counts the file, which is not sound.
-    fn print_name(&mut self, name: &str) {
+    fn print_name(&mut self, name: &str)
+        ensures { Counts (IsOrFails 1) self.old.tally self.new.tally }
+    {
         match self.name_line(name) {
             Ok(line) => self.print(&line, 1),
             Err(_) => self.end_without_memory(),
@@ -119,7 +139,9 @@ impl<'a, R: Files<File = File> + Print + Eprint> Findings<'a, R> {
     }
 
     /// Counts the file too.
-    fn print_finding(&mut self, name: &[u8], finding: &Finding) {
+    fn print_finding(&mut self, name: &[u8], finding: &Finding)
+        ensures { Counts (IsOrFails (status_of finding.now)) self.old.tally self.new.tally }
+    {
         match finding.line(self.alloc, name) {
             Ok(line) => self.print(&line, finding.status()),
             Err(_) => self.end_without_memory(),
@@ -129,6 +151,7 @@ impl<'a, R: Files<File = File> + Print + Eprint> Findings<'a, R> {
     /// Counts a file whose run ended with this status.
     fn print(&mut self, line: &[u8], status: u8)
         requires { status ≤ 4 }
+        ensures { Counts (IsOrFails status) self.old.tally self.new.tally }
     {
         let mut out = OutFile::new(self.rt, "-");
         if out.write_all(line).is_ok() {
@@ -141,7 +164,9 @@ impl<'a, R: Files<File = File> + Print + Eprint> Findings<'a, R> {
     }
 
     /// Says that an input could not be read.
-    pub fn add_unread(&mut self, unread: Unread<'_>) {
+    pub fn add_unread(&mut self, unread: Unread<'_>)
+        ensures { Counts (λ status. 3 ≤ status) self.old.tally self.new.tally }
+    {
         if let Some(name) = name_behind(self.alloc, unread.name) {
             return self.add_unnamed(&name);
         }
@@ -157,7 +182,9 @@ impl<'a, R: Files<File = File> + Print + Eprint> Findings<'a, R> {
     }
 
     /// Says that a path is not UTF-8, and cannot be opened.
-    pub fn add_unnamed(&mut self, path: &[u8]) {
+    pub fn add_unnamed(&mut self, path: &[u8])
+        ensures { Counts (λ status. 3 ≤ status) self.old.tally self.new.tally }
+    {
         if self.prints_json() {
             let finding = Finding::Unread {
                 fault: RunFault::Open,
@@ -183,7 +210,7 @@ impl<'a, R: Files<File = File> + Print + Eprint> Findings<'a, R> {
 
     /// Counts the file too.
     fn end(&mut self, prefix: &str, ending: Ending)
-        ensures { (status : ℕ) × EndsWith ending.answer status × (self.new.tally ≡ max self.old.tally status) }
+        ensures { Counts (EndsWith ending.answer) self.old.tally self.new.tally }
     {
         let silent = ending.silent;
         let status = end(self.rt, self.alloc, prefix, ending);
@@ -195,7 +222,9 @@ impl<'a, R: Files<File = File> + Print + Eprint> Findings<'a, R> {
     }
 
     /// Memory for the lines of a file was refused.
-    fn end_without_memory(&mut self) {
+    fn end_without_memory(&mut self)
+        ensures { Counts (λ status. status ≡ 4) self.old.tally self.new.tally }
+    {
         self.end("", Ending::with(self.alloc, RunFault::Memory));
     }
 

@@ -1,7 +1,8 @@
 //! What is below the line of a fault: the name of the file, the path text that is wrong, the value that has not the
 //! form that was asked for, and why the system failed.
 
-ghost use Rattle.std.specs.Prelude.{◌≡◌};
+ghost use Rattle.std.specs.Prelude.{IfOk};
+ghost use Rattle.bplint.specs.ExitStatuses.{Fails, IsStillEnd};
 
 use crate::args::{Ask, Run};
 use crate::ending::Ending;
@@ -36,7 +37,9 @@ pub fn unnamed_ending(
     alloc: Global,
     name: &[u8],
     explain: bool,
-) -> Result<(String, Ending), AllocError> {
+) -> Result<(String, Ending), AllocError>
+    ensures { IfOk result (λ made. Fails made.1.answer) }
+{
     let shown = shown_octets(alloc, name)?;
     let prefix = format!(in alloc; "{shown}: ")?;
     let mut ending = Ending::with(alloc, RunFault::Open);
@@ -48,7 +51,9 @@ pub fn unnamed_ending(
 
 /// Completes the end of a run whose answer went to OUT: a fault gets the name of its file, or why OUT could not be
 /// written. Nothing is said if nobody reads standard output any more.
-pub fn completed(alloc: Global, line: &Run<'_>, ending: Ending, out: Option<OutFault>) -> Ending {
+pub fn completed(alloc: Global, line: &Run<'_>, ending: Ending, out: Option<OutFault>) -> Ending
+    ensures { IsStillEnd ending.answer result.answer }
+{
     let is_write = match &ending.answer {
         Ok(_) => return ending,
         Err(RawFault::Run(RunFault::Write { .. })) => true,
@@ -72,7 +77,9 @@ pub fn completed(alloc: Global, line: &Run<'_>, ending: Ending, out: Option<OutF
 }
 
 /// If memory was refused for the line, that is the fault.
-fn below(alloc: Global, ending: Ending, line: Result<String, AllocError>) -> Ending {
+fn below(alloc: Global, ending: Ending, line: Result<String, AllocError>) -> Ending
+    ensures { IsStillEnd ending.answer result.answer }
+{
     let Ending { answer, under, .. } = ending;
     match joined(line, &under) {
         Ok(under) => Ending::over(answer, under),

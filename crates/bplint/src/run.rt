@@ -1,12 +1,13 @@
 //! Answers what is asked about one FILE.
 
-ghost use Rattle.std.specs.Prelude.{◌≡◌, ◌≤◌, IsTrue};
-ghost use Rattle.bplint.specs.Questions.{LeavesAsked, answer_of};
+ghost use Rattle.std.specs.Prelude.{◌≡◌, ◌⊎◌, ◌≤◌, IsTrue, None};
+ghost use Rattle.bplint.specs.ExitStatuses.{IsStillEnd};
+ghost use Rattle.bplint.specs.Questions.{EndsAsked, LeavesAsked, StatusAsked, answer_of};
 
 use crate::args::{Ask, Run};
 use crate::ending::{Ending, end, refuse_line};
 use crate::first_lines::FirstLines;
-use crate::input::{Inputs, WHOLE_LIMIT, bytes_in, decode, open_inputs};
+use crate::input::{WHOLE_LIMIT, bytes_in, decode, open_inputs};
 use crate::labels::Labelled;
 use crate::lists::with_listed_paths;
 use crate::output::{OutFault, OutFile};
@@ -58,34 +59,26 @@ pub fn run<R: Files<File = File> + Input + Print + Eprint>(
         }
     };
     match with_listed_paths(rt, alloc, line) {
-        Ok(line) => run_opened(rt, alloc, &line, inputs).status,
+        Ok(line) => run_opened(rt, alloc, &line, inputs.file, inputs.cert).status,
         Err(status) => status,
     }
 }
 
 /// Answers what is asked about inputs that are open.
-pub fn run_opened<R: Files<File = File> + Print + Eprint>(
+pub fn run_opened<R: Files<File = File> + Print + Eprint, S: Source + Drop, C: Source + Drop>(
     rt: &R,
     alloc: Global,
     line: &Run<'_>,
-    inputs: Inputs,
+    file: S,
+    cert: C,
 ) -> Ended
-    ensures { result.status ≤ 4 }
+    ensures exact { IsTrue (S.means file).honest → IsTrue (C.means cert).honest → line.now.most ≡ None
+        → StatusAsked line.now.ask line.now.hex (S.means file).octets (C.means cert).octets result.status }
+    ensures few { result.status ≤ 4 }
 {
-    let Inputs { file, cert } = inputs;
     let mut out = OutFile::new(rt, line.out).replacing(line.replaces);
-    let ending = match line.most {
-        None => answer(alloc, line, file, cert, &mut out),
-        Some(most) => {
-            let mut first = FirstLines::new(&mut out, u64::MAX, most);
-            let ending = answer(alloc, line, file, cert, &mut first);
-            match first.full() {
-                None => ending,
-                Some(_) => cut_off(alloc, line, most),
-            }
-        }
-    };
-    if let Some(OutFault::Kept) = out.fault() {
+    let ending = answer_within(alloc, line, file, cert, &mut out);
+    if let (Ask::Certify { .. }, Some(OutFault::Kept)) = (&line.ask, out.fault()) {
         return Ended::with(keep_out(rt, alloc, line));
     }
     let ending = completed(alloc, line, ending, out.fault());
@@ -93,6 +86,28 @@ pub fn run_opened<R: Files<File = File> + Print + Eprint>(
     Ended {
         is_closed: ending.silent,
         status: end(rt, alloc, &line.prefix, ending),
+    }
+}
+
+/// Writes no more bytes than the line allows.
+fn answer_within<S: Source + Drop, C: Source + Drop, W: Write>(
+    alloc: Global,
+    line: &Run<'_>,
+    file: S,
+    cert: C,
+    out: &mut W,
+) -> Ending
+    ensures { IsTrue (S.means file).honest → IsTrue (C.means cert).honest → line.now.most ≡ None
+        → EndsAsked line.now.ask line.now.hex (S.means file).octets (C.means cert).octets result.answer }
+{
+    let Some(most) = line.most else {
+        return answer(alloc, line, file, cert, out);
+    };
+    let mut first = FirstLines::new(out, u64::MAX, most);
+    let ending = answer(alloc, line, file, cert, &mut first);
+    match first.full() {
+        None => ending,
+        Some(_) => cut_off(alloc, line, most),
     }
 }
 
@@ -108,7 +123,7 @@ fn cut_off(alloc: Global, line: &Run<'_>, most: u64) -> Ending {
 
 /// OUT is no certificate.
 fn keep_out<R: Eprint>(rt: &R, alloc: Global, line: &Run<'_>) -> u8
-    ensures { result ≤ 4 }
+    ensures { (result ≡ 2) ⊎ (result ≡ 4) }
 {
     match keeps_line(alloc, line.out, line.hex) {
         Ok(line) => refuse_line(rt, &line),
@@ -117,7 +132,9 @@ fn keep_out<R: Eprint>(rt: &R, alloc: Global, line: &Run<'_>) -> u8
 }
 
 /// Adds a warning if `certify` wrote more bytes than any other command reads.
-fn warned(alloc: Global, line: &Run<'_>, ending: Ending, written: u64) -> Ending {
+fn warned(alloc: Global, line: &Run<'_>, ending: Ending, written: u64) -> Ending
+    ensures { IsStillEnd ending.answer result.answer }
+{
     match &line.ask {
         Ask::Certify { .. } if ending.answer.is_ok() && written > WHOLE_LIMIT as u64 => {
             match too_long_line(alloc, line.out) {
@@ -136,7 +153,10 @@ pub fn answer<S: Source + Drop, C: Source + Drop, W: Write>(
     file: S,
     cert: C,
     out: &mut W,
-) -> Ending {
+) -> Ending
+    ensures { IsTrue (S.means file).honest → IsTrue (C.means cert).honest
+        → EndsAsked line.now.ask line.now.hex (S.means file).octets (C.means cert).octets result.answer }
+{
     let mut cert = cert;
     let mut out = Labelled::new(alloc, out, line.labels());
     let (ending, mut file) = answer_on(alloc, line, file, &mut cert, &mut out);
@@ -144,13 +164,11 @@ pub fn answer<S: Source + Drop, C: Source + Drop, W: Write>(
         return Ending::with(alloc, RunFault::Memory);
     }
     let Ending { answer, under, .. } = ending;
-    match answer {
-        Err(fault) if line.explain => {
-            let under = under_fault(alloc, line, &mut file, &mut cert, &fault);
-            Ending::over(Err(fault), under)
-        }
-        answer => Ending::over(answer, under),
-    }
+    let under = match &answer {
+        Err(fault) if line.explain => under_fault(alloc, line, &mut file, &mut cert, fault),
+        _ => under,
+    };
+    Ending::over(answer, under)
 }
 
 /// Returns FILE too. CERT is empty if there is none.

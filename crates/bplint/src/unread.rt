@@ -1,5 +1,9 @@
 //! Inputs that could not be read, and why.
 
+ghost use Rattle.std.specs.Prelude.{◌≤◌};
+ghost use Rattle.bplint_engine.specs.Findings.{status_of};
+ghost use Rattle.bplint.specs.ExitStatuses.{Fails};
+
 use crate::ending::Ending;
 use crate::folders::shown_octets;
 use crate::input_fault::InputFault;
@@ -40,7 +44,9 @@ impl<'a> Unread<'a> {
     }
 
     /// Returns how the run ends. With `explain`, there is a line with the name and the reason below that of the fault.
-    pub fn ending(self, alloc: Global, explain: bool) -> Ending {
+    pub fn ending(self, alloc: Global, explain: bool) -> Ending
+        ensures { Fails result.answer }
+    {
         if !explain {
             return Ending::with(alloc, RunFault::from(self.fault));
         }
@@ -51,7 +57,9 @@ impl<'a> Unread<'a> {
     }
 
     /// Returns what `lint --json` finds about the file.
-    pub fn finding(self, alloc: Global) -> Finding {
+    pub fn finding(self, alloc: Global) -> Finding
+        ensures { 3 ≤ status_of result }
+    {
         Finding::Unread {
             cause: self.why(alloc).ok(),
             fault: RunFault::from(self.fault),

@@ -1,6 +1,7 @@
 pub mod Certify
 pub mod Check
 pub mod Commands
+pub mod Findings
 pub mod Get
 pub mod Hexadecimal
 pub mod Least

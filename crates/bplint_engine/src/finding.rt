@@ -1,6 +1,9 @@
 //! What `lint` finds out about a file, with the path to the object that breaks a rule.
 
-ghost use Rattle.std.specs.Prelude.{◌≤◌};
+ghost use Rattle.std.specs.Prelude.{◌≡◌, ◌≤◌, MatchResult};
+ghost use Rattle.bplist_octets.specs.Meaning.{Honestly};
+ghost use Rattle.bplint_lines.specs.FaultLines.{report_of};
+ghost use Rattle.bplint_engine.specs.Findings.{IsFindingOf, status_of};
 
 use crate::object_path::path_to;
 use bplint_lines::{Naming, ObjectPath, RunFault};
@@ -75,7 +78,8 @@ impl Finding {
     /// Returns the exit status: 0 for a file that holds a value, 1 for one that breaks a rule, otherwise that of the
     /// fault.
     pub fn status(&self) -> u8
-        ensures { result ≤ 4 }
+        ensures exact { result ≡ status_of self.now }
+        ensures few { result ≤ 4 }
     {
         match self {
             Finding::Sound { .. } => 0,
@@ -87,14 +91,18 @@ impl Finding {
 
 /// Lints a source. If a read fails or memory is refused, the finding is `Unread` without a cause. Once a broken rule is
 /// known, refused memory only leaves out the path, or what the file looks like.
-pub fn find_in<S: Source>(alloc: Global, src: &mut S) -> Finding {
+pub fn find_in<S: Source>(alloc: Global, src: &mut S) -> Finding
+    ensures { Honestly (S.means src.old) (λ f. IsFindingOf f result) }
+{
     match try_find(alloc, src) {
         Ok(finding) => finding,
         Err(fault) => Finding::Unread { fault, cause: None },
     }
 }
 
-fn try_find<S: Source>(alloc: Global, src: &mut S) -> Result<Finding, RunFault> {
+fn try_find<S: Source>(alloc: Global, src: &mut S) -> Result<Finding, RunFault>
+    ensures { Honestly (S.means src.old) (λ f. MatchResult result (IsFindingOf f) (λ fault. 3 ≤ (report_of fault).1)) }
+{
     match lint(alloc, src) {
         Ok(found) => match kind_of_top(src) {
             Ok(top) => Ok(Finding::Sound {
