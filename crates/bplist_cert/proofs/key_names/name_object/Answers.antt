@@ -1,5 +1,4 @@
 use Rattle.std.proofs.Common.{ℕ, ◌<◌, inl, inr, refl, subst}
-use Rattle.std.proofs.lemmas.Result.{err_from_is_err_and}
 use Rattle.bplist_objects.specs.declared.frame.Frame.{Frame}
 use Rattle.bplist_objects.specs.declared.head.Head.{Head}
 use Rattle.bplist_objects.specs.Framed.{frame_in}
@@ -8,16 +7,15 @@ use Rattle.bplist_objects.specs.declared.head.Kind.TheVariants.{Dict}
 use Rattle.bplist_objects.specs.Scan.{ref}
 use Rattle.bplist_keys.specs.Marks.{IsMarked}
 use Rattle.bplist_cert.proofs.TextObjects.{shape_kept}
-use Rattle.bplist_cert.proofs.CheckSteps.{given_weaker}
+use Rattle.bplist_cert.proofs.CheckSteps.{given_weaker, on_err}
 use Rattle.bplist_cert.proofs.KeyRepeats.{keys_inside}
 use Rattle.bplist_cert.proofs.key_names.name_object.Goals as goal
 
 pub returns-in_err-head-clause-exact : goal.returns-in_err-head-clause-exact
 returns-in_err-head-clause-exact g c = λ honest at kept all.
     let m = g.P.Source.means c.args.src.now in
-    let p = err_from_is_err_and c.from_residual.result c.from_residual.ensures.1 in
     let rules = c.in_err-head.ensures.rules honest at in
-    rw (p.1, p.2) (given_weaker _ _ c.in_err-head.field-0.0 (λ fault h. absurd (shape_kept m.octets (frame_in m) c.args.n fault kept h)) rules)
+    on_err _ _ _ _ c.from_residual.ensures.1 (given_weaker _ _ c.in_err-head.field-0.0 (λ fault h. absurd (shape_kept m.octets (frame_in m) c.args.n fault kept h)) rules)
 
 pub returns-in_ok-name_keys-in-Dict-clause-exact : goal.returns-in_ok-name_keys-in-Dict-clause-exact
 returns-in_ok-name_keys-in-Dict-clause-exact g c = λ honest at kept all head has dict k low.

@@ -1,10 +1,10 @@
 use Rattle.std.proofs.Common.{◌≡◌, ◌+◌, ◌*◌, ◌≤◌, ◌∙◌, ap, sym, subst, count_by, arith}
 use Rattle.std.proofs.lemmas.Bool.{eqb-true, false≢true}
-use Rattle.std.proofs.lemmas.Result.{err_from_is_err_and, on_ok_weaker}
+use Rattle.std.proofs.lemmas.Result.{on_ok_weaker}
 use Rattle.bplist_objects.specs.declared.frame.Frame.{Frame}
 use Rattle.bplist_objects.specs.Framed.{frame_in}
 use Rattle.bplist_cert.specs.Looks.{KeepBeforeKeysBelow}
-use Rattle.bplist_cert.proofs.CheckSteps.{refused_weaker}
+use Rattle.bplist_cert.proofs.CheckSteps.{refused_weaker, on_err}
 use Rattle.bplist_cert.proofs.KeyRepeats.{good_unnamed}
 use Rattle.bplist_cert.proofs.KeysLooks.{collected_apart}
 use Rattle.bplist_cert.proofs.key_rules.check_key_repeats.Goals as goal
@@ -12,8 +12,7 @@ use Rattle.bplist_cert.proofs.key_rules.check_key_repeats.Goals.{then-are_apart,
 
 pub returns-in_err-named-clause-exact : goal.returns-in_err-named-clause-exact
 returns-in_err-named-clause-exact g c = λ honest seen given.
-    let p = err_from_is_err_and c.from_residual.result c.from_residual.ensures.1 in
-    rw (p.1, p.2) (refused_weaker _ _ c.in_err-named.field-0.0 (λ x never. absurd never) (c.in_err-named.ensures.exact honest seen given))
+    on_err _ _ _ _ c.from_residual.ensures.1 (refused_weaker _ _ c.in_err-named.field-0.0 (λ x never. absurd never) (c.in_err-named.ensures.exact honest seen given))
 
 pub returns-then-keys-eq0-clause-exact : goal.returns-then-keys-eq0-clause-exact
 returns-then-keys-eq0-clause-exact g c = λ honest seen given n low vouched.

@@ -1,17 +1,15 @@
-use Rattle.std.proofs.Common.{◌≡◌, None, sym, subst, ◌∙◌, inl, inr, arith}
-use Rattle.std.proofs.lemmas.Bool.{cases_eq}
+use Rattle.std.proofs.Common.{◌≡◌, None, sym, subst, ◌∙◌, below_more, arith}
 use Rattle.std.proofs.lemmas.List.Sums.{count_by-le-length}
-use Rattle.std.proofs.lemmas.Result.{err_from_is_err_and}
 use Rattle.bplist_objects.specs.declared.frame.Frame.{Frame}
 use Rattle.bplist_objects.specs.Framed.{frame_in}
 use Rattle.bplist_objects.proofs.ExtentSums.{room_weaker}
 use Rattle.bplist_keys.specs.Texts.{IsMarkedText}
 use Rattle.bplist_keys.proofs.LookUps.{new_low, stamped_low}
 use Rattle.bplist_cert.specs.Valid.{IsVouchedBy}
-use Rattle.bplist_cert.specs.KeyRepeats.{HasGoodKeys, BreaksKeys}
+use Rattle.bplist_cert.specs.KeyRepeats.{BreaksKeys}
 use Rattle.bplist_cert.proofs.AskedBytes.{head_taken, paid_all, paid_more, paid_over}
 use Rattle.bplist_cert.proofs.KeyRepeats.{keys_classed, good_low, good_apart}
-use Rattle.bplist_cert.proofs.CheckSteps.{refused_weaker, vouched_inside}
+use Rattle.bplist_cert.proofs.CheckSteps.{refused_weaker, vouched_inside, on_err}
 use Rattle.bplist_cert.proofs.key_rules.check_named.Goals as goal
 use Rattle.bplist_cert.proofs.key_rules.check_named.Goals.{then-entry_or-gt1+in_ok-check_dict_repeats, else-entry_or-gt1}
 
@@ -26,8 +24,7 @@ returns-in_err-check_dict_repeats-clause-exact g c = λ honest seen named apart.
     let here : IsVouchedBy c.args.seen.now.heights.now n = omega (arith, c.entry_or.ensures, c.if-entry_or-gt1.true) in
     let judged = (rw (v.reads, table_is) at c.in_err-check_dict_repeats.ensures.exact) honest c.loop-n-test.true here seen
     (keys_classed f F _ c.in_ok-classes.classes.table.items n (c.in_ok-classes.ensures.exact honest) (named.1 n c.loop-n-test.true here)) (new_low n _ (v.stamps honest)) before.0 in
-    let p = err_from_is_err_and c.from_residual-in_err-check_dict_repeats.result c.from_residual-in_err-check_dict_repeats.ensures.1 in
-    rw (p.1, p.2) (refused_weaker _ _ c.in_err-check_dict_repeats.field-0.0 (λ fault h. record {
+    on_err _ _ _ _ c.from_residual-in_err-check_dict_repeats.ensures.1 (refused_weaker _ _ c.in_err-check_dict_repeats.field-0.0 (λ fault h. record {
       object = n;
       within = c.loop-n-test.true;
       vouched = here;
@@ -59,10 +56,7 @@ loop-n-preserved g c =
                 let good = (rw (v.reads, table_is) at w.in_ok-check_dict_repeats.ensures.exact) honest c.loop-n-test.true here seen
                 (keys_classed f F _ c.in_ok-classes.classes.table.items n (c.in_ok-classes.ensures.exact honest) (named.1 n c.loop-n-test.true here)) (new_low n _ (v.stamps honest)) before.0 in (
                   rw w.look-is good.0,
-                  λ m low vouched. elim (cases_eq m n) [
-                    | inl e ↦ subst (HasGoodKeys f F None) (sym e) good.1
-                    | inr d ↦ before.1 m (omega (arith, low, d)) vouched
-                  ],
+                  below_more _ _ before.1 (λ _. good.1),
                 );
           }
       | else-entry_or-gt1 w ↦ record {
@@ -73,10 +67,7 @@ loop-n-preserved g c =
         exact = λ honest seen named.
             let before = v.exact honest seen named in (
               rw w.look-is before.0,
-              λ m low vouched. elim (cases_eq m n) [
-                | inl e ↦ good_low f F heights m (seen m (omega (arith, e, c.loop-n-test.true)) vouched) (rw e (omega (arith, c.entry_or.ensures, w.if-entry_or-gt1.false)))
-                | inr d ↦ before.1 m (omega (arith, low, d)) vouched
-              ],
+              below_more _ _ before.1 (λ vouched. good_low f F heights n (seen n c.loop-n-test.true vouched) (omega (arith, c.entry_or.ensures, w.if-entry_or-gt1.false))),
             );
       }
     ]

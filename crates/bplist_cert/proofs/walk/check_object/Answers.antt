@@ -1,4 +1,4 @@
-use Rattle.std.proofs.lemmas.Result.{err_from_is_err_and}
+use Rattle.bplist_cert.proofs.CheckSteps.{on_err}
 use Rattle.bplist_cert.proofs.walk.check_object.Goals as goal
 
 pub returns-in-Quick-clause-exact : goal.returns-in-Quick-clause-exact
@@ -10,5 +10,4 @@ returns-in_ok-walked-in-Exact-clause-exact g c = λ honest place vouched sums. (
 
 pub returns-in_err-walked-in-Exact-clause-exact : goal.returns-in_err-walked-in-Exact-clause-exact
 returns-in_err-walked-in-Exact-clause-exact g c = λ honest place vouched sums.
-    let p = err_from_is_err_and c.from_residual.result c.from_residual.ensures.1 in
-    rw (p.1, p.2, c.in-Exact.is) (c.in_err-walked-in-Exact.ensures.exact honest place vouched sums)
+    rw c.in-Exact.is (on_err _ _ _ _ c.from_residual.ensures.1 (c.in_err-walked-in-Exact.ensures.exact honest place vouched sums))
