@@ -1,6 +1,5 @@
 -- What a walk over the vouched objects finds out about the keys of dictionaries.
-use Rattle.std.proofs.Common.{◌≡◌, ℕ, suc, ◌+◌, ◌-◌, ◌*◌, ◌≤◌, ◌<◌, ◌∙◌, ap, sym, subst, below_more, inl, inr, List, length, slice_index, IsTrue, Bool, false, Option, Some, None, MatchOption, ◌↔◌, arith}
-use Rattle.std.proofs.lemmas.Bool.{cases_lt, false≢true}
+use Rattle.std.proofs.Common.{◌≡◌, ℕ, suc, ◌+◌, ◌-◌, ◌*◌, ◌≤◌, ◌<◌, ◌∙◌, ap, sym, subst, below_more, inl, inr, List, length, slice_index, IsTrue, Bool, Option, Some, None, MatchOption, ◌↔◌, arith}
 use Rattle.std.proofs.lemmas.List.{get_or_past}
 use Rattle.bplist_objects.specs.declared.frame.Frame.{Frame}
 use Rattle.bplist_objects.specs.declared.head.Head.{Head}
@@ -24,13 +23,6 @@ pub none_past : (numbers block : List ℕ) (from n m : ℕ) → ((k : ℕ) → k
     → from + length block ≤ m → m < from + n → slice_index numbers m ≡ 0
 none_past numbers block from n m at past low =
     ap (slice_index numbers) (omega (arith, past)) ∙ sym (at (m - from) (omega (arith, past, low))) ∙ get_or_past block (m - from) 0 (omega (arith, past))
-
--- what is marked is in the list
-pub marked_within : (marks : List Bool) (m : ℕ) → IsMarked marks m → m < length marks
-marked_within marks m is = elim (cases_lt m (length marks)) [
-  | inl a ↦ a
-  | inr b ↦ absurd (false≢true (sym (get_or_past marks m false b) ∙ is))
-]
 
 -- about no objects nothing is said except what was learnt
 pub none_listed : (f : List ℕ) (F : Frame) (heights : List ℕ) (keyed : Keyed) (look : KeyListFindings) → AreLearnt f F look → HaveGoodLists f F heights keyed 0 look

@@ -4,7 +4,8 @@ use Rattle.bplist_objects.specs.declared.frame.Frame.{Frame}
 use Rattle.bplist_objects.specs.Framed.{frame_in}
 use Rattle.bplist_objects.specs.Units.{compare_units}
 use Rattle.bplist_keys.proofs.TextUnits.{text_units-head}
-use Rattle.bplist_cert.proofs.KeyPairs.{lt_less, ranked_units}
+use Rattle.bplist_keys.proofs.Groups.{less as lt_less}
+use Rattle.bplist_cert.proofs.KeyPairs.{ranked_units}
 use Rattle.bplist_cert.proofs.key_order.comes_after.Goals as goal
 
 pub returns-in-Some-clause-exact : goal.returns-in-Some-clause-exact
