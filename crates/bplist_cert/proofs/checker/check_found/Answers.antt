@@ -10,7 +10,6 @@ use Rattle.bplist_cert.proofs.checker.check_found.Goals as goal
 
 pub returns-in_err-check-in-Ok-clause-exact : goal.returns-in_err-check-in-Ok-clause-exact
 returns-in_err-check-in-Ok-clause-exact g c = λ honest none.
-    let f = (g.P.Source.means c.args.src.now).octets in
     let F : Frame = frame_in (g.P.Source.means c.args.src.now) in
     let heights = c.args.cert.now.heights in
     let keys = c.args.cert.now.keys in
@@ -18,7 +17,7 @@ returns-in_err-check-in-Ok-clause-exact g c = λ honest none.
     let run = c.in-Ok.ensures.exact honest none in
     let shown = c.deref-heights.ensures.value ∙ ap (λ (x : Lists). x.heights) c.cert.view_is in
     let keyed = rw (c.in-Ok.ensures.reads, c.frame-objects.ensures.frame, same, shown) at c.in_err-check-in-Ok.ensures.exact in
-    on_err _ _ _ _ c.from_residual.ensures.1 (refused_weaker _ _ c.in_err-check-in-Ok.field-0.0 (λ fault h. keys_first f F heights keys fault F.objects run.0.kept h) (keyed honest run.0.kept run.1))
+    on_err _ _ _ _ c.from_residual.ensures.1 (refused_weaker _ _ c.in_err-check-in-Ok.field-0.0 (λ fault h. keys_first _ _ heights keys fault F.objects run.0.kept h) (keyed honest run.0.kept run.1))
 
 pub returns-in_err-check-in-Err-Fault-clause-exact : goal.returns-in_err-check-in-Err-Fault-clause-exact
 returns-in_err-check-in-Err-Fault-clause-exact g c = λ honest none.
@@ -42,15 +41,13 @@ returns-in_err-check-in-Err-Fault-clause-exact g c = λ honest none.
 
 pub returns-in_ok-check-in-Ok-clause-exact : goal.returns-in_ok-check-in-Ok-clause-exact
 returns-in_ok-check-in-Ok-clause-exact g c = λ honest none.
-    let f = (g.P.Source.means c.args.src.now).octets in
-    let F : Frame = frame_in (g.P.Source.means c.args.src.now) in
     let heights = c.args.cert.now.heights in
     let keys = c.args.cert.now.keys in
     let same = ap (λ (x : Lists). x.keys) c.cert.view_is in
     let run = c.in-Ok.ensures.exact honest none in
     let shown = c.deref-heights.ensures.value ∙ ap (λ (x : Lists). x.heights) c.cert.view_is in
     let keyed = rw (c.in-Ok.ensures.reads, c.frame-objects.ensures.frame, same, shown) at c.in_ok-check-in-Ok.ensures.exact in
-    all_good f F heights keys c.in-Ok.used.octets run.0 (keyed honest run.0.kept run.1)
+    all_good _ _ heights keys c.in-Ok.used.octets run.0 (keyed honest run.0.kept run.1)
 
 pub returns-in_ok-check-in-Err-Fault-clause-exact : goal.returns-in_ok-check-in-Err-Fault-clause-exact
 returns-in_ok-check-in-Err-Fault-clause-exact g c = λ honest none.
@@ -75,8 +72,6 @@ returns-in_ok-check-in-Err-Fault-clause-exact g c = λ honest none.
 
 pub returns-in_ok-check-in-Ok-clause-asks : goal.returns-in_ok-check-in-Ok-clause-asks
 returns-in_ok-check-in-Ok-clause-asks g c = λ honest none seen some.
-    let f = (g.P.Source.means c.args.src.now).octets in
-    let F : Frame = frame_in (g.P.Source.means c.args.src.now) in
     let same = ap (λ (x : Lists). x.keys) c.cert.view_is in
     let run = c.in-Ok.ensures.exact honest seen in
     let passes = c.in-Ok.ensures.asks honest seen none in
@@ -84,7 +79,7 @@ returns-in_ok-check-in-Ok-clause-asks g c = λ honest none seen some.
     let keyed = rw (c.in-Ok.ensures.reads, c.frame-objects.ensures.frame, same, shown) at c.in_ok-check-in-Ok.ensures.asks in
     let told = keyed honest none refl (record {
       kept = run.0.kept;
-      room = all_room f F c.args.cert.now Quick c.in-Ok.used.octets c.requires run.0;
+      room = all_room _ _ c.args.cert.now Quick c.in-Ok.used.octets c.requires run.0;
       collected = rw none at run.1;
       some = λ e. some (passes.1 e);
     }) in

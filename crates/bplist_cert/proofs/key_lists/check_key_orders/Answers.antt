@@ -1,4 +1,4 @@
-use Rattle.std.proofs.Common.{◌≡◌, ◌≤◌, Some, length, slice_index, refl, ap, sym, subst, ◌∙◌, below_more, arith}
+use Rattle.std.proofs.Common.{◌≡◌, ◌≤◌, Some, length, slice_index, ap, sym, subst, ◌∙◌, below_more, arith}
 use Rattle.bplist_objects.specs.declared.frame.Frame.{Frame}
 use Rattle.bplist_objects.specs.Framed.{frame_in}
 use Rattle.bplist_cert.specs.Lists.{Keyed, IsCompleteList}
@@ -9,12 +9,6 @@ use Rattle.bplist_cert.proofs.KeyPairs.{low_list, listed_good}
 use Rattle.bplist_cert.proofs.CheckSteps.{given_weaker, on_err}
 use Rattle.bplist_cert.proofs.key_lists.check_key_orders.Goals as goal
 use Rattle.bplist_cert.proofs.key_lists.check_key_orders.Goals.{then-may_be_wrong+in_ok-check_dict_order, else-may_be_wrong}
-
-pub loop-n-init : goal.loop-n-init
-loop-n-init g c = record {
-  reads = refl;
-  exact = λ honest seen lists. (lists.learnt, λ k low. absurd (omega (arith, low)));
-}
 
 pub returns-then-seen-frame-clause-exact : goal.returns-then-seen-frame-clause-exact
 returns-then-seen-frame-clause-exact g c = λ honest seen lists n low vouched.
@@ -44,8 +38,6 @@ returns-in_err-check_dict_order-clause-exact g c = λ honest seen lists.
 
 pub loop-n-preserved : goal.loop-n-preserved
 loop-n-preserved g c =
-    let f = (g.P.Source.means c.args.src.now).octets in
-    let F : Frame = frame_in (g.P.Source.means c.args.src.now) in
     let heights = c.args.seen.now.heights.now in
     let v = c.loop-n.invariant in
     let n = c.loop-n.n in
@@ -71,7 +63,7 @@ loop-n-preserved g c =
                   let none = c.may_be_wrong.ensures.none w.if-may_be_wrong.false (omega (arith, c.entry_or-height.ensures, here)) in
                   let low_height : slice_index heights n ≤ 1 = omega (arith, c.entry_or-height.ensures, none.0) in
                   let whole : IsCompleteList c.args.keys.now n 0 = omega (arith, c.entry_or.ensures ∙ ap (λ xs. slice_index xs n) starts, none.1, c.len.ensures, positions) in
-                  low_list f F heights n (seen n c.loop-n-test.true here) c.args.keys.now low_height whole),
+                  low_list _ _ heights n (seen n c.loop-n-test.true here) c.args.keys.now low_height whole),
             );
       }
     ]

@@ -26,9 +26,8 @@ returns-in_ok-order_fault-in-Dict-clause-exact g c = λ honest known at kept.
 
 pub returns-in_err-head-clause-exact : goal.returns-in_err-head-clause-exact
 returns-in_err-head-clause-exact g c = λ honest known at kept.
-    let m = g.P.Source.means c.args.src.now in
     let rules = c.in_err-head.ensures.rules honest at in
-    on_err _ _ _ _ c.from_residual.ensures.1 (given_weaker _ _ c.in_err-head.field-0.0 (λ fault h. absurd (shape_kept m.octets (frame_in m) c.args.n fault kept h)) rules)
+    on_err _ _ _ _ c.from_residual.ensures.1 (given_weaker _ _ c.in_err-head.field-0.0 (λ fault h. absurd (shape_kept _ _ c.args.n fault kept h)) rules)
 
 pub returns-in_default : goal.returns-in_default
 returns-in_default g c = record {

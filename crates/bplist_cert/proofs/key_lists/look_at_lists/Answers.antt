@@ -13,8 +13,6 @@ use Rattle.bplist_cert.proofs.key_lists.look_at_lists.Goals as goal
 
 pub loop-i-preserved-then-not-may_be_wrong : goal.loop-i-preserved-then-not-may_be_wrong
 loop-i-preserved-then-not-may_be_wrong g c =
-    let f = (g.P.Source.means c.args.src.now).octets in
-    let F : Frame = frame_in (g.P.Source.means c.args.src.now) in
     let heights = c.args.seen.now.heights.now in
     let keyed = c.args.keys.now in
     let v = c.loop-i.invariant in
@@ -34,7 +32,7 @@ loop-i-preserved-then-not-may_be_wrong g c =
                 let none = c.may_be_wrong.ensures.none c.if-not-may_be_wrong.true (omega (arith, height, here)) in
                 let low_height : slice_index heights n ≤ 1 = omega (arith, height, none.0) in
                 let whole : IsCompleteList keyed n 0 = omega (arith, start, none.1, c.len.ensures, positions) in
-                low_listed f F heights n (seen n (omega (arith, under)) here) keyed low_height whole) m (omega (arith, low));
+                low_listed _ _ heights n (seen n (omega (arith, under)) here) keyed low_height whole) m (omega (arith, low));
           };
     }
 

@@ -1,5 +1,4 @@
 use Rattle.std.proofs.Common.{◌≡◌, ◌∙◌, inl, inr, length, arith}
-use Rattle.std.proofs.lemmas.Grind.{common_steps}
 use Rattle.std.proofs.lemmas.List.{length-take-le}
 use Rattle.bplist_objects.specs.Answers.{Never}
 use Rattle.bplist_cert.proofs.CheckSteps.{never_refused, on_err}
@@ -31,11 +30,3 @@ loop-done-preserved g c =
           let told = (rw (c.in_ok-read_offsets_in.ensures.reads, v.same) at c.in_ok-name_key_block.ensures.only) honest places in
           elim (told m marked) [ inl before ↦ v.only honest m before | inr key ↦ key ];
     }
-
-pub returns-clause-exact : goal.returns-clause-exact
-returns-clause-exact g c = λ honest seen.
-    let named = c.loop-done.invariant.named honest seen in
-    (named.0, λ n low vouched. named.1 n (omega (arith, low, c.loop-done-test.false)) vouched)
-
-pub loop-done-init : goal.loop-done-init
-loop-done-init g c = grind (arith, common_steps)

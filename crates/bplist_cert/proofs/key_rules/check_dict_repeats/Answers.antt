@@ -14,10 +14,8 @@ use Rattle.bplist_cert.proofs.key_rules.check_dict_repeats.Goals as goal
 
 pub returns-in_err-head-clause-exact : goal.returns-in_err-head-clause-exact
 returns-in_err-head-clause-exact g c = λ honest low vouched seen classed stamps learnt.
-    let f = (g.P.Source.means c.args.src.now).octets in
-    let F : Frame = frame_in (g.P.Source.means c.args.src.now) in
-    let kept = seen_own f F c.args.seen.now.heights.now c.args.n (seen c.args.n low vouched) in
-    on_err _ _ _ _ c.from_residual.ensures.1 (object_refused _ _ c.in_err-head.field-0.0 (λ fault h. absurd (shape_kept f F c.args.n fault kept h)) (c.in_err-head.ensures.rules honest))
+    let kept = seen_own _ _ c.args.seen.now.heights.now c.args.n (seen c.args.n low vouched) in
+    on_err _ _ _ _ c.from_residual.ensures.1 (object_refused _ _ c.in_err-head.field-0.0 (λ fault h. absurd (shape_kept _ _ c.args.n fault kept h)) (c.in_err-head.ensures.rules honest))
 
 pub returns-then-seen-frame-clause-exact : goal.returns-then-seen-frame-clause-exact
 returns-then-seen-frame-clause-exact g c = λ honest low vouched seen classed stamps learnt.
@@ -43,24 +41,20 @@ returns-in_err-check_texts-clause-exact g c = λ honest low vouched seen classed
 
 pub returns-in-None-clause-exact : goal.returns-in-None-clause-exact
 returns-in-None-clause-exact g c = λ honest low vouched seen classed stamps learnt.
-    let f = (g.P.Source.means c.args.src.now).octets in
-    let F : Frame = frame_in (g.P.Source.means c.args.src.now) in
     let head = c.in_ok-head.head in
     let has = (c.in_ok-head.ensures.rules honest).0 in
     let found = (rw (c.in-None.is, c.in_ok-head.ensures.reads) at c.in_ok-found.ensures.exact) honest stamps in
     let texts = (rw (c.in_ok-found.ensures.reads, c.in_ok-head.ensures.reads) at c.in_ok-check_texts.ensures.exact) honest learnt in
-    (texts.0, good_at f F None c.args.n head has (λ _. (texts.1, apart_differ f F head _ (classed head has c.in-Dict.is) head.count (omega arith) found.1)))
+    (texts.0, good_at _ _ None c.args.n head has (λ _. (texts.1, apart_differ _ _ head _ (classed head has c.in-Dict.is) head.count (omega arith) found.1)))
 
 pub returns-in-Some-clause-exact : goal.returns-in-Some-clause-exact
 returns-in-Some-clause-exact g c = λ honest low vouched seen classed stamps learnt.
-    let f = (g.P.Source.means c.args.src.now).octets in
-    let F : Frame = frame_in (g.P.Source.means c.args.src.now) in
     let head = c.in_ok-head.head in
     let has = (c.in_ok-head.ensures.rules honest).0 in
     let found = (rw (c.in-Some.is, c.in_ok-head.ensures.reads) at c.in_ok-found.ensures.exact) honest stamps in
     let texts = (rw (c.in_ok-found.ensures.reads, c.in_ok-head.ensures.reads) at c.in_ok-check_texts.ensures.exact) honest learnt in
     let told = rw (c.in_ok-check_texts.ensures.reads, c.in_ok-found.ensures.reads, c.in_ok-head.ensures.reads) at c.fault.ensures in
-    (head, has, (c.in-Dict.is, inr (texts.1, twice_fault f F head _ (classed head has c.in-Dict.is) texts.1 (record { 0 = c.args.n }) c.in-Some.wrong c.fault.result found told)))
+    (head, has, (c.in-Dict.is, inr (texts.1, twice_fault _ _ head _ (classed head has c.in-Dict.is) texts.1 (record { 0 = c.args.n }) c.in-Some.wrong c.fault.result found told)))
 
 pub returns-in_default : goal.returns-in_default
 returns-in_default g c = record {

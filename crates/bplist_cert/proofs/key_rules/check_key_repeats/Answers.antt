@@ -16,10 +16,9 @@ returns-in_err-named-clause-exact g c = λ honest seen given.
 
 pub returns-then-keys-eq0-clause-exact : goal.returns-then-keys-eq0-clause-exact
 returns-then-keys-eq0-clause-exact g c = λ honest seen given n low vouched.
-    let m = g.P.Source.means c.args.src.now in
     let named = c.in_ok-named.named.marks.items in
     let none : count_by (λ marked. marked) named ≡ 0 = omega (arith, c.count-keys.ensures, c.if-keys-eq0.true) in
-    good_unnamed m.octets (frame_in m) named n none ((c.in_ok-named.ensures.exact honest seen given).1 n low vouched)
+    good_unnamed _ _ named n none ((c.in_ok-named.ensures.exact honest seen given).1 n low vouched)
 
 pub returns-clause-exact : goal.returns-clause-exact
 returns-clause-exact g c = λ honest seen given.
@@ -38,9 +37,6 @@ returns-clause-exact g c = λ honest seen given.
           (omega (arith, all, objects), collected_apart m.octets F c.args.seen.now.heights.now c.args.seen.now.bound c.args.names (c.are_apart.ensures w.if-are_apart.true) given)
       | else-are_apart w ↦ absurd (false≢true (sym w.if-are_apart.false ∙ sym w.apart-is ∙ apart))
     ])
-
-pub returns-then-keys-eq0-clause-asks : goal.returns-then-keys-eq0-clause-asks
-returns-then-keys-eq0-clause-asks g c = λ honest whole walked. omega (arith, c.in_ok-named.ensures.asks honest walked)
 
 pub returns-clause-asks : goal.returns-clause-asks
 returns-clause-asks g c = λ honest whole walked.

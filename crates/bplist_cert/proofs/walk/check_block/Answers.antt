@@ -52,14 +52,13 @@ loop-i-preserved g c =
 pub returns-in_err-check_object-clause-exact : goal.returns-in_err-check_object-clause-exact
 returns-in_err-check_object-clause-exact g c = λ honest places run.
     let shown = c.deref-heights.ensures.value ∙ ap (λ (x : Lists). x.heights) c.cert.view_is in
-    let m = g.P.Source.means c.args.src.now in
     let heights = c.args.walk.certificate.now.heights in
     let keys = c.args.walk.certificate.now.keys in
     let exact = rw c.loop-i.invariant.same at c.in_err-check_object.ensures.exact in
     let v : IsVouchedBy heights (c.args.from + c.loop-i.i) = omega (arith, ap (λ xs. slice_index xs (c.args.from + c.loop-i.i)) shown, c.if-heights-n-gt0.true) in
     let before = (c.loop-i.invariant.running honest places run).0 in
     on_err _ _ _ _ c.from_residual.ensures.1 (given_weaker _ _ c.in_err-check_object.field-0.0
-    (λ fault h. fault_met m.octets (frame_in m) heights keys (c.args.from + c.loop-i.i) (omega (arith, c.loop-i-test.true, c.requires.within)) v c.args.walk.look c.loop-i.walked.used.octets before fault h)
+    (λ fault h. fault_met _ _ heights keys (c.args.from + c.loop-i.i) (omega (arith, c.loop-i-test.true, c.requires.within)) v c.args.walk.look c.loop-i.walked.used.octets before fault h)
     (exact honest (places c.loop-i.i c.loop-i-test.true) v before.sums))
 
 pub returns-clause-exact : goal.returns-clause-exact
