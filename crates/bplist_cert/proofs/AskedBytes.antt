@@ -1,5 +1,5 @@
 -- What the passes over the keys of version 1 ask for, by the bytes of the objects.
-use Rattle.std.proofs.Common.{◌≡◌, ℕ, ◌+◌, ◌-◌, ◌*◌, ◌<◌, ◌≤◌, List, [], ◌∷◌, length, refl, ap, arith}
+use Rattle.std.proofs.Common.{◌≡◌, ℕ, ◌+◌, ◌-◌, ◌*◌, ◌<◌, ◌≤◌, List, ◌∷◌, length, refl, ap, arith}
 use Rattle.std.specs.List.{AllByRecursion}
 use Rattle.std.proofs.Math.Nat.{mul-le-mul_right}
 use Rattle.bplist_objects.specs.declared.frame.Frame.{Frame}
@@ -15,7 +15,7 @@ use Rattle.bplist_objects.specs.Safe.{ref_count}
 use Rattle.bplist_objects.proofs.BodyLaws.{refs_fit}
 use Rattle.bplist_objects.proofs.ExtentSums.{shape_extent}
 use Rattle.bplist_objects.proofs.HeadTies.{announced_shape, kept_announces}
-use Rattle.bplist_objects.proofs.Lists.{all_at, all_weaker, distinct_more, distinct_none}
+use Rattle.bplist_objects.proofs.Lists.{all_at, all_weaker, distinct_more}
 use Rattle.bplist_cert.specs.Looks.{KeepsBeforeKeys}
 use Rattle.bplist_cert.specs.PairFault.{AreCheckedBelow}
 use Rattle.bplist_cert.specs.Lists.{Lists}
@@ -57,9 +57,6 @@ module _ (f : List ℕ) (F : Frame) where
     pub enough : now ≤ start + 36 * n + bytes
 
   module _ (S : ℕ → Type 0) where
-    pub paid_none : (start : ℕ) → ArePaid S 0 start start
-    paid_none start = record { objects = []; bytes = 0; differ = distinct_none; inside = tt; take_all = refl; enough = omega arith }
-
     module _ (n start now : ℕ) (paid : ArePaid S n start now) where
       still : AllByRecursion (λ m. S m × (m < n + 1)) paid.objects
       still = all_weaker _ _ (λ m k. (k.0, let l = k.1 in omega arith)) paid.objects paid.inside

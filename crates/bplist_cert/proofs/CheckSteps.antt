@@ -1,5 +1,6 @@
 -- The walk over the vouched objects, one after the other.
-use Rattle.std.proofs.Common.{◌≡◌, ℕ, suc, ◌<◌, ◌≤◌, ◌+◌, ◌-◌, ◌*◌, min, ◌⊎◌, inl, inr, List, [], ◌∷◌, length, slice_index, Option, Some, None, Result, Ok, Err, sym, ap, subst, arith}
+use Rattle.std.proofs.Common.{◌≡◌, ℕ, suc, ◌<◌, ◌≤◌, ◌+◌, ◌-◌, ◌*◌, min, inl, inr, List, [], ◌∷◌, length, slice_index, Option, Some, None, Result, Ok, Err, sym, ap, subst, below_more, arith}
+use Rattle.std.specs.Result.{IsErrAnd, MatchResult}
 use Rattle.std.proofs.lemmas.Bool.{cases_lt}
 use Rattle.std.proofs.lemmas.List.{get_or_past}
 use Rattle.bplist_objects.specs.declared.rule.Rule.{Rule}
@@ -174,13 +175,7 @@ module _ (f : List ℕ) (F : Frame) (heights : List ℕ) (keys : Option Keyed) (
   module _ (look : Pass) where
     below_by : ((m : ℕ) → m < n → IsVouchedBy heights m → IsShown f F (lists heights keys) look m) → (IsVouchedBy heights n → IsShown f F (lists heights keys) look n)
         → (m : ℕ) → m < suc n → IsVouchedBy heights m → IsShown f F (lists heights keys) look m
-    below_by below here m lt v = go (cases_lt m n)
-      where
-        go : (m < n) ⊎ (n ≤ m) → IsShown f F (lists heights keys) look m
-        go (inl a) = below m a v
-        go (inr b) =
-            let e : n ≡ m = omega (arith, lt, b) in
-            subst (λ k. IsShown f F (lists heights keys) look k) e (here (subst (IsVouchedBy heights) (sym e) v))
+    below_by below here m low = below_more (λ k. IsVouchedBy heights k → IsShown f F (lists heights keys) look k) n below here m (omega (arith, low))
 
     -- the next object is not vouched for
     pub passed : (slice_index heights n ≡ 0) → (t : ℕ) → AreCheckedBelow f F (lists heights keys) look n t → AreCheckedBelow f F (lists heights keys) look (suc n) t
@@ -264,6 +259,11 @@ pub refused_weaker : (P Q : Fault → Type 0) (e : Refusal) → ((x : Fault) →
 refused_weaker P Q (refusals.Fault fault) same h = same fault h
 refused_weaker P Q (refusals.Read r) same h = tt
 refused_weaker P Q refusals.Memory same h = tt
+
+-- what the exit of a `?` returns, by its error
+pub on_err : {X E : Type 0} (P : X → Type 0) (Q : E → Type 0) (r : Result X E) (e : E) → IsErrAnd r (λ x. x ≡ e) → Q e → MatchResult r P Q
+on_err P Q (Ok x) e is h = absurd is
+on_err P Q (Err x) e is h = subst Q (sym is) h
 
 -- a claim about a fault that is returned
 pub given_weaker : (P Q : Fault → Type 0) (e : ObjectFault) → ((x : Fault) → P x → Q x) → GivesFault P e → GivesFault Q e

@@ -1,10 +1,9 @@
 -- Key lists by the markers and counts of the keys.
-use Rattle.std.proofs.Common.{◌≡◌, ℕ, zero, suc, ◌+◌, ◌*◌, ◌<◌, ◌≤◌, inl, inr, List, set, replicate, length, slice_index, Option, Some, None, true, refl, sym, ap, ap₂, ◌∙◌, ◌-◌, subst, arith}
+use Rattle.std.proofs.Common.{◌≡◌, ℕ, zero, suc, ◌+◌, ◌*◌, ◌<◌, ◌≤◌, inl, inr, List, set, replicate, length, slice_index, Option, Some, None, sym, ap, ap₂, ◌∙◌, ◌-◌, subst, arith}
 use Rattle.std.proofs.lemmas.Bool.{cases_eq, cases_lt}
 use Rattle.std.proofs.lemmas.List.{get_or-replicate, length-replicate, get_or_past, get_or-set_same, get_or-set_other}
-use Rattle.std.specs.Ordering.{is_lt}
 use Rattle.std.specs.declared.cmp.Ordering.{Ordering}
-use Rattle.std.specs.declared.cmp.Ordering.TheVariants.{Less, Equal, Greater}
+use Rattle.std.specs.declared.cmp.Ordering.TheVariants.{Less}
 use Rattle.bplist_objects.specs.declared.frame.Frame.{Frame}
 use Rattle.bplist_objects.specs.declared.head.Head.{Head}
 use Rattle.bplist_objects.specs.Frame.{IsFrame}
@@ -27,12 +26,6 @@ use Rattle.bplist_cert.specs.KeyPairs.{Ascends, ArePairs, Follows, HaveTextShape
 use Rattle.bplist_cert.proofs.KeyRepeats.{seen_own, good_low, no_keys, keys_inside, sound_keys}
 use Rattle.bplist_cert.proofs.AllNumbers.{onto}
 use Rattle.bplist_cert.proofs.TextObjects.{text_there}
-
--- what `is_lt` says of an order
-pub lt_less : (o : Ordering) → is_lt o ≡ true → o ≡ Less
-lt_less Less lt = refl
-lt_less Equal lt = cc lt
-lt_less Greater lt = cc lt
 
 -- lists of units that ascend one by one ascend
 pub ascend_all : (u : ℕ → List ℕ) (count : ℕ) → ((k : ℕ) → suc k < count → compare_units (u k) (u (suc k)) ≡ Less) → (d i : ℕ) → suc (i + d) < count → compare_units (u i) (u (suc (i + d))) ≡ Less

@@ -1,6 +1,5 @@
 -- What a walk over the vouched objects finds out about the keys of dictionaries.
-use Rattle.std.proofs.Common.{◌≡◌, ℕ, suc, ◌+◌, ◌-◌, ◌*◌, ◌≤◌, ◌<◌, ◌∙◌, ap, sym, subst, inl, inr, List, length, slice_index, IsTrue, Bool, false, Option, Some, None, MatchOption, ◌↔◌, arith}
-use Rattle.std.proofs.lemmas.Bool.{cases_eq, cases_lt, false≢true}
+use Rattle.std.proofs.Common.{◌≡◌, ℕ, suc, ◌+◌, ◌-◌, ◌*◌, ◌≤◌, ◌<◌, ◌∙◌, ap, sym, subst, below_more, inl, inr, List, length, slice_index, IsTrue, Bool, Option, Some, None, MatchOption, ◌↔◌, arith}
 use Rattle.std.proofs.lemmas.List.{get_or_past}
 use Rattle.bplist_objects.specs.declared.frame.Frame.{Frame}
 use Rattle.bplist_objects.specs.declared.head.Head.{Head}
@@ -16,7 +15,7 @@ use Rattle.bplist_cert.specs.declared.key_lists.KeyListFindings.{KeyListFindings
 use Rattle.bplist_cert.specs.Lists.{Keyed, lists}
 use Rattle.bplist_cert.specs.Valid.{IsVouchedBy}
 use Rattle.bplist_cert.specs.KeysLooks.{AreLearnt, HaveGoodLists, AreListed, AreSeen}
-use Rattle.bplist_cert.specs.Walks.{AreApart, AreCollected, HasCollected, HasKeysApart, HasStampedKeys, HaveKeysApart, IfCollected}
+use Rattle.bplist_cert.specs.Walks.{AreApart, AreCollected, HasCollected, HasStampedKeys, HaveKeysApart, IfCollected}
 use Rattle.bplist_cert.proofs.KeyRepeats.{vouched_below}
 
 -- if a block of numbers ends early, the list has no more after it
@@ -24,13 +23,6 @@ pub none_past : (numbers block : List ℕ) (from n m : ℕ) → ((k : ℕ) → k
     → from + length block ≤ m → m < from + n → slice_index numbers m ≡ 0
 none_past numbers block from n m at past low =
     ap (slice_index numbers) (omega (arith, past)) ∙ sym (at (m - from) (omega (arith, past, low))) ∙ get_or_past block (m - from) 0 (omega (arith, past))
-
--- what is marked is in the list
-pub marked_within : (marks : List Bool) (m : ℕ) → IsMarked marks m → m < length marks
-marked_within marks m is = elim (cases_lt m (length marks)) [
-  | inl a ↦ a
-  | inr b ↦ absurd (false≢true (sym (get_or_past marks m false b) ∙ is))
-]
 
 -- about no objects nothing is said except what was learnt
 pub none_listed : (f : List ℕ) (F : Frame) (heights : List ℕ) (keyed : Keyed) (look : KeyListFindings) → AreLearnt f F look → HaveGoodLists f F heights keyed 0 look
@@ -64,14 +56,8 @@ module _ (f : List ℕ) (F : Frame) (heights : List ℕ) (n : ℕ) where
   collected_next head has count vouched None (Some after) told h = absurd told
   collected_next head has count vouched (Some before) (Some after) told (all, stamped, apart, only) = (
     told.all ∙ all,
-    λ m low vouched. elim (cases_eq m n) [
-      | inl e ↦ subst (HasStampedKeys f F after.last.items) (sym e) here
-      | inr d ↦ λ other h dict k l. told.keeps _ (stamped m (omega (arith, low, d)) vouched other h dict k l)
-    ],
-    λ true m low vouched. elim (cases_eq m n) [
-      | inl e ↦ subst (HasKeysApart f F) (sym e) (λ other h. subst (λ (x : Head). x.kind ≡ Dict → AreApart f F x) (HasHead-unique f F n head other has h) (told.apart true).1)
-      | inr d ↦ apart (told.apart true).0 m (omega (arith, low, d)) vouched
-    ],
+    λ m low. below_more (λ k. IsVouchedBy heights k → HasStampedKeys f F after.last.items k) n (λ m low vouched other h dict k l. told.keeps _ (stamped m low vouched other h dict k l)) (λ _. here) m (omega (arith, low)),
+    λ true m low. below_more _ n (apart (told.apart true).0) (λ _ other h. subst (λ (x : Head). x.kind ≡ Dict → AreApart f F x) (HasHead-unique f F n head other has h) (told.apart true).1) m (omega (arith, low)),
     λ m some. elim (told.only m some) [ inl was ↦ only m was | inr (k, low, is) ↦ subst (IsVouchedBy heights) (sym is) (vouched k low) ],
   )
     where
@@ -86,14 +72,8 @@ module _ (f : List ℕ) (F : Frame) (heights : List ℕ) (n : ℕ) where
   none_collected none None h = tt
   none_collected none (Some names) (all, stamped, apart, only) = (
     all,
-    λ m low vouched. elim (cases_eq m n) [
-      | inl e ↦ subst (HasStampedKeys f F names.last.items) (sym e) (λ head has dict k l. absurd (none (subst (IsVouchedBy heights) e vouched) head has dict k l))
-      | inr d ↦ stamped m (omega (arith, low, d)) vouched
-    ],
-    λ true m low vouched. elim (cases_eq m n) [
-      | inl e ↦ subst (HasKeysApart f F) (sym e) (λ head has dict j k less l. absurd (none (subst (IsVouchedBy heights) e vouched) head has dict k l))
-      | inr d ↦ apart true m (omega (arith, low, d)) vouched
-    ],
+    λ m low. below_more _ n stamped (λ vouched head has dict k l. absurd (none vouched head has dict k l)) m (omega (arith, low)),
+    λ true m low. below_more _ n (apart true) (λ vouched head has dict j k less l. absurd (none vouched head has dict k l)) m (omega (arith, low)),
     only,
   )
 

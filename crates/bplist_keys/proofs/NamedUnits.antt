@@ -1,5 +1,5 @@
 -- How many units texts have together.
-use Rattle.std.proofs.Common.{◌≡◌, ℕ, zero, suc, ◌+◌, ◌-◌, ◌*◌, ◌<◌, ◌≤◌, Bool, true, false, cond, List, [], ◌∷◌, ◌++◌, length, map, take, slice_index, sum_by, count_by, refl, ap, ◌∙◌, inl, inr, arith}
+use Rattle.std.proofs.Common.{◌≡◌, ℕ, zero, suc, ◌+◌, ◌-◌, ◌<◌, ◌≤◌, Bool, true, false, cond, List, [], ◌∷◌, ◌++◌, length, map, take, count_by, refl, ap, ◌∙◌, inl, inr, arith}
 use Rattle.std.specs.List.{AllByRecursion}
 use Rattle.std.specs.List.Sorted.{IsPermutation}
 use Rattle.std.proofs.lemmas.Bool.{cases_lt, false≢true}
@@ -7,15 +7,12 @@ use Rattle.std.proofs.lemmas.List.Sums.{sum_by_push, sum_by-cons}
 use Rattle.std.proofs.lemmas.List.Sorted.{sum_by-IsPermutation}
 use Rattle.bplist_objects.specs.declared.frame.Frame.{Frame}
 use Rattle.bplist_objects.specs.declared.head.Head.{Head}
-use Rattle.bplist_objects.specs.declared.head.Kind.{Kind}
-use Rattle.bplist_objects.specs.declared.head.Kind.TheVariants as kinds
-use Rattle.bplist_objects.specs.Announced.{item_size}
 use Rattle.bplist_objects.specs.Extents.{HaveRoom, TakeOctets}
 use Rattle.bplist_objects.specs.Frame.{off}
 use Rattle.bplist_objects.specs.Heads.{HasShape}
 use Rattle.bplist_objects.specs.Holds.{AreDistinct}
 use Rattle.bplist_objects.specs.Safe.{IsSafeText}
-use Rattle.bplist_objects.specs.Units.{IsTextKind, units_of}
+use Rattle.bplist_objects.specs.Units.{IsTextKind}
 use Rattle.bplist_objects.proofs.ExtentSums.{shape_extent}
 use Rattle.bplist_objects.proofs.Lists.{all_at, distinct_none, distinct_more}
 use Rattle.bplist_objects.proofs.Units.{length-units_at}

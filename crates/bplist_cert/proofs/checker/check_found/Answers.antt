@@ -1,17 +1,15 @@
 use Rattle.std.proofs.Common.{◌≡◌, ◌∙◌, ap, refl, sym, subst, arith}
-use Rattle.std.proofs.lemmas.Result.{err_from_is_err_and}
 use Rattle.bplist_objects.specs.declared.frame.Frame.{Frame}
 use Rattle.bplist_objects.specs.Framed.{frame_in}
 use Rattle.bplist_cert.specs.Lists.{Lists}
 use Rattle.bplist_cert.specs.Looks.{KeepBeforeKeysBelow}
 use Rattle.bplist_cert.specs.declared.walk.Pass.TheVariants.{Quick}
 use Rattle.bplist_cert.proofs.AskedBytes.{all_room}
-use Rattle.bplist_cert.proofs.CheckSteps.{all_good, seen_first, seen_object, vouched_inside, keys_first, refused_weaker}
+use Rattle.bplist_cert.proofs.CheckSteps.{all_good, seen_first, seen_object, vouched_inside, keys_first, refused_weaker, on_err}
 use Rattle.bplist_cert.proofs.checker.check_found.Goals as goal
 
 pub returns-in_err-check-in-Ok-clause-exact : goal.returns-in_err-check-in-Ok-clause-exact
 returns-in_err-check-in-Ok-clause-exact g c = λ honest none.
-    let f = (g.P.Source.means c.args.src.now).octets in
     let F : Frame = frame_in (g.P.Source.means c.args.src.now) in
     let heights = c.args.cert.now.heights in
     let keys = c.args.cert.now.keys in
@@ -19,8 +17,7 @@ returns-in_err-check-in-Ok-clause-exact g c = λ honest none.
     let run = c.in-Ok.ensures.exact honest none in
     let shown = c.deref-heights.ensures.value ∙ ap (λ (x : Lists). x.heights) c.cert.view_is in
     let keyed = rw (c.in-Ok.ensures.reads, c.frame-objects.ensures.frame, same, shown) at c.in_err-check-in-Ok.ensures.exact in
-    let p = err_from_is_err_and c.from_residual.result c.from_residual.ensures.1 in
-    rw (p.1, p.2) (refused_weaker _ _ c.in_err-check-in-Ok.field-0.0 (λ fault h. keys_first f F heights keys fault F.objects run.0.kept h) (keyed honest run.0.kept run.1))
+    on_err _ _ _ _ c.from_residual.ensures.1 (refused_weaker _ _ c.in_err-check-in-Ok.field-0.0 (λ fault h. keys_first _ _ heights keys fault F.objects run.0.kept h) (keyed honest run.0.kept run.1))
 
 pub returns-in_err-check-in-Err-Fault-clause-exact : goal.returns-in_err-check-in-Err-Fault-clause-exact
 returns-in_err-check-in-Err-Fault-clause-exact g c = λ honest none.
@@ -40,20 +37,17 @@ returns-in_err-check-in-Err-Fault-clause-exact g c = λ honest none.
     let seen = subst (KeepBeforeKeysBelow f F heights) (sym bound) s.seen in
     let reads = rw c.in-Err-Fault.field-0-is at c.in-Err-Fault.ensures.reads in
     let keyed = rw (reads, same, shown) at c.in_err-check-in-Err-Fault.ensures.exact in
-    let p = err_from_is_err_and c.from_residual-in_err-check-in-Err-Fault.result c.from_residual-in_err-check-in-Err-Fault.ensures.1 in
-    rw (p.1, p.2) (refused_weaker _ _ c.in_err-check-in-Err-Fault.field-0.0 (λ fault h. keys_first f F heights keys fault c.min.result seen h) (keyed honest seen (c.forget.ensures f F c.args.cert.now c.min.result found)))
+    on_err _ _ _ _ c.from_residual-in_err-check-in-Err-Fault.ensures.1 (refused_weaker _ _ c.in_err-check-in-Err-Fault.field-0.0 (λ fault h. keys_first f F heights keys fault c.min.result seen h) (keyed honest seen (c.forget.ensures f F c.args.cert.now c.min.result found)))
 
 pub returns-in_ok-check-in-Ok-clause-exact : goal.returns-in_ok-check-in-Ok-clause-exact
 returns-in_ok-check-in-Ok-clause-exact g c = λ honest none.
-    let f = (g.P.Source.means c.args.src.now).octets in
-    let F : Frame = frame_in (g.P.Source.means c.args.src.now) in
     let heights = c.args.cert.now.heights in
     let keys = c.args.cert.now.keys in
     let same = ap (λ (x : Lists). x.keys) c.cert.view_is in
     let run = c.in-Ok.ensures.exact honest none in
     let shown = c.deref-heights.ensures.value ∙ ap (λ (x : Lists). x.heights) c.cert.view_is in
     let keyed = rw (c.in-Ok.ensures.reads, c.frame-objects.ensures.frame, same, shown) at c.in_ok-check-in-Ok.ensures.exact in
-    all_good f F heights keys c.in-Ok.used.octets run.0 (keyed honest run.0.kept run.1)
+    all_good _ _ heights keys c.in-Ok.used.octets run.0 (keyed honest run.0.kept run.1)
 
 pub returns-in_ok-check-in-Err-Fault-clause-exact : goal.returns-in_ok-check-in-Err-Fault-clause-exact
 returns-in_ok-check-in-Err-Fault-clause-exact g c = λ honest none.
@@ -78,8 +72,6 @@ returns-in_ok-check-in-Err-Fault-clause-exact g c = λ honest none.
 
 pub returns-in_ok-check-in-Ok-clause-asks : goal.returns-in_ok-check-in-Ok-clause-asks
 returns-in_ok-check-in-Ok-clause-asks g c = λ honest none seen some.
-    let f = (g.P.Source.means c.args.src.now).octets in
-    let F : Frame = frame_in (g.P.Source.means c.args.src.now) in
     let same = ap (λ (x : Lists). x.keys) c.cert.view_is in
     let run = c.in-Ok.ensures.exact honest seen in
     let passes = c.in-Ok.ensures.asks honest seen none in
@@ -87,7 +79,7 @@ returns-in_ok-check-in-Ok-clause-asks g c = λ honest none seen some.
     let keyed = rw (c.in-Ok.ensures.reads, c.frame-objects.ensures.frame, same, shown) at c.in_ok-check-in-Ok.ensures.asks in
     let told = keyed honest none refl (record {
       kept = run.0.kept;
-      room = all_room f F c.args.cert.now Quick c.in-Ok.used.octets c.requires run.0;
+      room = all_room _ _ c.args.cert.now Quick c.in-Ok.used.octets c.requires run.0;
       collected = rw none at run.1;
       some = λ e. some (passes.1 e);
     }) in

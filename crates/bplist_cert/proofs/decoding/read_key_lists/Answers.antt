@@ -2,12 +2,6 @@ use Rattle.std.proofs.Common.{◌+◌, ◌*◌, arith}
 use Rattle.bplist_cert.proofs.CertificateBytes.{keyed_words}
 use Rattle.bplist_cert.proofs.decoding.read_key_lists.Goals as goal
 
-pub overflow_mul-starts_at : goal.overflow_mul-starts_at
-overflow_mul-starts_at g c = omega (arith, c.requires.0, c.len-len.ensures)
-
-pub overflow_add-starts_at : goal.overflow_add-starts_at
-overflow_add-starts_at g c = omega (arith, c.requires.0, c.len-len.ensures)
-
 pub returns-clause-spelled : goal.returns-clause-spelled
 returns-clause-spelled g c = λ honest.
     let f = (g.S.Source.means c.args.src.now).octets in

@@ -1,21 +1,17 @@
 use Rattle.std.proofs.Common.{◌≡◌, ◌∙◌, Some, inl, inr, ap, subst}
-use Rattle.std.proofs.lemmas.Result.{err_from_is_err_and}
 use Rattle.bplist_objects.specs.declared.frame.Frame.{Frame}
 use Rattle.bplist_objects.specs.Framed.{frame_in}
 use Rattle.bplist_cert.specs.Looks.{KeepBeforeKeysBelow}
 use Rattle.bplist_cert.proofs.TextObjects.{shape_kept}
-use Rattle.bplist_cert.proofs.CheckSteps.{given_weaker}
+use Rattle.bplist_cert.proofs.CheckSteps.{given_weaker, on_err}
 use Rattle.bplist_cert.proofs.KeyRepeats.{none_there, keys_inside, seen_own, sound_keys, good_at}
 use Rattle.bplist_cert.proofs.KeyPairs.{shapes_texts}
 use Rattle.bplist_cert.proofs.key_lists.check_dict_order.Goals as goal
 
 pub returns-in_err-head-clause-exact : goal.returns-in_err-head-clause-exact
 returns-in_err-head-clause-exact g c = λ honest low vouched seen learnt.
-    let f = (g.P.Source.means c.args.src.now).octets in
-    let F : Frame = frame_in (g.P.Source.means c.args.src.now) in
-    let kept = seen_own f F c.args.seen.now.heights.now c.args.n (seen c.args.n low vouched) in
-    let p = err_from_is_err_and c.from_residual.result c.from_residual.ensures.1 in
-    rw (p.1, p.2) (given_weaker _ _ c.in_err-head.field-0.0 (λ fault h. absurd (shape_kept f F c.args.n fault kept h)) (c.in_err-head.ensures.rules honest))
+    let kept = seen_own _ _ c.args.seen.now.heights.now c.args.n (seen c.args.n low vouched) in
+    on_err _ _ _ _ c.from_residual.ensures.1 (given_weaker _ _ c.in_err-head.field-0.0 (λ fault h. absurd (shape_kept _ _ c.args.n fault kept h)) (c.in_err-head.ensures.rules honest))
 
 pub returns-then-seen-frame-clause-exact : goal.returns-then-seen-frame-clause-exact
 returns-then-seen-frame-clause-exact g c = λ honest low vouched seen learnt.
@@ -35,17 +31,14 @@ pub returns-in_err-check_texts-clause-exact : goal.returns-in_err-check_texts-cl
 returns-in_err-check_texts-clause-exact g c = λ honest low vouched seen learnt.
     let head = c.in_ok-head.head in
     let has = (c.in_ok-head.ensures.rules honest).0 in
-    let p = err_from_is_err_and c.from_residual-in_err-check_texts.result c.from_residual-in_err-check_texts.ensures.1 in
     let texts = (rw (c.in_ok-found.ensures.reads, c.in_ok-head.ensures.reads) at c.in_err-check_texts.ensures.exact) honest learnt.1 in
-    rw (p.1, p.2) (given_weaker _ _ c.in_err-check_texts.field-0.0 (λ fault h. (head, has, (c.in-Dict.is, inl h))) texts)
+    on_err _ _ _ _ c.from_residual-in_err-check_texts.ensures.1 (given_weaker _ _ c.in_err-check_texts.field-0.0 (λ fault h. (head, has, (c.in-Dict.is, inl h))) texts)
 
 pub returns-in-None-clause-exact : goal.returns-in-None-clause-exact
 returns-in-None-clause-exact g c = λ honest low vouched seen learnt.
-    let f = (g.P.Source.means c.args.src.now).octets in
-    let F : Frame = frame_in (g.P.Source.means c.args.src.now) in
     let found = (rw (c.in-None.is, c.in_ok-head.ensures.reads) at c.in_ok-found.ensures.exact) honest learnt.0 in
     let texts = (rw (c.in_ok-found.ensures.reads, c.in_ok-head.ensures.reads) at c.in_ok-check_texts.ensures.exact) honest learnt.1 in
-    ((found.0, texts.0), good_at f F (Some c.args.keys.now) c.args.n c.in_ok-head.head (c.in_ok-head.ensures.rules honest).0 (λ _. (texts.1, found.1.1)))
+    ((found.0, texts.0), good_at _ _ (Some c.args.keys.now) c.args.n c.in_ok-head.head (c.in_ok-head.ensures.rules honest).0 (λ _. (texts.1, found.1.1)))
 
 pub returns-in-Some-clause-exact : goal.returns-in-Some-clause-exact
 returns-in-Some-clause-exact g c = λ honest low vouched seen learnt.

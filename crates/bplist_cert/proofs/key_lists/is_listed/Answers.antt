@@ -4,9 +4,8 @@ use Rattle.bplist_objects.specs.declared.head.Head.{Head}
 use Rattle.bplist_objects.specs.Framed.{frame_in}
 use Rattle.bplist_objects.proofs.BodyLaws.{HasHead-unique, of_other_kind}
 use Rattle.bplist_objects.specs.declared.head.Kind.TheVariants.{Dict}
-use Rattle.std.proofs.lemmas.Result.{err_from_is_err_and}
 use Rattle.bplist_cert.proofs.TextObjects.{shape_kept}
-use Rattle.bplist_cert.proofs.CheckSteps.{given_weaker}
+use Rattle.bplist_cert.proofs.CheckSteps.{given_weaker, on_err}
 use Rattle.bplist_cert.proofs.KeyRepeats.{none_there}
 use Rattle.bplist_cert.specs.CheckRules.{HasOrder}
 use Rattle.bplist_cert.specs.KeyPairs.{HaveTextShapes}
@@ -27,10 +26,8 @@ returns-in_ok-order_fault-in-Dict-clause-exact g c = λ honest known at kept.
 
 pub returns-in_err-head-clause-exact : goal.returns-in_err-head-clause-exact
 returns-in_err-head-clause-exact g c = λ honest known at kept.
-    let m = g.P.Source.means c.args.src.now in
-    let p = err_from_is_err_and c.from_residual.result c.from_residual.ensures.1 in
     let rules = c.in_err-head.ensures.rules honest at in
-    rw (p.1, p.2) (given_weaker _ _ c.in_err-head.field-0.0 (λ fault h. absurd (shape_kept m.octets (frame_in m) c.args.n fault kept h)) rules)
+    on_err _ _ _ _ c.from_residual.ensures.1 (given_weaker _ _ c.in_err-head.field-0.0 (λ fault h. absurd (shape_kept _ _ c.args.n fault kept h)) rules)
 
 pub returns-in_default : goal.returns-in_default
 returns-in_default g c = record {

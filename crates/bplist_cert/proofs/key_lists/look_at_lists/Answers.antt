@@ -1,21 +1,18 @@
-use Rattle.std.proofs.Common.{◌+◌, ◌≤◌, ◌<◌, IsTrue, refl, ap, sym, subst, ◌∙◌, length, slice_index, inl, inr, arith}
-use Rattle.std.proofs.lemmas.Bool.{cases_eq, cases_lt, false≢true}
-use Rattle.std.proofs.lemmas.Result.{err_from_is_err_and}
+use Rattle.std.proofs.Common.{◌+◌, ◌≤◌, ◌<◌, IsTrue, refl, ap, ◌∙◌, below_more, length, slice_index, inl, inr, arith}
+use Rattle.std.proofs.lemmas.Bool.{cases_lt, false≢true}
 use Rattle.bplist_objects.specs.declared.frame.Frame.{Frame}
 use Rattle.bplist_objects.specs.Framed.{frame_in}
 use Rattle.bplist_cert.specs.Lists.{Keyed, IsCompleteList}
 use Rattle.bplist_cert.specs.Valid.{IsVouchedBy}
-use Rattle.bplist_cert.specs.KeysLooks.{IsListed}
 use Rattle.bplist_cert.proofs.KeyRepeats.{seen_own}
 use Rattle.bplist_cert.proofs.KeyPairs.{low_listed}
 use Rattle.bplist_cert.proofs.KeysLooks.{none_past}
+use Rattle.bplist_cert.proofs.CheckSteps.{on_err}
 use Rattle.bplist_cert.proofs.key_lists.look_at_lists.Goals.{then-look, else-look}
 use Rattle.bplist_cert.proofs.key_lists.look_at_lists.Goals as goal
 
 pub loop-i-preserved-then-not-may_be_wrong : goal.loop-i-preserved-then-not-may_be_wrong
 loop-i-preserved-then-not-may_be_wrong g c =
-    let f = (g.P.Source.means c.args.src.now).octets in
-    let F : Frame = frame_in (g.P.Source.means c.args.src.now) in
     let heights = c.args.seen.now.heights.now in
     let keyed = c.args.keys.now in
     let v = c.loop-i.invariant in
@@ -31,15 +28,11 @@ loop-i-preserved-then-not-may_be_wrong g c =
           let before = v.lists honest places seen lists in
           record {
             learnt = before.learnt;
-            good = λ good m low vouched. elim (cases_eq m n) [
-              | inl e ↦
-                  let here = subst (IsVouchedBy heights) e vouched in
-                  let none = c.may_be_wrong.ensures.none c.if-not-may_be_wrong.true (omega (arith, height, here)) in
-                  let low_height : slice_index heights n ≤ 1 = omega (arith, height, none.0) in
-                  let whole : IsCompleteList keyed n 0 = omega (arith, start, none.1, c.len.ensures, positions) in
-                  subst (IsListed f F keyed) (sym e) (low_listed f F heights n (seen n (omega (arith, under)) here) keyed low_height whole)
-              | inr d ↦ before.good good m (omega (arith, low, d)) vouched
-            ];
+            good = λ good m low. below_more _ n (before.good good) (λ here.
+                let none = c.may_be_wrong.ensures.none c.if-not-may_be_wrong.true (omega (arith, height, here)) in
+                let low_height : slice_index heights n ≤ 1 = omega (arith, height, none.0) in
+                let whole : IsCompleteList keyed n 0 = omega (arith, start, none.1, c.len.ensures, positions) in
+                low_listed _ _ heights n (seen n (omega (arith, under)) here) keyed low_height whole) m (omega (arith, low));
           };
     }
 
@@ -50,8 +43,7 @@ returns-in_err-is_listed-clause-exact g c = λ honest places seen lists.
     let n = c.args.seen.now.bound + c.loop-i.i in
     let under : c.loop-i.i < length c.args.places.now = omega (arith, c.loop-i-test.true, c.loop-i.auto.i-end, c.block_of-heights.ensures.few) in
     let here : IsVouchedBy heights n = omega (arith, c.block_of-heights.ensures.at c.loop-i.i under, c.may_be_wrong.ensures.vouched c.if-not-may_be_wrong.false) in
-    let p = err_from_is_err_and c.from_residual.result c.from_residual.ensures.1 in
-    rw (p.1, p.2) ((rw v.same at c.in_err-is_listed.ensures.exact) honest (v.lists honest places seen lists).learnt.0 (places c.loop-i.i under) (seen_own _ _ heights n (seen n (omega (arith, under)) here)))
+    on_err _ _ _ _ c.from_residual.ensures.1 ((rw v.same at c.in_err-is_listed.ensures.exact) honest (v.lists honest places seen lists).learnt.0 (places c.loop-i.i under) (seen_own _ _ heights n (seen n (omega (arith, under)) here)))
 
 pub returns-then-not-branch-clause-exact : goal.returns-then-not-branch-clause-exact
 returns-then-not-branch-clause-exact g c = λ honest places seen lists.
@@ -80,10 +72,7 @@ loop-i-preserved g c =
           let found = (rw v.same at c.in_ok-is_listed.ensures.exact) honest before.learnt.0 (places c.loop-i.i under) (seen_own _ _ heights n (seen n (omega (arith, under)) here)) in
           record {
             learnt = (found.0, before.learnt.1);
-            good = λ good m low vouched. elim (cases_eq m n) [
-              | inl e ↦ subst (IsListed f F c.args.keys.now) (sym e) (found.1 c.if-not-branch.false)
-              | inr d ↦ before.good good m (omega (arith, low, d)) vouched
-            ];
+            good = λ good m low. below_more _ n (before.good good) (λ _. found.1 c.if-not-branch.false) m (omega (arith, low));
           };
     }
 

@@ -1,19 +1,16 @@
 use Rattle.std.proofs.Common.{◌≡◌, ◌∙◌, inl, inr, length, arith}
-use Rattle.std.proofs.lemmas.Grind.{common_steps}
 use Rattle.std.proofs.lemmas.List.{length-take-le}
-use Rattle.std.proofs.lemmas.Result.{err_from_is_err_and}
 use Rattle.bplist_objects.specs.Answers.{Never}
-use Rattle.bplist_cert.proofs.CheckSteps.{never_refused}
+use Rattle.bplist_cert.proofs.CheckSteps.{never_refused, on_err}
 use Rattle.bplist_cert.proofs.key_names.find_keys.Goals as goal
 
 pub returns-in_err-name_key_block-clause-exact : goal.returns-in_err-name_key_block-clause-exact
 returns-in_err-name_key_block-clause-exact g c = λ honest seen.
     let v = c.loop-done.invariant in
     let all : length c.read_offsets_in.new.into ≡ c.min-now.result = omega (arith, length-take-le c.min-now.result c.loop-done.buffer (omega arith)) in
-    let p = err_from_is_err_and c.from_residual-in_err-name_key_block.result c.from_residual-in_err-name_key_block.ensures.1 in
     let places = (rw v.same at c.in_ok-read_offsets_in.ensures.offsets) honest in
     let exact = (rw (c.in_ok-read_offsets_in.ensures.reads, v.same) at c.in_err-name_key_block.ensures.exact) honest places in
-    rw (p.1, p.2) (never_refused Never c.in_err-name_key_block.field-0.0 (exact (λ m low vouched. seen m (omega (arith, low, all)) vouched) (v.named honest seen)))
+    on_err _ _ _ _ c.from_residual-in_err-name_key_block.ensures.1 (never_refused Never c.in_err-name_key_block.field-0.0 (exact (λ m low vouched. seen m (omega (arith, low, all)) vouched) (v.named honest seen)))
 
 pub loop-done-preserved : goal.loop-done-preserved
 loop-done-preserved g c =
@@ -33,11 +30,3 @@ loop-done-preserved g c =
           let told = (rw (c.in_ok-read_offsets_in.ensures.reads, v.same) at c.in_ok-name_key_block.ensures.only) honest places in
           elim (told m marked) [ inl before ↦ v.only honest m before | inr key ↦ key ];
     }
-
-pub returns-clause-exact : goal.returns-clause-exact
-returns-clause-exact g c = λ honest seen.
-    let named = c.loop-done.invariant.named honest seen in
-    (named.0, λ n low vouched. named.1 n (omega (arith, low, c.loop-done-test.false)) vouched)
-
-pub loop-done-init : goal.loop-done-init
-loop-done-init g c = grind (arith, common_steps)

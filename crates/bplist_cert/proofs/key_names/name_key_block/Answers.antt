@@ -1,12 +1,12 @@
-use Rattle.std.proofs.Common.{◌+◌, ◌<◌, sym, subst, ◌∙◌, length, inl, inr, arith}
-use Rattle.std.proofs.lemmas.Bool.{cases_eq, cases_lt}
-use Rattle.std.proofs.lemmas.Result.{err_from_is_err_and}
+use Rattle.std.proofs.Common.{◌+◌, ◌<◌, ◌∙◌, below_more, length, inl, inr, arith}
+use Rattle.std.proofs.lemmas.Bool.{cases_lt}
 use Rattle.bplist_objects.specs.declared.frame.Frame.{Frame}
 use Rattle.bplist_objects.specs.Framed.{frame_in}
 use Rattle.bplist_keys.specs.Classes.{HasNamedKeys}
 use Rattle.bplist_cert.specs.Valid.{IsVouchedBy}
 use Rattle.bplist_cert.proofs.KeyRepeats.{seen_own, named_low}
 use Rattle.bplist_cert.proofs.KeysLooks.{none_past}
+use Rattle.bplist_cert.proofs.CheckSteps.{on_err}
 use Rattle.bplist_cert.proofs.key_names.name_key_block.Goals as goal
 use Rattle.bplist_cert.proofs.key_names.name_key_block.Goals.{then-height-gt1+in_ok-name_object, else-height-gt1}
 
@@ -16,8 +16,7 @@ returns-in_err-name_object-clause-exact g c = λ honest places seen before.
     let so_far = c.loop-i.invariant.named honest places seen before in
     let under : i < length c.args.places.now = omega (arith, c.loop-i-test.true, c.loop-i.auto.i-end, c.block_of-block.ensures.few) in
     let v : IsVouchedBy c.args.heights.now (c.args.from + i) = omega (arith, c.block_of-block.ensures.at i under, c.if-height-gt1.true) in
-    let p = err_from_is_err_and c.from_residual.result c.from_residual.ensures.1 in
-    rw (p.1, p.2) ((rw c.loop-i.invariant.same at c.in_err-name_object.ensures.exact) honest (places i under) (seen_own _ _ c.args.heights.now (c.args.from + i) (seen (c.args.from + i) (omega (arith, under)) v)) so_far.0)
+    on_err _ _ _ _ c.from_residual.ensures.1 ((rw c.loop-i.invariant.same at c.in_err-name_object.ensures.exact) honest (places i under) (seen_own _ _ c.args.heights.now (c.args.from + i) (seen (c.args.from + i) (omega (arith, under)) v)) so_far.0)
 
 pub loop-i-preserved : goal.loop-i-preserved
 loop-i-preserved g c =
@@ -36,11 +35,8 @@ loop-i-preserved g c =
             let so_far = v.named honest places seen before in
             rw w.named-is (
               w.in_ok-name_object.ensures.all ∙ so_far.0,
-              λ m low vouched. elim (cases_eq m n) [
-                | inl e ↦ subst (HasNamedKeys f F w.name_object.new.named.marks.items) (sym e)
-                    ((rw v.same at w.in_ok-name_object.ensures.exact) honest (places c.loop-i.i under) (seen_own f F heights n (seen n (omega (arith, under)) (subst (IsVouchedBy heights) e vouched))) so_far.0)
-                | inr d ↦ λ head has dict k l. w.in_ok-name_object.ensures.keeps _ (so_far.1 m (omega (arith, low, d)) vouched head has dict k l)
-              ],
+              λ m low. below_more (λ k. IsVouchedBy heights k → HasNamedKeys f F w.name_object.new.named.marks.items k) n (λ k before vouched head has dict j l. w.in_ok-name_object.ensures.keeps _ (so_far.1 k before vouched head has dict j l))
+                  (λ vouched. (rw v.same at w.in_ok-name_object.ensures.exact) honest (places c.loop-i.i under) (seen_own f F heights n (seen n (omega (arith, under)) vouched)) so_far.0) m (omega (arith, low)),
             );
         only = λ honest places.
             let told = (rw v.same at w.in_ok-name_object.ensures.only) honest (places c.loop-i.i under) in
@@ -57,10 +53,7 @@ loop-i-preserved g c =
             let so_far = v.named honest places seen before in
             rw w.named-is (
               so_far.0,
-              λ m low vouched. elim (cases_eq m n) [
-                | inl e ↦ named_low f F heights c.loop-i.named.marks.items m (seen m (omega (arith, e, under)) vouched) (rw e (omega (arith, height, w.if-height-gt1.false)))
-                | inr d ↦ so_far.1 m (omega (arith, low, d)) vouched
-              ],
+              λ m low. below_more _ n so_far.1 (λ vouched. named_low f F heights c.loop-i.named.marks.items n (seen n (omega (arith, under)) vouched) (omega (arith, height, w.if-height-gt1.false))) m (omega (arith, low)),
             );
         only = λ honest places. rw w.named-is (v.only honest places);
       }

@@ -1,5 +1,4 @@
 use Rattle.std.proofs.Common.{ℕ, ◌<◌, inl, inr, refl, subst}
-use Rattle.std.proofs.lemmas.Result.{err_from_is_err_and}
 use Rattle.bplist_objects.specs.declared.frame.Frame.{Frame}
 use Rattle.bplist_objects.specs.declared.head.Head.{Head}
 use Rattle.bplist_objects.specs.Framed.{frame_in}
@@ -8,16 +7,14 @@ use Rattle.bplist_objects.specs.declared.head.Kind.TheVariants.{Dict}
 use Rattle.bplist_objects.specs.Scan.{ref}
 use Rattle.bplist_keys.specs.Marks.{IsMarked}
 use Rattle.bplist_cert.proofs.TextObjects.{shape_kept}
-use Rattle.bplist_cert.proofs.CheckSteps.{given_weaker}
+use Rattle.bplist_cert.proofs.CheckSteps.{given_weaker, on_err}
 use Rattle.bplist_cert.proofs.KeyRepeats.{keys_inside}
 use Rattle.bplist_cert.proofs.key_names.name_object.Goals as goal
 
 pub returns-in_err-head-clause-exact : goal.returns-in_err-head-clause-exact
 returns-in_err-head-clause-exact g c = λ honest at kept all.
-    let m = g.P.Source.means c.args.src.now in
-    let p = err_from_is_err_and c.from_residual.result c.from_residual.ensures.1 in
     let rules = c.in_err-head.ensures.rules honest at in
-    rw (p.1, p.2) (given_weaker _ _ c.in_err-head.field-0.0 (λ fault h. absurd (shape_kept m.octets (frame_in m) c.args.n fault kept h)) rules)
+    on_err _ _ _ _ c.from_residual.ensures.1 (given_weaker _ _ c.in_err-head.field-0.0 (λ fault h. absurd (shape_kept _ _ c.args.n fault kept h)) rules)
 
 pub returns-in_ok-name_keys-in-Dict-clause-exact : goal.returns-in_ok-name_keys-in-Dict-clause-exact
 returns-in_ok-name_keys-in-Dict-clause-exact g c = λ honest at kept all head has dict k low.
@@ -29,13 +26,6 @@ returns-in_ok-name_keys-in-Dict-clause-exact g c = λ honest at kept all head ha
     subst (λ (h : Head). (j : ℕ) → j < h.count → IsMarked c.name_keys.new.named.marks.items (ref f F h j)) (HasHead-unique f F c.args.n here head has_here has)
     (λ j l. named j l (rw all (keys_inside f F c.args.n kept here has_here c.in-Dict.is j l))) k low
 
-pub returns-in_ok-name_keys-in-Dict-clause-only : goal.returns-in_ok-name_keys-in-Dict-clause-only
-returns-in_ok-name_keys-in-Dict-clause-only g c = λ honest at m marked.
-    elim ((rw c.in_ok-head.ensures.reads at c.in_ok-name_keys-in-Dict.ensures.only) honest m marked) [
-      | inl before ↦ inl before
-      | inr named ↦ inr (c.in_ok-head.head, (c.in_ok-head.ensures.rules honest at).0, c.in-Dict.is, named)
-    ]
-
 pub returns-in_default : goal.returns-in_default
 returns-in_default g c = record {
   reads = c.in_ok-head.ensures.reads;
@@ -45,3 +35,10 @@ returns-in_default g c = record {
   exact = λ honest at kept all head has dict.
       absurd (of_other_kind (g.P.Source.means c.args.src.now).octets (frame_in (g.P.Source.means c.args.src.now)) c.args.n c.in_ok-head.head (c.in_ok-head.ensures.rules honest at).0 Dict c.in_default.not-Dict head has dict);
 }
+
+pub returns-in_ok-name_keys-in-Dict-clause-only : goal.returns-in_ok-name_keys-in-Dict-clause-only
+returns-in_ok-name_keys-in-Dict-clause-only g c = λ honest at m marked.
+    elim ((rw c.in_ok-head.ensures.reads at c.in_ok-name_keys-in-Dict.ensures.only) honest m marked) [
+      | inl before ↦ inl before
+      | inr named ↦ inr (c.in_ok-head.head, (c.in_ok-head.ensures.rules honest at).0, c.in-Dict.is, named)
+    ]

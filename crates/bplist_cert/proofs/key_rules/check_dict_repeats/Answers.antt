@@ -1,6 +1,5 @@
 use Rattle.std.proofs.Common.{◌≡◌, None, refl, inl, inr, sym, ap, subst, ◌∙◌, arith}
 use Rattle.std.proofs.lemmas.Bool.{false≢true}
-use Rattle.std.proofs.lemmas.Result.{err_from_is_err_and}
 use Rattle.bplist_objects.specs.declared.frame.Frame.{Frame}
 use Rattle.bplist_objects.specs.declared.head.Head.{Head}
 use Rattle.bplist_objects.specs.Framed.{frame_in}
@@ -8,18 +7,15 @@ use Rattle.bplist_objects.proofs.BodyLaws.{HasHead-unique}
 use Rattle.bplist_cert.proofs.AskedBytes.{keys_within}
 use Rattle.bplist_cert.specs.Looks.{KeepBeforeKeysBelow}
 use Rattle.bplist_cert.proofs.TextObjects.{shape_kept}
-use Rattle.bplist_cert.proofs.CheckSteps.{object_refused}
+use Rattle.bplist_cert.proofs.CheckSteps.{object_refused, on_err}
 use Rattle.bplist_cert.proofs.KeyRepeats.{none_there, keys_inside, seen_own, sound_keys, good_at, classed_texts, apart_differ, twice_fault}
 use Rattle.bplist_cert.proofs.key_rules.check_dict_repeats.Goals.{else-is_none-via-then-is_none+else-seen-frame, else-is_none-via-else-is_none}
 use Rattle.bplist_cert.proofs.key_rules.check_dict_repeats.Goals as goal
 
 pub returns-in_err-head-clause-exact : goal.returns-in_err-head-clause-exact
 returns-in_err-head-clause-exact g c = λ honest low vouched seen classed stamps learnt.
-    let f = (g.P.Source.means c.args.src.now).octets in
-    let F : Frame = frame_in (g.P.Source.means c.args.src.now) in
-    let kept = seen_own f F c.args.seen.now.heights.now c.args.n (seen c.args.n low vouched) in
-    let p = err_from_is_err_and c.from_residual.result c.from_residual.ensures.1 in
-    rw (p.1, p.2) (object_refused _ _ c.in_err-head.field-0.0 (λ fault h. absurd (shape_kept f F c.args.n fault kept h)) (c.in_err-head.ensures.rules honest))
+    let kept = seen_own _ _ c.args.seen.now.heights.now c.args.n (seen c.args.n low vouched) in
+    on_err _ _ _ _ c.from_residual.ensures.1 (object_refused _ _ c.in_err-head.field-0.0 (λ fault h. absurd (shape_kept _ _ c.args.n fault kept h)) (c.in_err-head.ensures.rules honest))
 
 pub returns-then-seen-frame-clause-exact : goal.returns-then-seen-frame-clause-exact
 returns-then-seen-frame-clause-exact g c = λ honest low vouched seen classed stamps learnt.
@@ -40,30 +36,25 @@ pub returns-in_err-check_texts-clause-exact : goal.returns-in_err-check_texts-cl
 returns-in_err-check_texts-clause-exact g c = λ honest low vouched seen classed stamps learnt.
     let head = c.in_ok-head.head in
     let has = (c.in_ok-head.ensures.rules honest).0 in
-    let p = err_from_is_err_and c.from_residual-in_err-check_texts.result c.from_residual-in_err-check_texts.ensures.1 in
-    rw (p.1, p.2) (object_refused _ _ c.in_err-check_texts.field-0.0 (λ fault h. (head, has, (c.in-Dict.is, inl h)))
+    on_err _ _ _ _ c.from_residual-in_err-check_texts.ensures.1 (object_refused _ _ c.in_err-check_texts.field-0.0 (λ fault h. (head, has, (c.in-Dict.is, inl h)))
     ((rw (c.in_ok-found.ensures.reads, c.in_ok-head.ensures.reads) at c.in_err-check_texts.ensures.exact) honest learnt))
 
 pub returns-in-None-clause-exact : goal.returns-in-None-clause-exact
 returns-in-None-clause-exact g c = λ honest low vouched seen classed stamps learnt.
-    let f = (g.P.Source.means c.args.src.now).octets in
-    let F : Frame = frame_in (g.P.Source.means c.args.src.now) in
     let head = c.in_ok-head.head in
     let has = (c.in_ok-head.ensures.rules honest).0 in
     let found = (rw (c.in-None.is, c.in_ok-head.ensures.reads) at c.in_ok-found.ensures.exact) honest stamps in
     let texts = (rw (c.in_ok-found.ensures.reads, c.in_ok-head.ensures.reads) at c.in_ok-check_texts.ensures.exact) honest learnt in
-    (texts.0, good_at f F None c.args.n head has (λ _. (texts.1, apart_differ f F head _ (classed head has c.in-Dict.is) head.count (omega arith) found.1)))
+    (texts.0, good_at _ _ None c.args.n head has (λ _. (texts.1, apart_differ _ _ head _ (classed head has c.in-Dict.is) head.count (omega arith) found.1)))
 
 pub returns-in-Some-clause-exact : goal.returns-in-Some-clause-exact
 returns-in-Some-clause-exact g c = λ honest low vouched seen classed stamps learnt.
-    let f = (g.P.Source.means c.args.src.now).octets in
-    let F : Frame = frame_in (g.P.Source.means c.args.src.now) in
     let head = c.in_ok-head.head in
     let has = (c.in_ok-head.ensures.rules honest).0 in
     let found = (rw (c.in-Some.is, c.in_ok-head.ensures.reads) at c.in_ok-found.ensures.exact) honest stamps in
     let texts = (rw (c.in_ok-found.ensures.reads, c.in_ok-head.ensures.reads) at c.in_ok-check_texts.ensures.exact) honest learnt in
     let told = rw (c.in_ok-check_texts.ensures.reads, c.in_ok-found.ensures.reads, c.in_ok-head.ensures.reads) at c.fault.ensures in
-    (head, has, (c.in-Dict.is, inr (texts.1, twice_fault f F head _ (classed head has c.in-Dict.is) texts.1 (record { 0 = c.args.n }) c.in-Some.wrong c.fault.result found told)))
+    (head, has, (c.in-Dict.is, inr (texts.1, twice_fault _ _ head _ (classed head has c.in-Dict.is) texts.1 (record { 0 = c.args.n }) c.in-Some.wrong c.fault.result found told)))
 
 pub returns-in_default : goal.returns-in_default
 returns-in_default g c = record {

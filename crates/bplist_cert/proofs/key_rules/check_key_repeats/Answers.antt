@@ -1,10 +1,10 @@
 use Rattle.std.proofs.Common.{◌≡◌, ◌+◌, ◌*◌, ◌≤◌, ◌∙◌, ap, sym, subst, count_by, arith}
 use Rattle.std.proofs.lemmas.Bool.{eqb-true, false≢true}
-use Rattle.std.proofs.lemmas.Result.{err_from_is_err_and, on_ok_weaker}
+use Rattle.std.proofs.lemmas.Result.{on_ok_weaker}
 use Rattle.bplist_objects.specs.declared.frame.Frame.{Frame}
 use Rattle.bplist_objects.specs.Framed.{frame_in}
 use Rattle.bplist_cert.specs.Looks.{KeepBeforeKeysBelow}
-use Rattle.bplist_cert.proofs.CheckSteps.{refused_weaker}
+use Rattle.bplist_cert.proofs.CheckSteps.{refused_weaker, on_err}
 use Rattle.bplist_cert.proofs.KeyRepeats.{good_unnamed}
 use Rattle.bplist_cert.proofs.KeysLooks.{collected_apart}
 use Rattle.bplist_cert.proofs.key_rules.check_key_repeats.Goals as goal
@@ -12,15 +12,13 @@ use Rattle.bplist_cert.proofs.key_rules.check_key_repeats.Goals.{then-are_apart,
 
 pub returns-in_err-named-clause-exact : goal.returns-in_err-named-clause-exact
 returns-in_err-named-clause-exact g c = λ honest seen given.
-    let p = err_from_is_err_and c.from_residual.result c.from_residual.ensures.1 in
-    rw (p.1, p.2) (refused_weaker _ _ c.in_err-named.field-0.0 (λ x never. absurd never) (c.in_err-named.ensures.exact honest seen given))
+    on_err _ _ _ _ c.from_residual.ensures.1 (refused_weaker _ _ c.in_err-named.field-0.0 (λ x never. absurd never) (c.in_err-named.ensures.exact honest seen given))
 
 pub returns-then-keys-eq0-clause-exact : goal.returns-then-keys-eq0-clause-exact
 returns-then-keys-eq0-clause-exact g c = λ honest seen given n low vouched.
-    let m = g.P.Source.means c.args.src.now in
     let named = c.in_ok-named.named.marks.items in
     let none : count_by (λ marked. marked) named ≡ 0 = omega (arith, c.count-keys.ensures, c.if-keys-eq0.true) in
-    good_unnamed m.octets (frame_in m) named n none ((c.in_ok-named.ensures.exact honest seen given).1 n low vouched)
+    good_unnamed _ _ named n none ((c.in_ok-named.ensures.exact honest seen given).1 n low vouched)
 
 pub returns-clause-exact : goal.returns-clause-exact
 returns-clause-exact g c = λ honest seen given.
@@ -39,9 +37,6 @@ returns-clause-exact g c = λ honest seen given.
           (omega (arith, all, objects), collected_apart m.octets F c.args.seen.now.heights.now c.args.seen.now.bound c.args.names (c.are_apart.ensures w.if-are_apart.true) given)
       | else-are_apart w ↦ absurd (false≢true (sym w.if-are_apart.false ∙ sym w.apart-is ∙ apart))
     ])
-
-pub returns-then-keys-eq0-clause-asks : goal.returns-then-keys-eq0-clause-asks
-returns-then-keys-eq0-clause-asks g c = λ honest whole walked. omega (arith, c.in_ok-named.ensures.asks honest walked)
 
 pub returns-clause-asks : goal.returns-clause-asks
 returns-clause-asks g c = λ honest whole walked.

@@ -1,17 +1,15 @@
-use Rattle.std.proofs.Common.{◌≡◌, None, sym, subst, ◌∙◌, inl, inr, arith}
-use Rattle.std.proofs.lemmas.Bool.{cases_eq}
+use Rattle.std.proofs.Common.{◌≡◌, None, sym, subst, ◌∙◌, below_more, arith}
 use Rattle.std.proofs.lemmas.List.Sums.{count_by-le-length}
-use Rattle.std.proofs.lemmas.Result.{err_from_is_err_and}
 use Rattle.bplist_objects.specs.declared.frame.Frame.{Frame}
 use Rattle.bplist_objects.specs.Framed.{frame_in}
 use Rattle.bplist_objects.proofs.ExtentSums.{room_weaker}
 use Rattle.bplist_keys.specs.Texts.{IsMarkedText}
 use Rattle.bplist_keys.proofs.LookUps.{new_low, stamped_low}
 use Rattle.bplist_cert.specs.Valid.{IsVouchedBy}
-use Rattle.bplist_cert.specs.KeyRepeats.{HasGoodKeys, BreaksKeys}
+use Rattle.bplist_cert.specs.KeyRepeats.{BreaksKeys}
 use Rattle.bplist_cert.proofs.AskedBytes.{head_taken, paid_all, paid_more, paid_over}
 use Rattle.bplist_cert.proofs.KeyRepeats.{keys_classed, good_low, good_apart}
-use Rattle.bplist_cert.proofs.CheckSteps.{refused_weaker, vouched_inside}
+use Rattle.bplist_cert.proofs.CheckSteps.{refused_weaker, vouched_inside, on_err}
 use Rattle.bplist_cert.proofs.key_rules.check_named.Goals as goal
 use Rattle.bplist_cert.proofs.key_rules.check_named.Goals.{then-entry_or-gt1+in_ok-check_dict_repeats, else-entry_or-gt1}
 
@@ -26,8 +24,7 @@ returns-in_err-check_dict_repeats-clause-exact g c = λ honest seen named apart.
     let here : IsVouchedBy c.args.seen.now.heights.now n = omega (arith, c.entry_or.ensures, c.if-entry_or-gt1.true) in
     let judged = (rw (v.reads, table_is) at c.in_err-check_dict_repeats.ensures.exact) honest c.loop-n-test.true here seen
     (keys_classed f F _ c.in_ok-classes.classes.table.items n (c.in_ok-classes.ensures.exact honest) (named.1 n c.loop-n-test.true here)) (new_low n _ (v.stamps honest)) before.0 in
-    let p = err_from_is_err_and c.from_residual-in_err-check_dict_repeats.result c.from_residual-in_err-check_dict_repeats.ensures.1 in
-    rw (p.1, p.2) (refused_weaker _ _ c.in_err-check_dict_repeats.field-0.0 (λ fault h. record {
+    on_err _ _ _ _ c.from_residual-in_err-check_dict_repeats.ensures.1 (refused_weaker _ _ c.in_err-check_dict_repeats.field-0.0 (λ fault h. record {
       object = n;
       within = c.loop-n-test.true;
       vouched = here;
@@ -37,8 +34,6 @@ returns-in_err-check_dict_repeats-clause-exact g c = λ honest seen named apart.
 
 pub loop-n-preserved : goal.loop-n-preserved
 loop-n-preserved g c =
-    let f = (g.P.Source.means c.args.src.now).octets in
-    let F : Frame = frame_in (g.P.Source.means c.args.src.now) in
     let heights = c.args.seen.now.heights.now in
     let v = c.loop-n.invariant in
     let n = c.loop-n.n in
@@ -50,48 +45,37 @@ loop-n-preserved g c =
             reads = rw w.src-is (w.in_ok-check_dict_repeats.ensures.reads ∙ v.reads);
             same = rw w.look-is (w.in_ok-check_dict_repeats.ensures.same ∙ v.same);
             paid = λ honest seen whole.
-                let here_taken = head_taken f F heights n (c.frame-frame.ensures.framed.framed honest) (omega (arith, c.loop-n-test.true, whole)) (seen n c.loop-n-test.true here) in
+                let here_taken = head_taken _ _ heights n (c.frame-frame.ensures.framed.framed honest) (omega (arith, c.loop-n-test.true, whole)) (seen n c.loop-n-test.true here) in
                 let asked = (rw v.reads at w.in_ok-check_dict_repeats.ensures.asks) honest whole here_taken.0 here_taken.1 in
-                rw w.src-is (paid_more f F _ n _ _ (v.paid honest seen whole) _ _ here here_taken.2 (omega (arith, asked, here_taken.1.body, here_taken.1.ends)));
+                rw w.src-is (paid_more _ _ _ n _ _ (v.paid honest seen whole) _ _ here here_taken.2 (omega (arith, asked, here_taken.1.body, here_taken.1.ends)));
             stamps = λ honest. rw w.look-is (stamped_low n _ _ w.check_dict_repeats.ensures.stamped (v.stamps honest));
             exact = λ honest seen named.
                 let before = v.exact honest seen named in
                 let good = (rw (v.reads, table_is) at w.in_ok-check_dict_repeats.ensures.exact) honest c.loop-n-test.true here seen
-                (keys_classed f F _ c.in_ok-classes.classes.table.items n (c.in_ok-classes.ensures.exact honest) (named.1 n c.loop-n-test.true here)) (new_low n _ (v.stamps honest)) before.0 in (
+                (keys_classed _ _ _ c.in_ok-classes.classes.table.items n (c.in_ok-classes.ensures.exact honest) (named.1 n c.loop-n-test.true here)) (new_low n _ (v.stamps honest)) before.0 in (
                   rw w.look-is good.0,
-                  λ m low vouched. elim (cases_eq m n) [
-                    | inl e ↦ subst (HasGoodKeys f F None) (sym e) good.1
-                    | inr d ↦ before.1 m (omega (arith, low, d)) vouched
-                  ],
+                  below_more _ _ before.1 (λ _. good.1),
                 );
           }
       | else-entry_or-gt1 w ↦ record {
         reads = rw w.src-is v.reads;
         same = rw w.look-is v.same;
-        paid = λ honest seen whole. rw w.src-is (paid_over f F _ n _ _ (v.paid honest seen whole));
+        paid = λ honest seen whole. rw w.src-is (paid_over _ _ _ n _ _ (v.paid honest seen whole));
         stamps = λ honest x. rw w.look-is (let l = v.stamps honest x in omega (arith, l));
         exact = λ honest seen named.
             let before = v.exact honest seen named in (
               rw w.look-is before.0,
-              λ m low vouched. elim (cases_eq m n) [
-                | inl e ↦ good_low f F heights m (seen m (omega (arith, e, c.loop-n-test.true)) vouched) (rw e (omega (arith, c.entry_or.ensures, w.if-entry_or-gt1.false)))
-                | inr d ↦ before.1 m (omega (arith, low, d)) vouched
-              ],
+              below_more _ _ before.1 (λ vouched. good_low _ _ heights n (seen n c.loop-n-test.true vouched) (omega (arith, c.entry_or.ensures, w.if-entry_or-gt1.false))),
             );
       }
     ]
 
-pub returns-clause-exact : goal.returns-clause-exact
-returns-clause-exact g c = λ honest seen named apart.
-    λ n low vouched. (c.loop-n.invariant.exact honest seen named).1 n (omega (arith, low, c.loop-n-test.false)) vouched
-
 pub returns-then-branch-clause-exact : goal.returns-then-branch-clause-exact
 returns-then-branch-clause-exact g c = λ honest seen named apart n low vouched.
-    let f = (g.P.Source.means c.args.src.now).octets in
     let F : Frame = frame_in (g.P.Source.means c.args.src.now) in
     let heights = c.args.seen.now.heights.now in
     let told = apart c.if-apart.true in
-    good_apart f F heights (c.frame-frame.ensures.framed.framed honest) (λ m under v. seen m (omega (arith, under, told.0)) v) c.args.named.marks.items c.in_ok-classes.classes.table.items
+    good_apart _ _ heights (c.frame-frame.ensures.framed.framed honest) (λ m under v. seen m (omega (arith, under, told.0)) v) c.args.named.marks.items c.in_ok-classes.classes.table.items
     named.0 c.in_ok-classes.ensures.all (c.in_ok-classes.ensures.exact honest) ((rw c.count-keys.ensures at c.in_ok-are_own.ensures) c.if-branch.true) n (vouched_inside heights F.objects n c.requires.all vouched) vouched (named.1 n low vouched) (told.1 n low vouched)
 
 pub returns-clause-asks : goal.returns-clause-asks
@@ -110,3 +94,7 @@ returns-then-branch-clause-asks g c = λ honest whole seen room only.
     let read = c.in_ok-classes.ensures.asks honest (room_weaker f F _ (IsMarkedText f F c.args.named.marks.items) (λ m is. only m is.0) room) in
     let few = count_by-le-length (λ marked. marked) c.args.named.marks.items in
     omega (arith, read, few, c.requires.all_named)
+
+pub returns-clause-exact : goal.returns-clause-exact
+returns-clause-exact g c = λ honest seen named apart.
+    λ n low vouched. (c.loop-n.invariant.exact honest seen named).1 n (omega (arith, low, c.loop-n-test.false)) vouched

@@ -1,9 +1,6 @@
 use Rattle.bplist_cert.proofs.VouchedObjects.{sound_inside, sound_no_circle}
 use Rattle.bplist_cert.proofs.laws.sound_files.Goals as goal
 
-pub returns-clause-one_value : goal.returns-clause-one_value
-returns-clause-one_value c = λ f is. (is.value, is.holds, is.one)
-
 pub returns-clause-references : goal.returns-clause-references
 returns-clause-references c = sound_inside
 

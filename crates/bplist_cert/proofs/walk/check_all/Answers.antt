@@ -1,20 +1,18 @@
 use Rattle.std.proofs.Common.{◌≡◌, ◌+◌, ◌*◌, ◌≤◌, ◌∙◌, ap, length, refl, subst, arith}
 use Rattle.std.proofs.Math.Nat.{mul-le-mul_left}
 use Rattle.std.proofs.lemmas.List.{length-take-le}
-use Rattle.std.proofs.lemmas.Result.{err_from_is_err_and}
 use Rattle.bplist_objects.specs.declared.frame.Frame.{Frame}
 use Rattle.bplist_objects.specs.Framed.{frame_in}
 use Rattle.bplist_cert.specs.declared.walk.Pass.TheVariants.{Quick}
 use Rattle.bplist_cert.specs.Lists.{Lists}
 use Rattle.bplist_cert.specs.PairFault.{AreCheckedBelow}
 use Rattle.bplist_cert.specs.KeysLooks.{AreSeen}
-use Rattle.bplist_cert.proofs.CheckSteps.{start, given_weaker}
+use Rattle.bplist_cert.proofs.CheckSteps.{start, given_weaker, on_err}
 use Rattle.bplist_cert.proofs.KeysLooks.{none_seen, lists_seen, seen_on}
 use Rattle.bplist_cert.proofs.walk.check_all.Goals as goal
 
 pub loop-done-init : goal.loop-done-init
 loop-done-init g c =
-    let m = g.P.Source.means c.args.src.now in
     record {
       same = refl;
       taken = c.take.ensures.after;
@@ -22,31 +20,27 @@ loop-done-init g c =
       stays = λ quick none. rw c.take.ensures.value at none;
       reached = omega arith;
       keys = λ honest seen. rw c.take.ensures.value seen;
-      running = λ honest. rw c.new.ensures (start m.octets (frame_in m) c.args.walk.certificate.now Quick (c.frame-objects.ensures.framed.framed honest));
+      running = λ honest. rw c.new.ensures (start _ _ c.args.walk.certificate.now Quick (c.frame-objects.ensures.framed.framed honest));
     }
 
 pub returns-in_err-look-clause-exact : goal.returns-in_err-look-clause-exact
 returns-in_err-look-clause-exact g c = λ honest seen.
     let shown = c.deref-heights.ensures.value ∙ ap (λ (x : Lists). x.heights) c.cert.view_is in
     let keyed = ap (λ (x : Lists). x.keys) c.cert.view_is in
-    let m = g.P.Source.means c.args.src.now in
     let v = c.loop-done.invariant in
     let places = (rw v.same at c.in_ok-read_offsets_in.ensures.offsets) honest in
     let run = ((rw (c.in_ok-read_offsets_in.ensures.reads, v.same) at c.in_ok-check_block.ensures.exact) honest) places (v.running honest) in
     let exact = (rw (c.in_ok-check_block.ensures.reads, c.in_ok-read_offsets_in.ensures.reads, v.same, shown, keyed) at c.in_err-look.ensures.exact) honest in
-    let lists = lists_seen m.octets (frame_in m) c.args.walk.certificate.now.heights c.args.walk.certificate.now.keys c.loop-done.done c.loop-done.walked.named c.loop-done.found.lists (v.keys honest seen) in
-    let p = err_from_is_err_and c.from_residual-in_err-look.result c.from_residual-in_err-look.ensures.1 in
-    rw (p.1, p.2) (given_weaker _ _ c.in_err-look.field-0.0 (λ x never. absurd never) (exact places run.0.kept lists))
+    let lists = lists_seen _ _ c.args.walk.certificate.now.heights c.args.walk.certificate.now.keys c.loop-done.done c.loop-done.walked.named c.loop-done.found.lists (v.keys honest seen) in
+    on_err _ _ _ _ c.from_residual-in_err-look.ensures.1 (given_weaker _ _ c.in_err-look.field-0.0 (λ x never. absurd never) (exact places run.0.kept lists))
 
 pub returns-in_err-check_block-clause-exact : goal.returns-in_err-check_block-clause-exact
 returns-in_err-check_block-clause-exact g c = λ honest seen.
-    let m = g.P.Source.means c.args.src.now in
     let v = c.loop-done.invariant in
     let places = (rw v.same at c.in_ok-read_offsets_in.ensures.offsets) honest in
     let fault = ((rw (c.in_ok-read_offsets_in.ensures.reads, v.same) at c.in_err-check_block.ensures.exact) honest) places (v.running honest) in
-    let none = none_seen m.octets (frame_in m) c.args.walk.certificate.now.heights c.args.walk.certificate.now.keys c.loop-done.done c.loop-done.walked.named c.loop-done.found.lists (v.keys honest seen) in
-    let p = err_from_is_err_and c.from_residual-in_err-check_block.result c.from_residual-in_err-check_block.ensures.1 in
-    rw (p.1, p.2, v.taken) (given_weaker _ _ c.in_err-check_block.field-0.0 (λ x h. (h, none)) fault)
+    let none = none_seen _ _ c.args.walk.certificate.now.heights c.args.walk.certificate.now.keys c.loop-done.done c.loop-done.walked.named c.loop-done.found.lists (v.keys honest seen) in
+    rw v.taken (on_err _ _ _ _ c.from_residual-in_err-check_block.ensures.1 (given_weaker _ _ c.in_err-check_block.field-0.0 (λ x h. (h, none)) fault))
 
 pub loop-done-preserved : goal.loop-done-preserved
 loop-done-preserved g c =

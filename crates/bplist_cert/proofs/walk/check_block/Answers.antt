@@ -1,11 +1,10 @@
 use Rattle.std.proofs.Common.{◌≡◌, ◌+◌, ◌∙◌, ap, suc, length, slice_index, refl, subst, arith}
-use Rattle.std.proofs.lemmas.Result.{err_from_is_err_and}
 use Rattle.bplist_objects.specs.Framed.{frame_in}
 use Rattle.bplist_cert.specs.declared.walk.Pass.TheVariants.{Quick}
 use Rattle.bplist_cert.specs.Lists.{Lists}
 use Rattle.bplist_cert.specs.PairFault.{AreCheckedBelow}
 use Rattle.bplist_cert.specs.Walks.{AreCollected}
-use Rattle.bplist_cert.proofs.CheckSteps.{passed, held_more, fault_met, given_weaker}
+use Rattle.bplist_cert.proofs.CheckSteps.{passed, held_more, fault_met, given_weaker, on_err}
 use Rattle.bplist_cert.proofs.KeysLooks.{none_collected}
 use Rattle.bplist_cert.specs.Valid.{IsVouchedBy}
 use Rattle.bplist_cert.proofs.walk.check_block.Goals.{then-heights-n-gt0+in_ok-check_object, else-heights-n-gt0}
@@ -53,15 +52,13 @@ loop-i-preserved g c =
 pub returns-in_err-check_object-clause-exact : goal.returns-in_err-check_object-clause-exact
 returns-in_err-check_object-clause-exact g c = λ honest places run.
     let shown = c.deref-heights.ensures.value ∙ ap (λ (x : Lists). x.heights) c.cert.view_is in
-    let m = g.P.Source.means c.args.src.now in
     let heights = c.args.walk.certificate.now.heights in
     let keys = c.args.walk.certificate.now.keys in
     let exact = rw c.loop-i.invariant.same at c.in_err-check_object.ensures.exact in
     let v : IsVouchedBy heights (c.args.from + c.loop-i.i) = omega (arith, ap (λ xs. slice_index xs (c.args.from + c.loop-i.i)) shown, c.if-heights-n-gt0.true) in
     let before = (c.loop-i.invariant.running honest places run).0 in
-    let p = err_from_is_err_and c.from_residual.result c.from_residual.ensures.1 in
-    rw (p.1, p.2) (given_weaker _ _ c.in_err-check_object.field-0.0
-    (λ fault h. fault_met m.octets (frame_in m) heights keys (c.args.from + c.loop-i.i) (omega (arith, c.loop-i-test.true, c.requires.within)) v c.args.walk.look c.loop-i.walked.used.octets before fault h)
+    on_err _ _ _ _ c.from_residual.ensures.1 (given_weaker _ _ c.in_err-check_object.field-0.0
+    (λ fault h. fault_met _ _ heights keys (c.args.from + c.loop-i.i) (omega (arith, c.loop-i-test.true, c.requires.within)) v c.args.walk.look c.loop-i.walked.used.octets before fault h)
     (exact honest (places c.loop-i.i c.loop-i-test.true) v before.sums))
 
 pub returns-clause-exact : goal.returns-clause-exact

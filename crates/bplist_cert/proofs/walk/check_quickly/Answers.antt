@@ -1,5 +1,5 @@
 use Rattle.std.proofs.Common.{◌≡◌, ◌+◌, ◌-◌, ◌≤◌, ◌∙◌, ap, subst, arith}
-use Rattle.std.proofs.lemmas.Result.{err_from_is_err_and, on_ok_weaker}
+use Rattle.std.proofs.lemmas.Result.{on_ok_weaker}
 use Rattle.bplist_objects.specs.declared.frame.Frame.{Frame}
 use Rattle.bplist_objects.specs.Framed.{frame_in}
 use Rattle.bplist_objects.specs.Frame.{off}
@@ -10,7 +10,7 @@ use Rattle.bplist_objects.proofs.RuleLaws.{kept_all_after}
 use Rattle.bplist_cert.specs.declared.walk.Pass.TheVariants.{Quick}
 use Rattle.bplist_cert.specs.Lists.{Lists}
 use Rattle.bplist_cert.specs.PairFault.{IsCheckedObject}
-use Rattle.bplist_cert.proofs.CheckSteps.{given_weaker, seen}
+use Rattle.bplist_cert.proofs.CheckSteps.{given_weaker, seen, on_err}
 use Rattle.bplist_cert.proofs.KeysLooks.{no_refs_keys, none_collected}
 use Rattle.bplist_cert.proofs.QuickLooks.{rest_shown, shape_shown, sum_shown}
 use Rattle.bplist_cert.proofs.walk.check_quickly.Goals as goal
@@ -48,31 +48,23 @@ returns-in_ok-walked-in-Body-clause-exact g c = λ honest place vouched sums.
 
 pub returns-in_err-end-clause-exact : goal.returns-in_err-end-clause-exact
 returns-in_err-end-clause-exact g c = λ honest place vouched sums.
-    let m = g.P.Source.means c.args.src.now in
-    let p = err_from_is_err_and c.from_residual.result c.from_residual.ensures.1 in
-    rw (p.1, p.2) (given_weaker _ _ c.in_err-end.field-0.0 (shape_shown m.octets (frame_in m) c.args.cert.now.heights c.args.n.0) (c.in_err-end.ensures.exact honest place))
+    on_err _ _ _ _ c.from_residual.ensures.1 (given_weaker _ _ c.in_err-end.field-0.0 (shape_shown _ _ c.args.cert.now.heights c.args.n.0) (c.in_err-end.ensures.exact honest place))
 
 pub returns-in_err-walked-in-Done-clause-exact : goal.returns-in_err-walked-in-Done-clause-exact
 returns-in_err-walked-in-Done-clause-exact g c = λ honest place vouched sums.
-    let f = (g.P.Source.means c.args.src.now).octets in
-    let F : Frame = frame_in (g.P.Source.means c.args.src.now) in
     let n = c.args.n.0 in
     let visited = (rw c.in-Done.is at c.in_ok-end.ensures.exact) honest place in
     let h = rw (place, c.frame-table.ensures.frame) at c.in_err-walked-in-Done.ensures.room in
-    let shape = (kept_spells f F n (c.frame-table.ensures.framed.framed honest) c.requires.within visited.0 visited.1 visited.4).0 in
-    let p = err_from_is_err_and c.from_residual-in_err-walked-in-Done.result c.from_residual-in_err-walked-in-Done.ensures.1 in
-    rw (p.1, p.2) (sum_shown f F c.args.cert.now.heights n visited.0 shape vouched c.args.walked.now.used.octets sums (omega (arith, h.3, visited.2)))
+    let shape = (kept_spells _ _ n (c.frame-table.ensures.framed.framed honest) c.requires.within visited.0 visited.1 visited.4).0 in
+    on_err _ _ _ _ c.from_residual-in_err-walked-in-Done.ensures.1 (sum_shown _ _ c.args.cert.now.heights n visited.0 shape vouched c.args.walked.now.used.octets sums (omega (arith, h.3, visited.2)))
 
 pub returns-in_err-walked-in-Body-clause-exact : goal.returns-in_err-walked-in-Body-clause-exact
 returns-in_err-walked-in-Body-clause-exact g c = λ honest place vouched sums.
-    let f = (g.P.Source.means c.args.src.now).octets in
-    let F : Frame = frame_in (g.P.Source.means c.args.src.now) in
     let n = c.args.n.0 in
     let visited = (rw c.in-Body.is at c.in_ok-end.ensures.exact) honest place in
     let h = rw (place, c.frame-table.ensures.frame) at c.in_err-walked-in-Body.ensures.room in
-    let shape = announced_shape f F n (c.frame-table.ensures.framed.framed honest) c.requires.within c.in-Body.head visited.0 visited.1 in
-    let p = err_from_is_err_and c.from_residual-in_err-walked-in-Body.result c.from_residual-in_err-walked-in-Body.ensures.1 in
-    rw (p.1, p.2) (sum_shown f F c.args.cert.now.heights n c.in-Body.head shape vouched c.args.walked.now.used.octets sums h.3)
+    let shape = announced_shape _ _ n (c.frame-table.ensures.framed.framed honest) c.requires.within c.in-Body.head visited.0 visited.1 in
+    on_err _ _ _ _ c.from_residual-in_err-walked-in-Body.ensures.1 (sum_shown _ _ c.args.cert.now.heights n c.in-Body.head shape vouched c.args.walked.now.used.octets sums h.3)
 
 pub returns-in_ok-walked-in-Body-clause-asks : goal.returns-in_ok-walked-in-Body-clause-asks
 returns-in_ok-walked-in-Body-clause-asks g c =

@@ -1,5 +1,6 @@
 use Rattle.std.proofs.Common.{◌%◌, sym, ◌∙◌, arith}
-use Rattle.bplist_cert.proofs.KeyPairs.{lt_less, ranked_units}
+use Rattle.bplist_keys.proofs.Groups.{less as lt_less}
+use Rattle.bplist_cert.proofs.KeyPairs.{ranked_units}
 use Rattle.bplist_cert.proofs.caches.OrderedPairsCache.has.Goals as goal
 
 pub returns-then-self-pair : goal.returns-then-self-pair

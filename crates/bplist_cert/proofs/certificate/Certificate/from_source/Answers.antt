@@ -1,16 +1,15 @@
 use Rattle.std.proofs.Common.{◌+◌, ◌*◌, ◌++◌, ◌∙◌, None, Some, sym, ap, arith}
 use Rattle.std.proofs.lemmas.List.{drop_all}
 use Rattle.std.specs.Int.{bytes_high_first}
-use Rattle.std.proofs.lemmas.Result.{err_from_is_err_and}
 use Rattle.bplist_cert.specs.Encoding.{magic}
 use Rattle.bplist_cert.specs.Versions.{is_keyed}
 use Rattle.bplist_cert.proofs.CertificateBytes.{header_refused, octets_once, whole}
+use Rattle.bplist_cert.proofs.CheckSteps.{on_err}
 use Rattle.bplist_cert.proofs.certificate.Certificate.from_source.Goals as goal
 
 pub returns-in_err-header-clause-exact : goal.returns-in_err-header-clause-exact
 returns-in_err-header-clause-exact g c = λ honest certificate is e.
-    let p = err_from_is_err_and c.from_residual.result c.from_residual.ensures.1 in
-    rw (p.1, p.2) (header_refused (g.S.Source.means c.args.src.now).octets certificate _ is e (c.in_err-header.ensures.exact honest))
+    on_err _ _ _ _ c.from_residual.ensures.1 (header_refused (g.S.Source.means c.args.src.now).octets certificate _ is e (c.in_err-header.ensures.exact honest))
 
 pub returns-in-Plain-clause-yes : goal.returns-in-Plain-clause-yes
 returns-in-Plain-clause-yes g c = λ honest.

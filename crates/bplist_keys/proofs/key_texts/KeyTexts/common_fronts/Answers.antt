@@ -17,6 +17,3 @@ loop-k-preserved c =
         | inr d ↦ fits_fewer first c.loop-k.fronts c.with-fronts.result (text (item_at xs j).object) one.shared one.narrow (v.fits text held j (omega (arith, low, d)))
       ];
     }
-
-pub returns : goal.returns
-returns c = λ text held k low. c.loop-k.invariant.fits text held k (omega (arith, low, c.loop-k-test.false))

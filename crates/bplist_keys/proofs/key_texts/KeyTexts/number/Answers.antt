@@ -35,6 +35,3 @@ loop-k-preserved c =
         | inr d ↦ rw (put_other xs k j x d) (v.fronts text held fits j (omega (arith, low, d)))
       ];
     }
-
-pub returns-clause-fronts : goal.returns-clause-fronts
-returns-clause-fronts c = λ text held fits k low. c.loop-k.invariant.fronts text held fits k (omega (arith, low, c.loop-k-test.false, c.loop-k.invariant.all))

@@ -1,4 +1,4 @@
-use Rattle.std.proofs.Common.{◌≡◌, ◌+◌, ◌*◌, ◌≤◌, ◌<◌, ◌^◌, ℕ, length, take}
+use Rattle.std.proofs.Common.{◌≡◌, ◌+◌, ◌*◌, ◌≤◌, ℕ, length, take}
 use Rattle.bplist_objects.specs.Framed.{HonestlyIn}
 use Rattle.bplist_keys.specs.Groups.{item_at, HaveShapes, units_in}
 use Rattle.bplist_keys.specs.Texts.{text_units}
