@@ -1,5 +1,5 @@
 use Rattle.bplint.specs.Questions.{StatusAsked}
-use Rattle.bplint.proofs.Endings.{failed_asked, kept_asked, still_ends}
+use Rattle.bplint.proofs.Endings.{failed_asked, still_ends}
 use Rattle.bplint.proofs.run.run_opened.Goals as goal
 
 pub returns-clause-exact : goal.returns-clause-exact
@@ -10,4 +10,4 @@ returns-clause-exact g c = λ fine certified most.
     let ends = StatusAsked line.ask line.hex f cert in
     let failed = failed_asked line.ask line.hex f cert in
     still_ends ends failed _ _ c.warned-ending.ensures
-        (still_ends ends failed _ _ c.completed-ending.ensures (c.answer_within-ending.ensures fine certified most)) _ c.end.ensures
+    (still_ends ends failed _ _ c.completed-ending.ensures (c.answer_within-ending.ensures fine certified most)) _ c.end.ensures

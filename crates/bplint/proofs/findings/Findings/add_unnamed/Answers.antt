@@ -1,4 +1,4 @@
-use Rattle.std.proofs.Common.{◌≡◌, ℕ, ◌≤◌, arith}
+use Rattle.std.proofs.Common.{◌≡◌, ◌≤◌, arith}
 use Rattle.bplint.specs.ExitStatuses.{EndsWith, IsOrFails}
 use Rattle.bplint.proofs.Endings.{at_least, counts}
 use Rattle.bplint.proofs.findings.Findings.add_unnamed.Goals as goal

@@ -1,4 +1,4 @@
-use Rattle.std.proofs.Common.{◌≡◌, ℕ, ◌≤◌, arith}
+use Rattle.std.proofs.Common.{◌≡◌, ◌≤◌, arith}
 use Rattle.bplint_engine.specs.Findings.{status_of}
 use Rattle.bplint.specs.ExitStatuses.{EndsWith, IsOrFails}
 use Rattle.bplint.proofs.Endings.{at_least, counts}

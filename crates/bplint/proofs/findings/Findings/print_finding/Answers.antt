@@ -1,6 +1,6 @@
-use Rattle.std.proofs.Common.{◌≡◌, ℕ, inr, subst, arith}
+use Rattle.std.proofs.Common.{◌≡◌, inr, arith}
 use Rattle.bplint_engine.specs.Findings.{status_of}
-use Rattle.bplint.specs.ExitStatuses.{Counts, IsOrFails}
+use Rattle.bplint.specs.ExitStatuses.{IsOrFails}
 use Rattle.bplint.proofs.Endings.{counts}
 use Rattle.bplint.proofs.findings.Findings.print_finding.Goals as goal
 

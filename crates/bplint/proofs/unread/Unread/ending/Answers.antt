@@ -1,5 +1,3 @@
-use Rattle.std.proofs.Common.{subst}
-use Rattle.bplint.specs.ExitStatuses.{Fails}
 use Rattle.bplint.proofs.Endings.{fails, unread}
 use Rattle.bplint.proofs.unread.Unread.ending.Goals as goal
 
