@@ -1,6 +1,6 @@
 //! The program bplint: lints, checks and reads binary property lists. This crate has the command line, the inputs and
-//! the outputs. What is written is proved or tested in `bplint_engine` and `bplint_lines`; the functions here pass it on,
-//! and make the exit status of it: see `run_opened` and `Findings::add`.
+//! the outputs. What is written is proved or tested in `bplint_engine` and `bplint_lines`. The functions here pass it
+//! on, and make the exit status of it: see `run_opened` and `Findings::add`.
 //!
 //! ```
 //! $ bplint lint Info.plist

@@ -1,5 +1,5 @@
-//! The JSON lines of `lint` and of a listing. The crate `serde_json` writes each. That the lines say what the files hold
-//! is shown by tests, not by proof.
+//! The JSON lines of `lint` and of a listing. The crate `serde_json` writes each. Tests show that the lines say what
+//! the files hold; no proof does.
 
 mod finding_lines;
 pub(crate) mod rows;

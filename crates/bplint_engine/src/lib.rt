@@ -26,8 +26,8 @@
 //!
 //! A call returns the `Said` or the `RunFault` of `bplint_lines`. The clause `exact` of each call says which bytes it
 //! wrote; specs/Said.antt defines what each command says. The law `tree_of_ls` says that a recursive listing
-//! consists of the lines of `ls` at each container. What has no such clause is tested: the map of a file, JSON, the other
-//! forms of `ls` and `show`, and explanations after their first line.
+//! consists of the lines of `ls` at each container. What has no such clause is tested: the map of a file, JSON, the
+//! other forms of `ls` and `show`, and explanations after their first line.
 //!
 //! The modules, in reading order. Those with proved answers:
 //!
