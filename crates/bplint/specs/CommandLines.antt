@@ -41,7 +41,7 @@ module _ (m : ArgMatches) where
   IsListed (asks.Rows listed) = ⊤
   IsListed _ = ⊥
 
-  -- what the subcommand with this name asks
+  -- what the subcommand with this name asks, as far as its flags decide it; which PATH and LIMIT it has is tested
   abbrev pub IsAskOf : List ℕ → Ask → Type 0
   IsAskOf name asks.Lint = ⊥
   IsAskOf name (asks.Certify sorted) = (bytes_eq name (codes "certify") ≡ true) × IsFlag (codes "sorted") sorted
@@ -51,6 +51,6 @@ module _ (m : ArgMatches) where
   IsAskOf name (asks.Map paths) = (bytes_eq name (codes "map") ≡ true) × IsFlag (codes "paths") paths
   IsAskOf name asks.Textconv = (bytes_eq name (codes "certify") ≡ false) × (bytes_eq name (codes "check") ≡ false)
       × (bytes_eq name (codes "get") ≡ false) × (bytes_eq name (codes "print") ≡ false)
-      × (bytes_eq name (codes "show") ≡ false) × (bytes_eq name (codes "ls") ≡ false)
+      × (bytes_eq name (codes "show") ≡ false) × (bytes_eq name (codes "ls") ≡ false) × (bytes_eq name (codes "map") ≡ false)
   IsAskOf name ask = ((bytes_eq name (codes "show") ≡ true) × IsShown ask)
       ⊎ ((bytes_eq name (codes "ls") ≡ true) × IsListed ask)

@@ -23,11 +23,11 @@ IsStillEnd old new = (new ≡ old) ⊎ (new ≡ Err (Run Memory))
 abbrev pub Fails : Result Said RawFault → Type 0
 Fails answer = (status : ℕ) → EndsWith answer status → 3 ≤ status
 
--- the exit status is this one, or it is 3 or more, because a read or a write failed or memory was refused
+-- the exit status is this one, or it is 3 or more
 abbrev pub IsOrFails : ℕ → ℕ → Type 0
 IsOrFails wanted status = (status ≡ wanted) ⊎ (3 ≤ status)
 
--- one more file is counted, with an exit status of which Ends holds: the greatest status is raised to it
+-- the greatest exit status is raised to a status of which Ends holds. How many files were counted is no part of this
 abbrev pub Counts : (ℕ → Type 0) → ℕ → ℕ → Type 0
 Counts Ends old new = (status : ℕ) × Ends status × (new ≡ max old status)
 

@@ -104,8 +104,8 @@ EndsUnanswered (asks.Raw path) f status = (status ≡ 1) × (n : ℕ) × IsRawle
 EndsUnanswered (asks.Certify sorted) f status = status ≡ 2
 EndsUnanswered _ f status = ⊥
 
--- the exit status of a run about f and cert: that of a right answer, or of a run without one, or 3 or more, because a
--- read or a write failed or memory was refused
+-- the exit status of a run about f and cert: that of a right answer, or of a run without one, or 3 or more, for which
+-- the definition asks no cause
 abbrev pub StatusAsked : Ask → Bool → List ℕ → List ℕ → ℕ → Type 0
 StatusAsked ask hex f cert status =
     ∥ HasStatus (SaysAsked ask hex f cert) status ⊎ (EndsUnanswered ask f status ⊎ (3 ≤ status)) ∥₁
@@ -118,7 +118,7 @@ EndsAsked ask hex f cert result = (status : ℕ) → EndsWith result status → 
 abbrev pub BreaksRule : List ℕ → Type 0
 BreaksRule f = ((fault : Fault) × IsFileFault f fault) ⊎ ((circle : List ℕ) × IsFileCircle f circle)
 
--- the exit status of `lint`: 0 for a sound file, 1 for one that breaks a rule, or 3 or more, because a read or a write
--- failed or memory was refused. No file is both, so 0 means exactly that it is sound and 1 exactly that it is not
+-- the exit status of `lint`: 0 only for a sound file, 1 only for one that breaks a rule, or 3 or more. No file is both
+-- (`fault_has_no_value`). The definition does not ask why it is 3 or more
 abbrev pub LintEnds : List ℕ → ℕ → Type 0
 LintEnds f status = ∥ ((status ≡ 0) × IsSound f) ⊎ (((status ≡ 1) × BreaksRule f) ⊎ (3 ≤ status)) ∥₁
