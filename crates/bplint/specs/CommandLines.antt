@@ -51,6 +51,7 @@ module _ (m : ArgMatches) where
   IsAskOf name (asks.Map paths) = (bytes_eq name (codes "map") ≡ true) × IsFlag (codes "paths") paths
   IsAskOf name asks.Textconv = (bytes_eq name (codes "certify") ≡ false) × (bytes_eq name (codes "check") ≡ false)
       × (bytes_eq name (codes "get") ≡ false) × (bytes_eq name (codes "print") ≡ false)
-      × (bytes_eq name (codes "show") ≡ false) × (bytes_eq name (codes "ls") ≡ false) × (bytes_eq name (codes "map") ≡ false)
+      × (bytes_eq name (codes "show") ≡ false) × (bytes_eq name (codes "ls") ≡ false)
+      × (bytes_eq name (codes "map") ≡ false)
   IsAskOf name ask = ((bytes_eq name (codes "show") ≡ true) × IsShown ask)
       ⊎ ((bytes_eq name (codes "ls") ≡ true) × IsListed ask)
