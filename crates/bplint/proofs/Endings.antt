@@ -39,7 +39,7 @@ use Rattle.bplint.specs.declared.args.Ask.{Ask}
 use Rattle.bplint.specs.declared.args.Ask.TheVariants as asks
 use Rattle.bplint.specs.declared.input_fault.InputFault.{InputFault}
 use Rattle.bplint.specs.declared.input_fault.InputFault.TheVariants as inputs
-use Rattle.bplint.specs.ExitStatuses.{Counts, EndsWith, Fails, IsOrFails, IsStillEnd}
+use Rattle.bplint.specs.ExitStatuses.{EndsWith, Fails, IsOrFails, IsStillEnd, Raises}
 use Rattle.bplint.specs.Questions.{BreaksRule, EndsAsked, EndsUnanswered, HasStatus, LeavesAnswer, LeavesAsked, LintEnds, StatusAsked, answer_of, answer_of_led, led_of, most_asked, SaysAsked}
 
 -- ---- what a run leaves
@@ -178,8 +178,8 @@ module _ (f : List ℕ) where
   named_ends answer ends one s (inr high) = failed_lint s high
 
 -- ---- files that are counted
-pub counts : (P Q : ℕ → Type 0) (old new : ℕ) → ((s : ℕ) → P s → Q s) → Counts P old new → Counts Q old new
-counts P Q old new means (status, ends, is) = (status, means status ends, is)
+pub raises : (P Q : ℕ → Type 0) (old new : ℕ) → ((s : ℕ) → P s → Q s) → Raises P old new → Raises Q old new
+raises P Q old new means (status, ends, is) = (status, means status ends, is)
 
 pub at_least : (n : ℕ) → 3 ≤ n → (s : ℕ) → IsOrFails n s → 3 ≤ s
 at_least n high s (inl is) = omega (arith, is, high)

@@ -27,9 +27,9 @@ Fails answer = (status : ℕ) → EndsWith answer status → 3 ≤ status
 abbrev pub IsOrFails : ℕ → ℕ → Type 0
 IsOrFails wanted status = (status ≡ wanted) ⊎ (3 ≤ status)
 
--- the greatest exit status is raised to a status of which Ends holds. How many files were counted is no part of this
-abbrev pub Counts : (ℕ → Type 0) → ℕ → ℕ → Type 0
-Counts Ends old new = (status : ℕ) × Ends status × (new ≡ max old status)
+-- the greatest exit status is raised to one of which Ends holds
+abbrev pub Raises : (ℕ → Type 0) → ℕ → ℕ → Type 0
+Raises Ends old new = (status : ℕ) × Ends status × (new ≡ max old status)
 
 -- the exit status of a text for standard output: that of a failed write if it cannot be written, or of refused memory
 abbrev pub IsPrintedWith : ℕ → Type 0

@@ -37,7 +37,7 @@ answer_of_led (Ok There) = Ok All
 answer_of_led (Ok (Nowhere line)) = Ok SomeMissing
 answer_of_led (Err fault) = Err fault
 
--- a fault that other commands have as well
+-- the same answer, with a fault that other commands have as well
 abbrev pub led_of : Result Led RunFault → Result Led RawFault
 led_of (Ok led) = Ok led
 led_of (Err fault) = Err (Run fault)

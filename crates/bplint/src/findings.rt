@@ -3,7 +3,7 @@
 
 ghost use Rattle.std.specs.Prelude.{◌≡◌, ◌≤◌, ℕ, IsTrue};
 ghost use Rattle.bplint_engine.specs.Findings.{status_of};
-ghost use Rattle.bplint.specs.ExitStatuses.{Counts, EndsWith, IsOrFails};
+ghost use Rattle.bplint.specs.ExitStatuses.{EndsWith, IsOrFails, Raises};
 ghost use Rattle.bplint.specs.Questions.{LintEnds};
 
 use crate::args::{Ask, Lint, Printed, Run};
@@ -47,7 +47,7 @@ impl<'a, R: Files<File = File> + Print + Eprint> Findings<'a, R> {
     /// Lints a file, and says what it found.
     pub fn add<S: Source + Drop>(&mut self, name: &str, file: S)
         ensures { IsTrue (S.means file).honest
-            → Counts (LintEnds (S.means file).octets) self.old.tally self.new.tally }
+            → Raises (LintEnds (S.means file).octets) self.old.tally self.new.tally }
     {
         if self.prints_json() {
             let mut file = file;
@@ -110,7 +110,7 @@ impl<'a, R: Files<File = File> + Print + Eprint> Findings<'a, R> {
 
     /// Counts the file, which is not sound.
     fn print_name(&mut self, name: &str)
-        ensures { Counts (IsOrFails 1) self.old.tally self.new.tally }
+        ensures { Raises (IsOrFails 1) self.old.tally self.new.tally }
     {
         match self.name_line(name) {
             Ok(line) => self.print(&line, 1),
@@ -140,7 +140,7 @@ impl<'a, R: Files<File = File> + Print + Eprint> Findings<'a, R> {
 
     /// Counts the file too.
     fn print_finding(&mut self, name: &[u8], finding: &Finding)
-        ensures { Counts (IsOrFails (status_of finding.now)) self.old.tally self.new.tally }
+        ensures { Raises (IsOrFails (status_of finding.now)) self.old.tally self.new.tally }
     {
         match finding.line(self.alloc, name) {
             Ok(line) => self.print(&line, finding.status()),
@@ -151,7 +151,7 @@ impl<'a, R: Files<File = File> + Print + Eprint> Findings<'a, R> {
     /// Counts a file whose run ended with this status.
     fn print(&mut self, line: &[u8], status: u8)
         requires { status ≤ 4 }
-        ensures { Counts (IsOrFails status) self.old.tally self.new.tally }
+        ensures { Raises (IsOrFails status) self.old.tally self.new.tally }
     {
         let mut out = OutFile::new(self.rt, "-");
         if out.write_all(line).is_ok() {
@@ -165,7 +165,7 @@ impl<'a, R: Files<File = File> + Print + Eprint> Findings<'a, R> {
 
     /// Says that an input could not be read.
     pub fn add_unread(&mut self, unread: Unread<'_>)
-        ensures { Counts (λ status. 3 ≤ status) self.old.tally self.new.tally }
+        ensures { Raises (λ status. 3 ≤ status) self.old.tally self.new.tally }
     {
         if let Some(name) = name_behind(self.alloc, unread.name) {
             return self.add_unnamed(&name);
@@ -183,7 +183,7 @@ impl<'a, R: Files<File = File> + Print + Eprint> Findings<'a, R> {
 
     /// Says that a path is not UTF-8, and cannot be opened.
     pub fn add_unnamed(&mut self, path: &[u8])
-        ensures { Counts (λ status. 3 ≤ status) self.old.tally self.new.tally }
+        ensures { Raises (λ status. 3 ≤ status) self.old.tally self.new.tally }
     {
         if self.prints_json() {
             let finding = Finding::Unread {
@@ -210,7 +210,7 @@ impl<'a, R: Files<File = File> + Print + Eprint> Findings<'a, R> {
 
     /// Counts the file too.
     fn end(&mut self, prefix: &str, ending: Ending)
-        ensures { Counts (EndsWith ending.answer) self.old.tally self.new.tally }
+        ensures { Raises (EndsWith ending.answer) self.old.tally self.new.tally }
     {
         let silent = ending.silent;
         let status = end(self.rt, self.alloc, prefix, ending);
@@ -223,7 +223,7 @@ impl<'a, R: Files<File = File> + Print + Eprint> Findings<'a, R> {
 
     /// Memory for the lines of a file was refused.
     fn end_without_memory(&mut self)
-        ensures { Counts (λ status. status ≡ 4) self.old.tally self.new.tally }
+        ensures { Raises (λ status. status ≡ 4) self.old.tally self.new.tally }
     {
         self.end("", Ending::with(self.alloc, RunFault::Memory));
     }

@@ -9,13 +9,13 @@ ghost use Rattle.bplint_lines.specs.Answers.{read_failed};
 ghost use Rattle.bplint_lines.specs.Explanation.{rule_line, rule_of_fault};
 
 use crate::file_lines::file_lines;
-use crate::object_path::{head_in, key_front, path_to};
+use crate::object_path::{frame_in, head_in, key_front, path_to};
 use bplint_lines::{
     Naming, RunFault, bytes_line_of, is_about_certificates, key_line_of, object_line_of,
     path_line_of, rule_line_of,
 };
 use bplist_objects::{
-    Failure, Fault, Frame, Kind, ObjectFault, ObjectNo, Rule, offset_of, trailer_of,
+    Failure, Fault, Frame, Kind, ObjectNo, Rule, offset_of,
 };
 use bplist_octets::{SliceSource, Source};
 use std::alloc::{AllocError, Global};
@@ -124,18 +124,6 @@ pub fn describe<S: Source>(alloc: Global, src: &mut S, object: ObjectNo) -> Resu
     match frame_in(src)? {
         Some(frame) => object_lines(alloc, src, &frame, object, None),
         None => Ok(String::new(alloc)),
-    }
-}
-
-/// Returns None if the file breaks a rule of frames.
-fn frame_in<S: Source>(src: &mut S) -> Result<Option<Frame>, Failure>
-    ensures reads { OnlyReads (failed_to_read result) (S.means src.old) (S.means src.new) }
-    ensures safe { IfOk result (λ found. IfSome found (IsSafeFrame (length (S.means src.old).octets))) }
-{
-    match trailer_of(src) {
-        Ok(frame) => Ok(Some(frame)),
-        Err(ObjectFault::Fault(_)) => Ok(None),
-        Err(ObjectFault::Read(fault)) => Err(Failure::Read(fault)),
     }
 }
 

@@ -5,7 +5,7 @@ ghost use Rattle.bplist_octets.specs.Meaning.{Honestly};
 ghost use Rattle.bplint_lines.specs.FaultLines.{report_of};
 ghost use Rattle.bplint_engine.specs.Findings.{IsFindingOf, status_of};
 
-use crate::object_path::path_to;
+use crate::object_path::{frame_in, path_to};
 use bplint_lines::{Naming, ObjectPath, RunFault};
 use bplist_hints::hint_of;
 use bplist_lint::{LintRefusal, ObjectNos, lint};
@@ -159,10 +159,8 @@ fn way_to<S: Source>(alloc: Global, src: &mut S, object: Option<ObjectNo>) -> Re
 }
 
 fn search_way<S: Source>(alloc: Global, src: &mut S, object: ObjectNo) -> Result<Way, Failure> {
-    let frame = match trailer_of(src) {
-        Ok(frame) => frame,
-        Err(ObjectFault::Fault(_)) => return Ok(Way::missing("unreached")),
-        Err(ObjectFault::Read(fault)) => return Err(Failure::Read(fault)),
+    let Some(frame) = frame_in(src)? else {
+        return Ok(Way::missing("unreached"));
     };
     match path_to(alloc, src, &frame, object, Naming::Whole)? {
         ObjectPath::Path(path) if path.more > 0 => Ok(Way::missing("long")),

@@ -10,7 +10,7 @@ ghost use Rattle.bplist_objects.specs.Failures.{failed_to_read};
 
 use bplint_lines::{KeyFront, Naming, ObjectPath, WrittenPath, add_index_name};
 use bplist_objects::{
-    Failure, Frame, Head, Kind, ObjectFault, ObjectNo, read_units, ref_at, shape_of,
+    Failure, Frame, Head, Kind, ObjectFault, ObjectNo, read_units, ref_at, shape_of, trailer_of,
 };
 use bplist_octets::Source;
 use std::alloc::{AllocError, Global};
@@ -39,6 +39,18 @@ pub(crate) struct ObjectPaths {
     naming: Naming,
     /// The container whose member was asked for last, and its path. Its other members have the same one.
     kept: Option<(u32, WrittenPath)>,
+}
+
+/// Returns `None` if the file breaks a rule of frames.
+pub(crate) fn frame_in<S: Source>(src: &mut S) -> Result<Option<Frame>, Failure>
+    ensures reads { OnlyReads (failed_to_read result) (S.means src.old) (S.means src.new) }
+    ensures safe { IfOk result (λ found. IfSome found (IsSafeFrame (length (S.means src.old).octets))) }
+{
+    match trailer_of(src) {
+        Ok(frame) => Ok(Some(frame)),
+        Err(ObjectFault::Fault(_)) => Ok(None),
+        Err(ObjectFault::Read(fault)) => Err(Failure::Read(fault)),
+    }
 }
 
 /// Returns the first path from the top to an object.
