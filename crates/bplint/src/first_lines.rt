@@ -51,6 +51,23 @@ impl<'a, W> FirstLines<'a, W> {
     fn taken(&mut self, buf: &[u8]) -> usize
         ensures { result ≤ length buf.now }
     {
+        let Some(last) = buf.last() else {
+            return 0;
+        };
+        let lines = buf.iter().filter(|octet| **octet == b'\n').count() as u64;
+        if lines < self.lines && buf.len() as u64 <= self.bytes {
+            self.lines -= lines;
+            self.bytes -= buf.len() as u64;
+            self.inside = *last != b'\n';
+            return buf.len();
+        }
+        self.taken_in_part(buf)
+    }
+
+    /// Some of the bytes may be more than are wanted.
+    fn taken_in_part(&mut self, buf: &[u8]) -> usize
+        ensures { result ≤ length buf.now }
+    {
         for i in 0..buf.len() {
             if self.lines == 0 || self.bytes == 0 {
                 self.full = Some(if self.lines == 0 {

@@ -20,20 +20,20 @@ pub enum Values {
     Readable,
 }
 
-/// Returns the line of `ls` for a value with this name and face, without its line feed.
-pub(crate) fn line_of(
+/// Adds the line of `ls` for a value with this name and face, without its line feed.
+pub(crate) fn add_line(
     alloc: Global,
     values: Values,
-    name: &str,
+    name: &[u8],
     shown: &Face,
-) -> Result<Vec<u8>, AllocError> {
-    let mut line = Vec::from_slice(alloc, name.as_bytes())?;
+    line: &mut Vec<u8>,
+) -> Result<(), AllocError> {
+    line.extend_from_slice(name)?;
     line.push(b'\t')?;
     match values {
-        Values::Exact(style) => add_face(alloc, style, shown, &mut line)?,
-        Values::Readable => add_readable(alloc, shown, &mut line)?,
+        Values::Exact(style) => add_face(alloc, style, shown, line),
+        Values::Readable => add_readable(alloc, shown, line),
     }
-    Ok(line)
 }
 
 /// Adds the columns with the object of a value and its place.
@@ -46,20 +46,22 @@ pub(crate) fn add_site(alloc: Global, site: Site, line: &mut Vec<u8>) -> Result<
     line.extend_from_slice(columns.as_bytes())
 }
 
-/// Returns the line of a value that is in so many containers, with two blanks for each. `name` names the value in its
+/// Adds the line of a value that is in so many containers, with two blanks for each. `name` names the value in its
 /// container.
-pub(crate) fn indented(
+pub(crate) fn add_indented(
     alloc: Global,
-    depth: usize,
-    name: &str,
+    depth: u64,
+    name: &[u8],
     shown: &Face,
-) -> Result<Vec<u8>, AllocError> {
-    let mut line = vec![in alloc; b' '; depth.saturating_mul(2)]?;
-    let name = name.strip_prefix('/').unwrap_or(name);
+    line: &mut Vec<u8>,
+) -> Result<(), AllocError> {
+    for _ in 0..depth {
+        line.extend_from_slice(b"  ")?;
+    }
+    let name = name.strip_prefix(b"/").unwrap_or(name);
     if depth > 0 || !name.is_empty() {
-        line.extend_from_slice(name.as_bytes())?;
+        line.extend_from_slice(name)?;
         line.extend_from_slice(b": ")?;
     }
-    add_readable(alloc, shown, &mut line)?;
-    Ok(line)
+    add_readable(alloc, shown, line)
 }

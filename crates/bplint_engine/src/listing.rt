@@ -9,7 +9,7 @@ ghost use Rattle.bplint_engine.specs.Walks.{IsReady};
 ghost use Rattle.bplint_lines.specs.Answers.{read_failed};
 
 use crate::accepted::linted;
-use crate::columns::{Values, add_site, indented, line_of};
+use crate::columns::{Values, add_indented, add_line, add_site};
 use crate::get::path_in;
 use crate::json::rows::{JsonName, Site, missing_row, row_of, with_key};
 use crate::print::missing_output;
@@ -98,6 +98,7 @@ pub fn list_rows_on<S: Source, W: Write>(
                 alloc,
                 form: listed.form,
                 file,
+                line: Vec::new(alloc),
                 sink: Sink::new(),
                 out,
             };
@@ -171,13 +172,14 @@ fn put_rows<S: Source, W: Write>(
     Ok(())
 }
 
-/// Lines that go through a sink to a writer.
+/// Lines that go through a sink to a writer. One of them is held at a time.
 #[derive(Drop)]
 struct FormLines<'f, 'o, W> {
     alloc: Global,
     form: Form,
     /// The name of the file that JSON objects have.
     file: Option<&'f str>,
+    line: Vec<u8>,
     sink: Sink,
     out: &'o mut W,
 }
@@ -193,47 +195,51 @@ impl<'f, 'o, W: Write> FormLines<'f, 'o, W> {
         requires { IsNameIn walk.now.names row.now.name }
         ensures { OnlyReadsFile (read_failed result) checked.old checked.new }
     {
-        let line = self.line_at(checked, walk, row)?;
-        self.put_line(line)
+        self.line.clear();
+        self.add_row(checked, walk, row)?;
+        self.put_line()
     }
 
-    /// Returns the line of a walk's last row, without its line feed.
-    fn line_at<S: Source>(
-        &self,
+    /// Adds the line of a walk's last row, without its line feed.
+    fn add_row<S: Source>(
+        &mut self,
         checked: &mut Checked<S>,
         walk: &Walk,
         row: &Row,
-    ) -> Result<Vec<u8>, CursorFault>
+    ) -> Result<(), CursorFault>
         requires { IsNameIn walk.now.names row.now.name }
         ensures { OnlyReadsFile (cursor_read result) checked.old checked.new }
     {
-        let name = std::str::from_utf8(walk.name(row)).unwrap_or("");
+        let name = walk.name(row);
         match self.form {
-            Form::Json => self.json_row(checked, name, row),
-            Form::Lines(values) => Ok(line_of(self.alloc, values, name, &row.shown)?),
+            Form::Json => self.line = self.json_row(checked, name, row)?,
+            Form::Lines(values) => {
+                add_line(self.alloc, values, name, &row.shown, &mut self.line)?;
+            }
             Form::Columns(values) => {
                 let site = site_of(checked, row.node)?;
-                let mut line = line_of(self.alloc, values, name, &row.shown)?;
-                add_site(self.alloc, site, &mut line)?;
-                Ok(line)
+                add_line(self.alloc, values, name, &row.shown, &mut self.line)?;
+                add_site(self.alloc, site, &mut self.line)?;
             }
             Form::Tree => {
-                let own = std::str::from_utf8(walk.own_name(row)).unwrap_or("");
-                Ok(indented(self.alloc, row.depth as usize, own, &row.shown)?)
+                let name = walk.own_name(row);
+                add_indented(self.alloc, row.depth, name, &row.shown, &mut self.line)?;
             }
         }
+        Ok(())
     }
 
     /// Returns the JSON object of a row, without its line feed. A key that no path can have is read again.
     fn json_row<S: Source>(
         &self,
         checked: &mut Checked<S>,
-        name: &str,
+        name: &[u8],
         row: &Row,
     ) -> Result<Vec<u8>, CursorFault>
         ensures { OnlyReadsFile (cursor_read result) checked.old checked.new }
     {
         let site = site_of(checked, row.node)?;
+        let name = std::str::from_utf8(name).unwrap_or("");
         let named = JsonName::new(self.file, Some(name), row.name.index);
         let line = row_of(self.alloc, named, &row.shown, site)?;
         let (Some(index), Some(key)) = (row.name.index, row.name.key) else {
@@ -251,18 +257,18 @@ impl<'f, 'o, W: Write> FormLines<'f, 'o, W> {
     /// Puts the line for a path that leads nowhere.
     fn put_missing(&mut self, path: &str, step: u64, why: Why) -> Result<(), RunFault> {
         if let Form::Json = self.form {
-            return self.put_line(missing_row(self.alloc, self.file, path, step, why)?);
+            self.line = missing_row(self.alloc, self.file, path, step, why)?;
+            return self.put_line();
         }
         let output = missing_output(self.alloc, step, why)?;
         Ok(self.sink.put(self.out, &output.bytes)?)
     }
 
-    fn put_line(&mut self, line: Vec<u8>) -> Result<(), RunFault>
+    fn put_line(&mut self) -> Result<(), RunFault>
         ensures { read_failed result ≡ None }
     {
-        let mut line = line;
-        line.push(b'\n')?;
-        self.sink.put(self.out, &line)?;
+        self.line.push(b'\n')?;
+        self.sink.put(self.out, &self.line)?;
         Ok(())
     }
 }
