@@ -197,8 +197,17 @@ fn first_high_at_once<const ROOM: usize, S: Source>(
         (λ f. MatchOption found (AreBelow f place 1 count 128) (IsFirstNotBelow f place 1 count 128))) }
     ensures inside { IfOk result (λ found. IfSome found (λ i. i < count)) }
 {
+    let _len = src.len();
     let mut buffer = [0u8; ROOM];
-    search_part(src, place, count, 0, &mut buffer[..count as usize])
+    src.read_at(place, &mut buffer[..count as usize])?;
+    // The rest of the buffer is 0, so the whole buffer can be looked at: the compiler knows its length.
+    if is_block_below(&buffer, Width { bytes: 1 }, ROOM, 128) {
+        return Ok(None);
+    }
+    match first_high(&buffer[..count as usize]) {
+        Some(i) => Ok(Some(i as u64)),
+        None => Ok(None),
+    }
 }
 
 #[inline(always)]
