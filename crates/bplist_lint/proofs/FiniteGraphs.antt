@@ -1,5 +1,5 @@
 -- Each object of a finite graph is reached or not, and founded or not. If the top is not founded there is a circle.
-use Rattle.std.proofs.Common.{◌≡◌, ℕ, zero, suc, ◌+◌, ◌-◌, ◌<◌, ◌≤◌, ◌⊎◌, inl, inr, Bool, true, false, not, cond, List, length, get_or, set, map, replicate, count_by, Contains, refl, sym, ap, ◌∙◌, subst, arith}
+use Rattle.std.proofs.Common.{◌≡◌, ℕ, zero, suc, ◌+◌, ◌-◌, ◌<◌, ◌⊎◌, inl, inr, Bool, true, false, not, cond, List, length, get_or, set, map, replicate, count_by, Contains, refl, sym, ap, ◌∙◌, subst, arith}
 use Rattle.std.specs.List.{range_with_len}
 use Rattle.std.proofs.lemmas.Bool.{cases_eq, cases_Bool, false≢true, false_from_ne_true}
 use Rattle.std.proofs.lemmas.List.{length-set, length-replicate, get_or_default}
@@ -70,18 +70,15 @@ module _ (P : ℕ → Type 0) (size : ℕ) (Rule : List Bool → ℕ → Type 0)
         omega (arith, c, one)
 
   -- marks are added until none is missing
-  close : (fuel : ℕ) (marks : List Bool) → length marks ≡ size → ((n : ℕ) → IsMarked marks n → P n) → count_by not marks ≤ fuel → (marks' : List Bool) × IsClosed P size Rule marks'
-  close zero marks all right few = elim (some_or_none (IsFresh marks) (fresh_decided marks) size) [
-    | inr none ↦ (marks, record { right = right; done = λ n lt off rule. none n lt (off, rule) })
-    | inl some ↦ absurd (omega (arith, fewer marks all some.0 some.1 some.2.0, few))
-  ]
+  close : (fuel : ℕ) (marks : List Bool) → length marks ≡ size → ((n : ℕ) → IsMarked marks n → P n) → count_by not marks < fuel → (marks' : List Bool) × IsClosed P size Rule marks'
+  close zero marks all right few = absurd (omega (arith, few))
   close (suc fuel) marks all right few = elim (some_or_none (IsFresh marks) (fresh_decided marks) size) [
     | inr none ↦ (marks, record { right = right; done = λ n lt off rule. none n lt (off, rule) })
     | inl some ↦ close fuel (set marks some.0 true) (length-set marks some.0 true ∙ all) (right_one marks all some.0 some.1 right some.2.1) (omega (arith, fewer marks all some.0 some.1 some.2.0, few))
   ]
 
   closed : (marks : List Bool) × IsClosed P size Rule marks
-  closed = close (count_by not (replicate size false)) (replicate size false) (length-replicate size false) (λ n is. absurd (none_marked size n is)) (omega arith)
+  closed = close (suc (count_by not (replicate size false))) (replicate size false) (length-replicate size false) (λ n is. absurd (none_marked size n is)) (omega arith)
 
 -- ---- a finite graph
 module _ (graph : ℕ → List ℕ) (size : ℕ) (inside : (n m : ℕ) → Contains (graph n) m → m < size) where

@@ -41,6 +41,13 @@ stays_known states n state within old m known e = elim (at_set states n state Ne
   | inr c ↦ known (sym c.1 ∙ e)
 ]
 
+-- another state than the one that is written stands at another place, as before
+unset : (states : List State) (m n : ℕ) (v state : State) → m < length states → state ≢ v → state_at (set states m v) n ≡ state → (n ≢ m) × (state_at states n ≡ state)
+unset states m n v state within differ is = elim (at_set states m v New n within) [
+  | inl c ↦ absurd (differ (sym is ∙ c.1))
+  | inr c ↦ (c.0, sym c.1 ∙ is)
+]
+
 -- a scan that found a new object, which is opened then, has met it too
 pub met_on : (references : List ℕ) (states : List State) (i next : ℕ) → next < length states → i < length references → next ≡ slice_index references i
     → ((k : ℕ) → k < i → state_at states (slice_index references k) ≢ New) → HasMet references (set states next Open) (i + 1)
@@ -125,10 +132,7 @@ module _ (size : ℕ) (states : List State) (heights stack : List ℕ) where
           | inl c ↦ rw c.0 (Contains-push stack m)
           | inr c ↦ Contains-append_left stack (m ∷ []) n (s.on_stack n (sym c.1 ∙ is))
         ];
-        low = λ n is. elim (at_set states m Open New n within) [
-          | inl c ↦ absurd (cc (sym c.1 ∙ is))
-          | inr c ↦ let l = s.low n (sym c.1 ∙ is) in omega (arith, l, rw new at same)
-        ];
+        low = λ n is. let l = s.low n (unset states m n Open Founded within (λ e. cc e) is).1 in omega (arith, l, rw new at same);
         known = λ n h. elim (s.known n h) [
           | inl is ↦ elim (at_set states m Open New n within) [
             | inl c ↦ inr c.1
@@ -185,19 +189,13 @@ module _ (size : ℕ) (states : List State) (heights stack : List ℕ) (n : ℕ)
             let was = s.are_open k (let long = length_push stack n in omega arith) in
             get_or-set_other states n (slice_index stack k) state New (front_other k l) ∙ rw (get_or_append_left stack (n ∷ []) 0 k l) at was;
         apart = apart_front stack n s.apart;
-        on_stack = λ m is. elim (at_set states n state New m within) [
-          | inl c ↦ absurd (closed (sym c.1 ∙ is))
-          | inr c ↦ elim (Contains-push_cases stack n m (s.on_stack m (sym c.1 ∙ is))) [
-            | inl on ↦ on
-            | inr e ↦ absurd (c.0 (sym e))
-          ]
-        ];
+        on_stack = λ m is.
+            let c = unset states n m state Open within (λ e. closed (sym e)) is in
+            elim (Contains-push_cases stack n m (s.on_stack m c.1)) [ inl on ↦ on | inr e ↦ absurd (c.0 (sym e)) ];
         low = λ m is. elim (at_set states n state New m within) [
           | inl c ↦
               let founded : state ≡ Founded = sym c.1 ∙ is in
-              let counts : State → ℕ = λ x. cond (is_founded x) 1 0 in
-              let one : counts state ≡ counts Founded = ap counts founded in
-              rw (c.0, get_or-set_same heights n h 0 within') (let l = low founded in omega (arith, l, one, more))
+              rw (c.0, get_or-set_same heights n h 0 within') (let l = low founded in omega (arith, l, ap {B = ℕ} (λ (x : State). cond (is_founded x) 1 0) founded, more))
           | inr c ↦ rw (get_or-set_other heights n m h 0 c.0) (let l = s.low m (sym c.1 ∙ is) in omega (arith, l, more))
         ];
         known = λ m l. elim (at_set heights n h 0 m within') [
@@ -286,14 +284,8 @@ module _ (refs : ℕ → List ℕ) (marks : List Bool) (states : List State) (he
       | inr c ↦ let low : k < length stack = omega arith in
           rw (c.1, get_or_append_left stack (m ∷ []) 0 k low) (among k c.0)
     ];
-    measured = λ n is. elim (at_set states m Open New n within) [
-      | inl c ↦ absurd (cc (sym c.1 ∙ is))
-      | inr c ↦ w.measured n (sym c.1 ∙ is)
-    ];
-    circular = λ n is. elim (at_set states m Open New n within) [
-      | inl c ↦ absurd (cc (sym c.1 ∙ is))
-      | inr c ↦ w.circular n (sym c.1 ∙ is)
-    ];
+    measured = λ n is. w.measured n (unset states m n Open Founded within (λ e. cc e) is).1;
+    circular = λ n is. w.circular n (unset states m n Open Circular within (λ e. cc e) is).1;
     met = λ n is. elim (at_set states m Open New n within) [
       | inl c ↦ rw (c.0, slot) (omega arith, λ k low. absurd (omega (arith, low)))
       | inr c ↦ let old = w.met n (sym c.1 ∙ is) in (old.0, λ k low. stays_known states m Open within (λ e. cc e) _ (old.1 k low))
@@ -342,12 +334,10 @@ module _ (refs : ℕ → List ℕ) (marks : List Bool) (size : ℕ) (states : Li
           | inl c ↦ rw c.0 (circular (sym c.1 ∙ is))
           | inr c ↦ w.circular m (sym c.1 ∙ is)
         ];
-        met = λ m is. elim (at_set states n state New m within) [
-          | inl c ↦ absurd (closed (sym c.1 ∙ is))
-          | inr c ↦
-              let old = w.met m (sym c.1 ∙ is) in
-              rw (get_or-set_other heights n m h 0 c.0) (old.0, λ k low. stays_known states n state within known _ (old.1 k low))
-        ];
+        met = λ m is.
+            let c = unset states n m state Open within (λ e. closed (sym e)) is in
+            let old = w.met m c.1 in
+            rw (get_or-set_other heights n m h 0 c.0) (old.0, λ k low. stays_known states n state within known _ (old.1 k low));
       }
 
   -- a reference to an open object closes a circle, and one to a circular object leads to one

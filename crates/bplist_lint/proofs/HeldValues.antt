@@ -32,21 +32,17 @@ module _ (f : List ℕ) (F : Frame) where
 
     pub each_sound : (vs : Values) (ms : List ℕ) → HoldEach f F ms vs → AllByRecursion Sound ms
     each_sound no_values [] s = tt
-    each_sound no_values (m ∷ ms) s = absurd s
-    each_sound (value v vs) [] s = absurd s
     each_sound (value v vs) (m ∷ ms) s = (holds_sound v m s.0, each_sound vs ms s.1)
+    each_sound _ _ s = absurd s
 
     pub pairs_sound : (ps : Pairs) (ks ms : List ℕ) → HoldPairs f F ks ms ps → AllZip (SpellsText f F) ks (keys ps) × AllByRecursion Sound ks × AllByRecursion Sound ms
     pairs_sound no_pairs [] [] s = (tt, tt, tt)
-    pairs_sound no_pairs [] (m ∷ ms) s = absurd s
     pairs_sound no_pairs (k ∷ ks) [] s = absurd s
-    pairs_sound no_pairs (k ∷ ks) (m ∷ ms) s = absurd s
     pairs_sound (pair u v ps) [] [] s = absurd s
-    pairs_sound (pair u v ps) [] (m ∷ ms) s = absurd s
-    pairs_sound (pair u v ps) (k ∷ ks) [] s = absurd s
     pairs_sound (pair u v ps) (k ∷ ks) (m ∷ ms) s =
         let r = pairs_sound ps ks ms s.2 in
         ((s.0, r.0), (leaf_sound k (text u) s.0, r.1), (holds_sound v m s.1, r.2))
+    pairs_sound _ _ _ s = absurd s
 
   -- a sound object holds a value
   pub sound_held : (n : ℕ) → Sound n → Held f F n

@@ -13,9 +13,8 @@ use Rattle.bplist_objects.specs.Markers.{head_found}
 use Rattle.bplist_objects.specs.Spelled.{is_proper, spelled_at, refs_at}
 use Rattle.bplist_objects.proofs.Fronts.{one_shape}
 use Rattle.bplist_objects.proofs.SpelledContents.{spells_iff}
-use Rattle.bplist_objects.proofs.References.{length-refs}
 use Rattle.bplist_objects.specs.Scan.{AreBelow, nth_number}
-use Rattle.bplist_objects.proofs.References.{nth-refs, all_refs}
+use Rattle.bplist_objects.proofs.References.{length-refs, nth-refs, all_refs}
 use Rattle.bplist_objects.proofs.ProperLeaves.{body_kept, spells_bodies, bodies_spell}
 use Rattle.bplist_objects.proofs.HeadLaws.{head_is_found}
 use Rattle.bplist_objects.proofs.ReachedObjects.{refs_spelled}

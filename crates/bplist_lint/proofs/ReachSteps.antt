@@ -12,7 +12,7 @@ use Rattle.bplist_objects.specs.declared.head.Head.{Head}
 use Rattle.bplist_objects.specs.Heads.{content_at, refs}
 use Rattle.bplist_objects.specs.Numbers.{num_at}
 use Rattle.bplist_objects.specs.Reach.{Reach, top, next}
-use Rattle.bplist_objects.specs.Safe.{IsSafeHead, ref_count}
+use Rattle.bplist_objects.specs.Safe.{IsSafeFrame, IsSafeHead, ref_count}
 use Rattle.bplist_objects.specs.Scan.{AreBelow, nth_number}
 use Rattle.bplist_objects.specs.Spelled.{refs_at}
 use Rattle.bplist_objects.proofs.Bounds.{place_fits}
@@ -21,9 +21,10 @@ use Rattle.bplist_objects.proofs.ReachedObjects.{refs_iff}
 use Rattle.bplist_objects.proofs.References.{length-refs, nth-refs}
 use Rattle.bplist_keys.specs.Marks.{IsMarked}
 use Rattle.bplist_lint.specs.ReachSearch.{IsReady, HasMarks, row_length, place_index, index_count, reference_at, AreGood, AreFollowed, Looked, IsSearching}
-use Rattle.bplist_lint.specs.BitSets.{IsIn}
+use Rattle.bplist_lint.specs.BitSets.{IsIn, count_in}
 use Rattle.bplist_lint.specs.declared.bit_set.BitSet.{BitSet}
 use Rattle.bplist_lint.specs.declared.reach.ReachSearch.{ReachSearch}
+use Rattle.bplist_lint.proofs.BitCounts.{count_few}
 use Rattle.bplist_lint.proofs.ListWrites.{seen-set, unwritten, count-set}
 use Rattle.bplist_lint.proofs.MarkSteps.{fresh-set, none_marked}
 
@@ -39,6 +40,10 @@ size_small F =
     let whole = div-mul-le_self F.table F.ref_size in
     let sum = add-mul (F.table / F.ref_size) 1 F.ref_size in
     omega (arith, whole, sum)
+
+-- the places of both sets cost no more than the table allows
+pub places_few : {size : ℕ} (F : Frame) → IsSafeFrame size F → (good followed : List ℕ) → 8 * (count_in good (index_count F) + count_in followed (index_count F)) ≤ 16 * F.table + 128
+places_few F safe good followed = omega (arith, count_few good (index_count F), count_few followed (index_count F), size_small F, safe.safe.ref_high)
 
 pub number_low : (F : Frame) (place : ℕ) → 1 ≤ F.ref_size → place ≤ F.table → place_index F place < index_count F
 number_low F place some within =
