@@ -10,7 +10,8 @@ use Rattle.bplist_lint.specs.Graph.{Ends, Least, greatest, IsPart}
 use Rattle.bplist_lint.specs.Graph.Ends.{ends}
 use Rattle.bplist_lint.specs.Graph.Least.{above}
 use Rattle.bplist_keys.specs.Marks.{IsMarked}
-use Rattle.bplist_lint.specs.HeightWalks.{state_at, is_founded, first_state, HasMet, Standing, IsHeightWalk, AreLeastOf}
+use Rattle.bplist_lint.specs.HeightWalks.{state_at, is_founded, first_state, HasMet, Settles, Standing, IsHeightWalk, AreLeastOf}
+use Rattle.bplist_lint.specs.declared.heights.HeightWalk.{HeightWalk}
 use Rattle.bplist_lint.specs.declared.heights.State.{State}
 use Rattle.bplist_lint.specs.declared.heights.State.TheVariants.{New, Open, Founded, Circular}
 use Rattle.bplist_lint.proofs.MarkSteps.{apart_none, apart_push, apart_front, apart_last}
@@ -47,6 +48,13 @@ unset states m n v state within differ is = elim (at_set states m v New n within
   | inl c ↦ absurd (differ (sym is ∙ c.1))
   | inr c ↦ (c.0, sym c.1 ∙ is)
 ]
+
+-- no object loses its state when one is written
+pub settles_more : (n : ℕ) (before after now : HeightWalk) (m : ℕ) (state : State) → m < length after.states.items → state ≢ New → now.states.items ≡ set after.states.items m state → Settles n before after → Settles n before now
+settles_more n before after now m state within known is s = record {
+  sees = rw is (stays_known after.states.items m state within known n s.sees);
+  keeps = λ k old. rw is (stays_known after.states.items m state within known k (s.keeps k old));
+}
 
 -- a scan that found a new object, which is opened then, has met it too
 pub met_on : (references : List ℕ) (states : List State) (i next : ℕ) → next < length states → i < length references → next ≡ slice_index references i

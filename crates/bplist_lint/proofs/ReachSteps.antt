@@ -26,7 +26,7 @@ use Rattle.bplist_lint.specs.declared.bit_set.BitSet.{BitSet}
 use Rattle.bplist_lint.specs.declared.reach.ReachSearch.{ReachSearch}
 use Rattle.bplist_lint.proofs.BitCounts.{count_few}
 use Rattle.bplist_lint.proofs.ListWrites.{seen-set, unwritten, count-set}
-use Rattle.bplist_lint.proofs.MarkSteps.{fresh-set, none_marked}
+use Rattle.bplist_lint.proofs.MarkSteps.{or_then, fresh-set, none_marked}
 
 pub marked_within : (marks : List Bool) (n : ℕ) → IsMarked marks n → n < length marks
 marked_within [] n h = absurd (false≢true h)
@@ -110,13 +110,10 @@ module _ (references : List ℕ) (marks : List Bool) (stack : List ℕ) where
     keeps_stack = λ n h. Contains-append_left stack' (m ∷ []) n (s.keeps_stack n h);
     fresh = λ n h. elim (cases_eq n m) [
       | inl e ↦ inr (rw e among, rw e (Contains-push stack' m))
-      | inr d ↦ elim (s.fresh n (rw (get_or-set_other marks' m n true false d) at h)) [
-        | inl old ↦ inl old
-        | inr new ↦ inr (new.0, Contains-append_left stack' (m ∷ []) n new.1)
-      ]
+      | inr d ↦ or_then (s.fresh n (rw (get_or-set_other marks' m n true false d) at h)) (λ new. (new.0, Contains-append_left stack' (m ∷ []) n new.1))
     ];
     waiting = λ n h. elim (Contains-push_cases stack' m n h) [
-      | inl w ↦ elim (s.waiting n w) [ inl old ↦ inl old | inr new ↦ inr (seen-set marks' m n fits new) ]
+      | inl w ↦ or_then (s.waiting n w) (seen-set marks' m n fits)
       | inr e ↦ rw (← e) (inr (get_or-set_same marks' m true false fits))
     ];
   }

@@ -26,7 +26,7 @@ use Rattle.bplist_lint.specs.Tallies.{IsTalliedWith}
 use Rattle.bplist_lint.specs.ReachWalk.{AreApart, Noted, extent, extents_below, IsVisited, IsWalkState, IsWalked, AreNamed}
 use Rattle.bplist_lint.proofs.ExtentBytes.{sums_at}
 use Rattle.bplist_lint.proofs.KeptRules.{both_rules}
-use Rattle.bplist_lint.proofs.MarkSteps.{apart_none, apart_push, apart_front, apart_last, fresh-set}
+use Rattle.bplist_lint.proofs.MarkSteps.{or_then, apart_none, apart_push, apart_front, apart_last, fresh-set}
 use Rattle.bplist_lint.proofs.RangeSums.{sum_below, sum_most, sum_next, sum_none, sum_on, extent_is, references_of, references_are, extents_sum, references_sum}
 use Rattle.bplist_lint.proofs.ReachSteps.{marked_within}
 use Rattle.bplist_lint.proofs.ListWrites.{seen-set, unwritten}
@@ -159,17 +159,14 @@ module _ (f : List ℕ) (F : Frame) where
           ];
           apart = s.apart (λ m c. (w.waiting m (Contains-append_left stack (n ∷ []) m c)).0) (apart_front stack n w.apart);
           closed = λ m h. elim (s.fresh m h) [
-            | inl old ↦ elim (w.closed m old) [
-              | inl above ↦ inl above
-              | inr later ↦ elim later [
-                | inl waits ↦ elim (Contains-push_cases stack n m waits) [
-                  | inl rest ↦ inr (inl (s.keeps_stack m rest))
-                  | inr e ↦ inr (inr (rw (← e) (get_or-set_same w.visited n true false here)))
-                ]
-                | inr before ↦ inr (inr (seen-set w.visited n m here before))
+            | inl old ↦ or_then (w.closed m old) (λ later. elim later [
+              | inl waits ↦ elim (Contains-push_cases stack n m waits) [
+                | inl rest ↦ inl (s.keeps_stack m rest)
+                | inr e ↦ inr (rw (← e) (get_or-set_same w.visited n true false here))
               ]
-            ]
-            | inr new ↦ elim new.1 [ inl above ↦ inl above | inr waits ↦ inr (inl waits) ]
+              | inr before ↦ inr (seen-set w.visited n m here before)
+            ])
+            | inr new ↦ or_then new.1 (λ waits. inl waits)
           ];
           each = λ m h. elim (fresh-set w.visited n m h) [
             | inl before ↦ let v = w.each m before in (s.keeps_marks m v.0, v.1, visited_more _ _ _ _ m s.keeps_marks more v.2)
