@@ -65,9 +65,8 @@ module _ (P : ℕ → Type 0) (size : ℕ) (Rule : List Bool → ℕ → Type 0)
     fewer : (IsMarked marks n → ⊥) → count_by not (set marks n true) + 1 ≡ count_by not marks
     fewer off =
         let off1 : get_or marks n false ≡ false = false_from_ne_true (get_or marks n false) off in
-        let c = count-set not marks n true false (omega (arith, lt, all)) in
         let one : 0 + cond (not (get_or marks n false)) 1 0 ≡ 1 = ap (λ b. 0 + cond (not b) 1 0) off1 in
-        omega (arith, c, one)
+        omega (arith, count-set not marks n true false (omega (arith, lt, all)), one)
 
   -- marks are added until none is missing
   close : (fuel : ℕ) (marks : List Bool) → length marks ≡ size → ((n : ℕ) → IsMarked marks n → P n) → count_by not marks < fuel → (marks' : List Bool) × IsClosed P size Rule marks'

@@ -166,9 +166,6 @@ module _ (size : ℕ) (states : List State) (heights stack : List ℕ) (n : ℕ)
       let most = count_by-le-length is_founded (set states n Founded) in
       omega (arith, more, most, length-set states n Founded, s.all_states)
 
-  front_other : (k : ℕ) → k < length stack → slice_index stack k ≢ n
-  front_other k h = apart_last stack n (slice_index stack k) s.apart (Contains-get_or stack k 0 h)
-
   -- the object on top waits again; its height slot holds the index at which its scan resumes
   pub standing_back : (heights' : List ℕ) → length heights' ≡ length heights → ((m : ℕ) → m ≢ n → get_or heights' m 0 ≡ get_or heights m 0) → Standing size states heights' (stack ++ n ∷ [])
   standing_back heights' long same = record {
@@ -195,7 +192,8 @@ module _ (size : ℕ) (states : List State) (heights stack : List ℕ) (n : ℕ)
         all_heights = length-set heights n h ∙ s.all_heights;
         are_open = λ k l.
             let was = s.are_open k (let long = length_push stack n in omega arith) in
-            get_or-set_other states n (slice_index stack k) state New (front_other k l) ∙ rw (get_or_append_left stack (n ∷ []) 0 k l) at was;
+            let other = apart_last stack n (slice_index stack k) s.apart (Contains-get_or stack k 0 l) in
+            get_or-set_other states n (slice_index stack k) state New other ∙ rw (get_or_append_left stack (n ∷ []) 0 k l) at was;
         apart = apart_front stack n s.apart;
         on_stack = λ m is.
             let c = unset states n m state Open within (λ e. closed (sym e)) is in
@@ -215,8 +213,7 @@ module _ (size : ℕ) (states : List State) (heights stack : List ℕ) (n : ℕ)
   pub work_settle : (state : State) → is_new state ≡ false → work (set states n state) stack < work states (stack ++ n ∷ [])
   work_settle state old =
       let within : n < length states = omega (arith, top_within, s.all_states) in
-      let long = length_push stack n in
-      omega (arith, long, rw (top_open, old) at (count-set is_new states n state New within))
+      omega (arith, length_push stack n, rw (top_open, old) at (count-set is_new states n state New within))
 
 -- ---- circles
 -- nothing on a circle is founded: objects j from k to last, each with the next one among its references, and the last
@@ -315,11 +312,8 @@ module _ (refs : ℕ → List ℕ) (marks : List Bool) (states : List State) (he
   }
 
 module _ (refs : ℕ → List ℕ) (marks : List Bool) (size : ℕ) (states : List State) (heights stack : List ℕ) (n : ℕ) (s : Standing size states heights (stack ++ n ∷ [])) (w : IsHeightWalk refs marks states heights (stack ++ n ∷ [])) where
-  is_open : state_at states n ≡ Open
-  is_open = top_open size states heights stack n s
-
   pub top_marked : IsMarked marks n
-  top_marked = w.marked n (λ e. absurd (cc (sym is_open ∙ e)))
+  top_marked = w.marked n (λ e. absurd (cc (sym (top_open size states heights stack n s) ∙ e)))
 
   -- the object on top is settled
   pub walking_settle : (state : State) (h : ℕ) → state ≢ Open → state ≢ New → (state ≡ Founded → Least refs n h) → (state ≡ Circular → Ends refs n → ⊥) → IsHeightWalk refs marks (set states n state) (set heights n h) stack

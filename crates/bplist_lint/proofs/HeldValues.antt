@@ -1,5 +1,5 @@
 -- A file holds a value exactly if it is well formed.
-use Rattle.std.proofs.Common.{ℕ, List, [], ◌∷◌, ◌++◌, subst, Contains, ◌↔◌}
+use Rattle.std.proofs.Common.{ℕ, List, [], ◌∷◌, ◌++◌, subst, Contains}
 use Rattle.std.specs.List.{AllByRecursion, AllZip}
 use Rattle.bplist_objects.specs.declared.frame.Frame.{Frame}
 use Rattle.bplist_objects.specs.Value.{Leaf, text, Value, leaf, array, set, dict, Values, no_values, value, Pairs, no_pairs, pair, keys}
@@ -78,6 +78,3 @@ pub formed_holds : (f : List ℕ) (F : Frame) → IsWellFormed f F → (v : Valu
 formed_holds f F w =
     let v = sound_held f F F.top.0 (founded_sound f F w.contents F.top.0 w.founded top) in
     (v.0, record { frame = F; is = w.frame; holds = v.1; room = w.room })
-
-pub holds_iff : (f : List ℕ) → ((v : Value) × FileHolds f v) ↔ ((F : Frame) × IsWellFormed f F)
-holds_iff f = ((λ h. holds_formed f h.0 h.1), λ w. formed_holds f w.0 w.1)

@@ -35,10 +35,9 @@ pub record IsGreatest (S : ℕ → Type 0) (ns : List ℕ) (m : ℕ) : Type 0 wh
 
 pub greatest_member : (S : ℕ → Type 0) (n : ℕ) (ns : List ℕ) → AllByRecursion S (n ∷ ns) → (m : ℕ) × IsGreatest S (n ∷ ns) m
 greatest_member S n [] a = (n, record { member = a.0; high = ((a.0, omega arith), tt) })
-greatest_member S n (k ∷ ks) a = go (greatest_member S k ks a.1)
-  where
-    go : (m : ℕ) × IsGreatest S (k ∷ ks) m → (m : ℕ) × IsGreatest S (n ∷ k ∷ ks) m
-    go (m, g) = elim (cases_lt m n) [
+greatest_member S n (k ∷ ks) a =
+    let (m, g) = greatest_member S k ks a.1 in
+    elim (cases_lt m n) [
       | inl l ↦ (n, record { member = a.0; high = ((a.0, omega arith), all_weaker _ _ (λ x p. (p.0, omega (arith, p.1, l))) (k ∷ ks) g.high) })
       | inr h ↦ (m, record { member = g.member; high = ((a.0, h), g.high) })
     ]

@@ -29,9 +29,6 @@ module _ (f : List ℕ) (F : Frame) where
   pub keys_more : (n : ℕ) → HasGoodKeys f F None n → KeepReached f F (key_rules None) n → KeepReached f F (key_rules None) (n + 1)
   keys_more n good kept = keep_more f F (key_rules None) n (n + 1) (omega arith) kept (λ _. kept_by_good f F (Reach f F) [] n None good)
 
-  pub keys_over : (n : ℕ) → (Reach f F n → ⊥) → KeepReached f F (key_rules None) n → KeepReached f F (key_rules None) (n + 1)
-  keys_over n unreached kept = keep_more f F (key_rules None) n (n + 1) (omega arith) kept (λ r. absurd (unreached r))
-
 -- an object without references that keeps rules 14 to 20 has no keys
 pub childless_keys : (f : List ℕ) (F : Frame) (n : ℕ) → IsFrame f F → n < F.objects → KeepsAll (KeepsByObject f F n) object_rules → refs_at f F n ≡ []
     → HasGoodKeys f F None n

@@ -37,9 +37,7 @@ marked_within (x ∷ marks) (suc n) h = let r = marked_within marks n h in omega
 -- there are few more numbers than places
 pub size_small : (F : Frame) → index_count F ≤ F.table + F.ref_size
 size_small F =
-    let whole = div-mul-le_self F.table F.ref_size in
-    let sum = add-mul (F.table / F.ref_size) 1 F.ref_size in
-    omega (arith, whole, sum)
+    omega (arith, div-mul-le_self F.table F.ref_size, add-mul (F.table / F.ref_size) 1 F.ref_size)
 
 -- the places of both sets cost no more than the table allows
 pub places_few : {size : ℕ} (F : Frame) → IsSafeFrame size F → (good followed : List ℕ) → 8 * (count_in good (index_count F) + count_in followed (index_count F)) ≤ 16 * F.table + 128
@@ -74,12 +72,8 @@ module _ (F : Frame) (some : 1 ≤ F.ref_size) (place k : ℕ) (within : place +
   place_back =
       let low = ap (λ x. x % row_length F) number_is ∙ mod-mul-add (place % F.ref_size) (row_length F) (place / F.ref_size + k) column in
       let high = ap (λ x. x / row_length F) number_is ∙ div-mul-add (place % F.ref_size) (row_length F) (place / F.ref_size + k) column in
-      let part = div-add-mod' place F.ref_size in
       let sum = add-mul (place / F.ref_size) k F.ref_size in
-      ap₂ (λ a b. a * F.ref_size + b) low high ∙ omega (arith, part, sum)
-
-  pub reference_back : (f : List ℕ) → reference_at f F (place_index F place + k) ≡ nth_number f place F.ref_size k
-  reference_back f = ap (λ p. num_at f p F.ref_size) place_back
+      ap₂ (λ a b. a * F.ref_size + b) low high ∙ omega (arith, div-add-mod' place F.ref_size, sum)
 
   -- each of them is a number of the set
   pub number_fits : place_index F place + k < index_count F
@@ -214,14 +208,11 @@ module _ (f : List ℕ) (F : Frame) where
   module _ (head : Head) (some : 1 ≤ F.ref_size) (safe : IsSafeHead F head) where
     -- reference k is at this number
     pub reference_at_k : (k : ℕ) → k < ref_count head.kind head.count → reference_at f F (place_index F head.body + k) ≡ nth_number f head.body F.ref_size k
-    reference_at_k k low = reference_back F some head.body k (place_fits F head safe k low) f
-
-    pub place_index_k : (k : ℕ) → k < ref_count head.kind head.count → place_index F head.body + k < index_count F
-    place_index_k k low = number_fits F some head.body k (place_fits F head safe k low)
+    reference_at_k k low = ap (λ p. num_at f p F.ref_size) (place_back F some head.body k (place_fits F head safe k low))
 
     pub numbers_low : place_index F head.body + ref_count head.kind head.count ≤ index_count F
     numbers_low = elim (cases_lt 0 (ref_count head.kind head.count)) [
-      | inl has ↦ let last = place_index_k (ref_count head.kind head.count - 1) (omega arith) in omega (arith, last, has)
+      | inl has ↦ let last = number_fits F some head.body (ref_count head.kind head.count - 1) (place_fits F head safe _ (omega arith)) in omega (arith, last, has)
       | inr none ↦ let first = number_low F head.body some (omega (arith, safe.body, safe.table)) in omega (arith, first, none)
     ]
 

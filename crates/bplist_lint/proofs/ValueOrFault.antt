@@ -1,5 +1,6 @@
 -- Each file is well formed or has a first fault.
 use Rattle.std.proofs.Common.{ℕ, zero, suc, ◌+◌, ◌-◌, ◌*◌, ◌<◌, ◌≤◌, ◌⊎◌, inl, inr, List, [], None, Contains, refl, arith}
+use Rattle.std.proofs.Math.Logic.{⊎_map}
 use Rattle.std.proofs.lemmas.Bool.{cases_lt}
 use Rattle.bplist_objects.specs.declared.rule.Rule.TheVariants as rules
 use Rattle.bplist_objects.specs.declared.fault.Fault.{Fault}
@@ -163,15 +164,9 @@ module _ (f : List ℕ) (F : Frame) (frame : IsFrame f F) where
 pub formed_or_fault : (f : List ℕ) → ((F : Frame) × IsWellFormed f F) ⊎ (((fault : Fault) × IsFileFault f fault) ⊎ ((circle : List ℕ) × IsFileCircle f circle))
 formed_or_fault f = elim (frame_kept_or_fault f) [
   | inr fault ↦ inr (inl (fault.0, inl fault.1))
-  | inl kept ↦ let F = trailer f in let frame = trailer_is_frame f kept in elim (formed_or_objects f F frame) [
-    | inl w ↦ inl (F, w)
-    | inr r ↦ inr r
-  ]
+  | inl kept ↦ ⊎_map (λ (w : IsWellFormed f (trailer f)). (trailer f, w)) (λ fault. fault) (formed_or_objects f (trailer f) (trailer_is_frame f kept))
 ]
 
 -- a file that is well formed holds a value
 pub value_or_fault : (f : List ℕ) → ((v : Value) × FileHolds f v) ⊎ (((fault : Fault) × IsFileFault f fault) ⊎ ((circle : List ℕ) × IsFileCircle f circle))
-value_or_fault f = elim (formed_or_fault f) [
-  | inl w ↦ inl (formed_holds f w.0 w.1)
-  | inr r ↦ inr r
-]
+value_or_fault f = ⊎_map (λ (w : (F : Frame) × IsWellFormed f F). formed_holds f w.0 w.1) (λ fault. fault) (formed_or_fault f)

@@ -1,5 +1,5 @@
 -- What the one walk over the reached objects knows between two visits, and at its end.
-use Rattle.std.proofs.Common.{◌≡◌, ◌≢◌, ◌↔◌, ℕ, zero, suc, ◌+◌, ◌<◌, ◌≤◌, inl, inr, Bool, true, false, cond, List, [], ◌∷◌, ◌++◌, length, get_or, set, replicate, Contains, refl, sym, ap, ◌∙◌, subst, arith}
+use Rattle.std.proofs.Common.{◌≡◌, ◌≢◌, ℕ, zero, suc, ◌+◌, ◌<◌, ◌≤◌, inl, inr, Bool, true, false, cond, List, [], ◌∷◌, ◌++◌, length, get_or, set, replicate, Contains, refl, sym, ap, ◌∙◌, subst, arith}
 use Rattle.std.proofs.lemmas.Bool.{cases_eq, false≢true, false_from_ne_true}
 use Rattle.std.proofs.lemmas.List.{get_or-set_same, get_or-set_other, length-set, length-replicate, get_or_default}
 use Rattle.std.proofs.lemmas.List.Elements.{Contains-append_left, Contains-push, Contains-push_cases}
@@ -66,10 +66,6 @@ pub same_mark : (a b : Bool) → (a ≡ true → b ≡ true) → (b ≡ true →
 same_mark true b to from = sym (to refl)
 same_mark false true to from = absurd (false≢true (from refl))
 same_mark false false to from = refl
-
--- if both mark the same, the sums are the same
-sum_as_marked : (g : ℕ → ℕ) (marks visited : List Bool) (n : ℕ) → ((m : ℕ) → IsMarked marks m ↔ IsMarked visited m) → sum_below (λ m. cond (is_marked visited m) (g m) 0) n ≡ sum_below (λ m. cond (is_marked marks m) (g m) 0) n
-sum_as_marked g marks visited n same = sum_alike _ _ n (λ m low. ap (λ b. cond b (g m) 0) (same_mark (is_marked visited m) (is_marked marks m) (same m).1 (same m).0))
 
 module _ (f : List ℕ) (F : Frame) where
   -- ---- the beginning
@@ -194,7 +190,7 @@ module _ (f : List ℕ) (F : Frame) where
         rw (← c.2) (rw (get_or_default (refs_at f F k) c.0 n 0 c.1) (v.all c.0 c.1))
 
     same_sum : (g : ℕ → ℕ) → sum_below (λ m. cond (is_marked w.visited m) (g m) 0) F.objects ≡ sum_below (λ m. cond (is_marked reached.marks.items m) (g m) 0) F.objects
-    same_sum g = sum_as_marked g reached.marks.items w.visited F.objects (λ m. (visited_as m, λ h. (w.each m h).0))
+    same_sum g = sum_alike _ _ F.objects (λ m low. ap (λ b. cond b (g m) 0) (same_mark (is_marked w.visited m) (is_marked reached.marks.items m) (λ h. (w.each m h).0) (visited_as m)))
 
     used_below : (n : ℕ) → n ≤ F.objects → extents_below f F (is_marked reached.marks.items) n + 8 ≤ F.table
     used_below n low =

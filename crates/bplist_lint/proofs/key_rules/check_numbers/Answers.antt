@@ -1,10 +1,12 @@
-use Rattle.std.proofs.Common.{◌≡◌, ◌+◌, ◌≤◌, sym, ap, ◌∙◌, arith}
+use Rattle.std.proofs.Common.{◌≡◌, ◌+◌, ◌≤◌, None, sym, ap, ◌∙◌, arith}
 use Rattle.std.proofs.lemmas.Bool.{false≢true}
 use Rattle.bplist_objects.specs.declared.frame.Frame.{Frame}
 use Rattle.bplist_objects.specs.Framed.{frame_in}
 use Rattle.bplist_keys.proofs.LookUps.{new_low, stamped_low}
+use Rattle.bplist_cert.specs.CheckRules.{key_rules}
 use Rattle.bplist_cert.proofs.CheckSteps.{refused_weaker, on_err}
-use Rattle.bplist_lint.proofs.KeySteps.{keys_fault, keys_more, keys_over, childless_keys}
+use Rattle.bplist_lint.proofs.KeySteps.{keys_fault, keys_more, childless_keys}
+use Rattle.bplist_lint.proofs.KeptRules.{keep_more}
 use Rattle.bplist_lint.proofs.KeyClasses.{reached_sound, keys_known}
 use Rattle.bplist_lint.specs.ReachRules.{is_marked}
 use Rattle.bplist_lint.proofs.RangeSums.{extents_more, extents_on}
@@ -57,7 +59,7 @@ loop-n-preserved g c =
             let before = v.exact honest named marks kept childless are_named classes in
             elim w.else-marks-n.branch [
               | else-marks-n-via-then-marks-n+else-not-childless-n w' ↦ keys_more _ _ n (childless_keys _ _ n sound.framed within (sound.kept _ w'.if-marks-n.true) (childless _ w'.if-not-childless-n.false).1) before
-              | else-marks-n-via-else-marks-n w' ↦ keys_over _ _ n (λ r. absurd (false≢true (sym w'.if-marks-n.false ∙ (marks _).1 r))) before
+              | else-marks-n-via-else-marks-n w' ↦ keep_more _ _ (key_rules None) n _ (omega arith) before (λ r. absurd (false≢true (sym w'.if-marks-n.false ∙ (marks _).1 r)))
             ];
       }
     ]

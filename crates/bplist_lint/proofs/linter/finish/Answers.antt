@@ -11,6 +11,5 @@ returns-in-Some-clause-exact g c = λ honest.
     let framed = c.frame-frame.ensures.framed.framed honest in
     let heights = c.in-Some.heights.items in
     let sifted = rw c.in-Some.is at (c.requires.sifted honest) in
-    let all = rw c.in-Some.is at c.requires.all in
-    let count : length heights ≡ F.objects = grind (arith, all, common_steps) in
+    let count : length heights ≡ F.objects = grind (arith, rw c.in-Some.is at c.requires.all, common_steps) in
     (linted_yes _ F framed c.args.reached sifted.0 (let roomy = c.requires.fits.roomy in omega (arith, roomy.room, roomy.references)) heights count sifted.1.0 (omega (arith, sifted.1.1)))

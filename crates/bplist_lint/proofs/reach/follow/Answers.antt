@@ -1,11 +1,11 @@
-use Rattle.std.proofs.Common.{◌≡◌, ◌+◌, ◌-◌, ◌<◌, false, length, arith, inl, inr, refl, ap, sym, subst, ◌∙◌}
+use Rattle.std.proofs.Common.{◌≡◌, ◌+◌, ◌-◌, ◌<◌, IsTrue, false, length, arith, inl, inr, refl, ap, sym, subst, ◌∙◌}
 use Rattle.std.proofs.lemmas.Bool.{cases_lt, cases_eq}
 use Rattle.std.proofs.lemmas.List.{get_or_read}
 use Rattle.bplist_objects.specs.declared.frame.Frame.{Frame}
 use Rattle.bplist_objects.specs.Framed.{frame_in}
 use Rattle.bplist_objects.specs.Heads.{content_at, refs}
 use Rattle.bplist_objects.specs.Safe.{ref_count}
-use Rattle.bplist_objects.specs.Scan.{nth_number}
+use Rattle.bplist_objects.specs.Scan.{AreBelow, nth_number}
 use Rattle.bplist_objects.proofs.References.{length-refs, nth-refs}
 use Rattle.bplist_keys.specs.Marks.{IsMarked}
 use Rattle.bplist_lint.specs.ReachSearch.{place_index, reference_at}
@@ -30,6 +30,10 @@ loop-number-preserved g c =
     let before = c.loop-number.search in
     let marks = before.marks.items in
     let m = c.object_in-m.result in
+    let m_is : IsTrue (g.P.Source.means c.args.src.now).honest → AreBelow f h.body F.ref_size (ref_count h.kind h.count) F.objects → m ≡ nth_number f h.body F.ref_size k = λ honest below.
+    let value = (rw (c.frame-frame.ensures.frame, i.reads) at c.in_ok-reference.ensures.value) honest in
+    let good = below k low in
+    (rw c.frame-frame.ensures.frame at c.object_in-m.ensures.same) (omega (arith, value, good)) ∙ value in
     let m_low = rw c.frame-frame.ensures.frame at c.object_in-m.ensures.inside in
     let fits : m < length marks = omega (arith, m_low, i.ready.all_marks) in
     let read = get_or_read marks m c.index.result.now fits c.index.ensures false in
@@ -70,18 +74,11 @@ loop-number-preserved g c =
         ]
       ]);
       looked = λ honest below all.
-          let value = (rw (c.frame-frame.ensures.frame, i.reads) at c.in_ok-reference.ensures.value) honest in
-          let good = below k low in
-          let m_is : m ≡ nth_number f h.body F.ref_size k = (rw c.frame-frame.ensures.frame at c.object_in-m.ensures.same) (omega (arith, value, good)) ∙ value in
-          let among = among_at (refs (content_at f F h)) k m (omega (arith, low, length-refs f F h.kind h.count h.body)) (m_is ∙ sym (nth-refs f F h.kind h.count h.body k low)) in
+          let among = among_at (refs (content_at f F h)) k m (omega (arith, low, length-refs f F h.kind h.count h.body)) (m_is honest below ∙ sym (nth-refs f F h.kind h.count h.body k low)) in
           taken.looked _ _ _ among (i.looked honest below all);
       followed = λ honest below all q is. elim (put.only q (rw same at is)) [
         | inl old ↦ taken.keeps _ (i.followed honest below all q old)
-        | inr e ↦
-            let value = (rw (c.frame-frame.ensures.frame, i.reads) at c.in_ok-reference.ensures.value) honest in
-            let good = below k low in
-            let m_is : m ≡ nth_number f h.body F.ref_size k = (rw c.frame-frame.ensures.frame at c.object_in-m.ensures.same) (omega (arith, value, good)) ∙ value in
-            rw e (subst (IsMarked after.marks.items) (m_is ∙ sym at_j) taken.marked)
+        | inr e ↦ rw e (subst (IsMarked after.marks.items) (m_is honest below ∙ sym at_j) taken.marked)
       ];
     }
 
