@@ -13,7 +13,7 @@ use Rattle.bplist_lint.specs.Graph.Reaches.{start, onward}
 use Rattle.bplist_lint.specs.Graph.Ends.{ends}
 use Rattle.bplist_lint.proofs.FirstWithout.{first_at}
 use Rattle.bplist_lint.proofs.ListWrites.{at_set, count-set}
-use Rattle.bplist_lint.proofs.MarkSteps.{none_marked}
+use Rattle.bplist_lint.proofs.MarkSteps.{or_then, none_marked}
 
 -- there is a number below a bound with P, or there is none
 pub some_or_none : (Q : ℕ → Type 0) → ((k : ℕ) → Either (Q k)) → (bound : ℕ) → ((i : ℕ) × (i < bound) × Q i) ⊎ ((k : ℕ) → k < bound → Q k → ⊥)
@@ -29,10 +29,7 @@ marked_decided marks n = elim (cases_Bool (get_or marks n false)) [
 ]
 
 member_decided : (xs : List ℕ) (m : ℕ) → Either (Contains xs m)
-member_decided xs m = elim (some_or_none (λ k. get_or xs k m ≡ m) (λ k. cases_eq (get_or xs k m) m) (length xs)) [
-  | inl some ↦ inl some
-  | inr none ↦ inr (λ c. none c.0 c.1 c.2)
-]
+member_decided xs m = or_then (some_or_none (λ k. get_or xs k m ≡ m) (λ k. cases_eq (get_or xs k m) m) (length xs)) (λ none c. none c.0 c.1 c.2)
 
 -- ---- a set that is found step by step
 -- the marks are those of a set that Rule adds nothing to
@@ -141,10 +138,7 @@ module _ (graph : ℕ → List ℕ) (size : ℕ) (inside : (n m : ℕ) → Conta
       all_or_first (λ i. IsMarked marks (get_or (graph n) i 0)) (λ i. IsMarked marks (get_or (graph n) i 0) → ⊥) (λ i. marked_decided marks (get_or (graph n) i 0)) (length (graph n))
 
   all_marked_decided : (marks : List Bool) (n : ℕ) → Either (AllMarked marks n)
-  all_marked_decided marks n = elim (marked_or_first marks n) [
-    | inl all ↦ inl all
-    | inr (i, l, off, before) ↦ inr (λ all. off (all i l))
-  ]
+  all_marked_decided marks n = or_then (marked_or_first marks n) (λ first all. first.2 (all first.0 first.1))
 
   founded_marks : (marks : List Bool) × IsClosed (Ends graph) size AllMarked marks
   founded_marks =

@@ -43,14 +43,16 @@ stays_known states n state within old m known e = elim (at_set states n state Ne
 ]
 
 -- another state than the one that is written stands at another place, as before
-unset : (states : List State) (m n : ℕ) (v state : State) → m < length states → state ≢ v → state_at (set states m v) n ≡ state → (n ≢ m) × (state_at states n ≡ state)
+unset : (states : List State) (m n : ℕ) (v state : State) → m < length states → state ≢ v
+    → state_at (set states m v) n ≡ state → (n ≢ m) × (state_at states n ≡ state)
 unset states m n v state within differ is = elim (at_set states m v New n within) [
   | inl c ↦ absurd (differ (sym is ∙ c.1))
   | inr c ↦ (c.0, sym c.1 ∙ is)
 ]
 
 -- no object loses its state when one is written
-pub settles_more : (n : ℕ) (before after now : HeightWalk) (m : ℕ) (state : State) → m < length after.states.items → state ≢ New → now.states.items ≡ set after.states.items m state → Settles n before after → Settles n before now
+pub settles_more : (n : ℕ) (before after now : HeightWalk) (m : ℕ) (state : State) → m < length after.states.items → state ≢ New
+    → now.states.items ≡ set after.states.items m state → Settles n before after → Settles n before now
 settles_more n before after now m state within known is s = record {
   sees = rw is (stays_known after.states.items m state within known n s.sees);
   keeps = λ k old. rw is (stays_known after.states.items m state within known k (s.keeps k old));
@@ -112,10 +114,7 @@ module _ (size : ℕ) (states : List State) (heights stack : List ℕ) where
   -- a new object has no height
   pub no_height : Standing size states heights stack → (n : ℕ) → state_at states n ≡ New → slice_index heights n ≡ 0
   no_height s n new = elim (cases_lt 0 (slice_index heights n)) [
-    | inl some ↦ elim (s.known n some) [
-      | inl is ↦ absurd (cc (sym new ∙ is))
-      | inr is ↦ absurd (cc (sym new ∙ is))
-    ]
+    | inl some ↦ absurd (elim (s.known n some) [ inl is ↦ cc (sym new ∙ is) | inr is ↦ cc (sym new ∙ is) ])
     | inr none ↦ omega (arith, none)
   ]
 

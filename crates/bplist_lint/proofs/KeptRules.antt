@@ -54,7 +54,8 @@ module _ (f : List ℕ) (F : Frame) where
       (λ m low r. (parts m low r).0, λ m low r. (parts m low r).1)
 
   -- one more object keeps its rules, if it is reached
-  pub keep_more : (kept_rules : List Rule) (n next : ℕ) → next ≤ suc n → KeepReached f F kept_rules n → (Reach f F n → KeepsAll (KeepsRule f F (Reach f F) (lists [] None) n) kept_rules) → KeepReached f F kept_rules next
+  pub keep_more : (kept_rules : List Rule) (n next : ℕ) → next ≤ suc n → KeepReached f F kept_rules n
+      → (Reach f F n → KeepsAll (KeepsRule f F (Reach f F) (lists [] None) n) kept_rules) → KeepReached f F kept_rules next
   keep_more kept_rules n next few before own m low r = elim (cases_eq m n) [
     | inl e ↦ rw e (own (rw e at r))
     | inr ne ↦ before m (omega arith) r

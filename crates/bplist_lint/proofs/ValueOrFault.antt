@@ -44,10 +44,8 @@ module _ (f : List ℕ) (F : Frame) (frame : IsFrame f F) where
   refs_inside n m c = refs_within f F n m ((refs_iff f F n m).1 c)
 
   reached_or_not : (n : ℕ) → Either (Reach f F n)
-  reached_or_not n = elim (reach_decided (refs_at f F) F.objects refs_inside F.top.0 (numbered frame).top n) [
-    | inl r ↦ inl ((reach_iff f F n).0 r)
-    | inr no1 ↦ inr (λ r. no1 ((reach_iff f F n).1 r))
-  ]
+  reached_or_not n =
+      ⊎_map (reach_iff f F n).0 (λ never r. never ((reach_iff f F n).1 r)) (reach_decided (refs_at f F) F.objects refs_inside F.top.0 (numbered frame).top n)
 
   -- ---- rules 14 to 20 and 31
   -- the reached objects below n keep these rules and take t bytes, for which there is room

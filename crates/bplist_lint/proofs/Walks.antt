@@ -100,7 +100,8 @@ module _ (f : List ℕ) (F : Frame) where
 
   module _ (n : ℕ) (marks childless keys : List Bool) (tally : Tally) (w : IsWalkState f F n [] marks childless keys tally) where
     -- object n is passed: if it is marked, it waits on the stack, and nothing else does
-    passed : (stack : List ℕ) → ((m : ℕ) → Contains stack m → m ≡ n) → AreApart stack → (Contains stack n → IsMarked marks n) → (IsMarked marks n → Contains stack n) → IsWalkState f F (n + 1) stack marks childless keys tally
+    passed : (stack : List ℕ) → ((m : ℕ) → Contains stack m → m ≡ n) → AreApart stack → (Contains stack n → IsMarked marks n)
+        → (IsMarked marks n → Contains stack n) → IsWalkState f F (n + 1) stack marks childless keys tally
     passed stack alone apart marked on = record {
       visited = w.visited;
       all_visited = w.all_visited;
