@@ -21,11 +21,7 @@ use Rattle.bplist_lint.specs.declared.tally.Tally.{Tally}
 use Rattle.bplist_lint.proofs.RangeSums.{extent_is, extents_next}
 
 module _ (f : List ℕ) (F : Frame) where
-  -- the bytes of an object are before the table
-  pub extent_within : (n : ℕ) (head : Head) → HasShape f F n head → extent f F n ≤ F.table
-  extent_within n head shape = omega (arith, extent_is f F n head shape.has, shape.inside)
-
-  -- its references are among them
+  -- the references of an object are among its bytes
   pub refs_bytes : (n : ℕ) (head : Head) → 1 ≤ F.ref_size → HasShape f F n head → ref_count head.kind head.count * F.ref_size ≤ extent f F n
   refs_bytes n head low shape =
       let fit = refs_fit F.ref_size head.count head.kind low in

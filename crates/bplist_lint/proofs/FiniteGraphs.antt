@@ -1,5 +1,5 @@
 -- Each object of a finite graph is reached or not, and founded or not. If the top is not founded there is a circle.
-use Rattle.std.proofs.Common.{◌≡◌, ℕ, zero, suc, ◌+◌, ◌-◌, ◌<◌, ◌≤◌, ◌⊎◌, inl, inr, Bool, true, false, not, cond, List, length, get_or, set, map, replicate, count_by, Contains, refl, sym, ap, ◌∙◌, subst, arith}
+use Rattle.std.proofs.Common.{◌≡◌, ℕ, zero, suc, ◌+◌, ◌-◌, ◌<◌, ◌⊎◌, inl, inr, Bool, true, false, not, cond, List, length, get_or, set, map, replicate, count_by, Contains, refl, sym, ap, ◌∙◌, subst, arith}
 use Rattle.std.specs.List.{range_with_len}
 use Rattle.std.proofs.lemmas.Bool.{cases_eq, cases_Bool, false≢true, false_from_ne_true}
 use Rattle.std.proofs.lemmas.List.{length-set, length-replicate, get_or_default}
@@ -13,7 +13,7 @@ use Rattle.bplist_lint.specs.Graph.Reaches.{start, onward}
 use Rattle.bplist_lint.specs.Graph.Ends.{ends}
 use Rattle.bplist_lint.proofs.FirstWithout.{first_at}
 use Rattle.bplist_lint.proofs.ListWrites.{at_set, count-set}
-use Rattle.bplist_lint.proofs.MarkSteps.{none_marked}
+use Rattle.bplist_lint.proofs.MarkSteps.{or_then, none_marked}
 
 -- there is a number below a bound with P, or there is none
 pub some_or_none : (Q : ℕ → Type 0) → ((k : ℕ) → Either (Q k)) → (bound : ℕ) → ((i : ℕ) × (i < bound) × Q i) ⊎ ((k : ℕ) → k < bound → Q k → ⊥)
@@ -29,10 +29,7 @@ marked_decided marks n = elim (cases_Bool (get_or marks n false)) [
 ]
 
 member_decided : (xs : List ℕ) (m : ℕ) → Either (Contains xs m)
-member_decided xs m = elim (some_or_none (λ k. get_or xs k m ≡ m) (λ k. cases_eq (get_or xs k m) m) (length xs)) [
-  | inl some ↦ inl some
-  | inr none ↦ inr (λ c. none c.0 c.1 c.2)
-]
+member_decided xs m = or_then (some_or_none (λ k. get_or xs k m ≡ m) (λ k. cases_eq (get_or xs k m) m) (length xs)) (λ none c. none c.0 c.1 c.2)
 
 -- ---- a set that is found step by step
 -- the marks are those of a set that Rule adds nothing to
@@ -65,23 +62,19 @@ module _ (P : ℕ → Type 0) (size : ℕ) (Rule : List Bool → ℕ → Type 0)
     fewer : (IsMarked marks n → ⊥) → count_by not (set marks n true) + 1 ≡ count_by not marks
     fewer off =
         let off1 : get_or marks n false ≡ false = false_from_ne_true (get_or marks n false) off in
-        let c = count-set not marks n true false (omega (arith, lt, all)) in
         let one : 0 + cond (not (get_or marks n false)) 1 0 ≡ 1 = ap (λ b. 0 + cond (not b) 1 0) off1 in
-        omega (arith, c, one)
+        omega (arith, count-set not marks n true false (omega (arith, lt, all)), one)
 
   -- marks are added until none is missing
-  close : (fuel : ℕ) (marks : List Bool) → length marks ≡ size → ((n : ℕ) → IsMarked marks n → P n) → count_by not marks ≤ fuel → (marks' : List Bool) × IsClosed P size Rule marks'
-  close zero marks all right few = elim (some_or_none (IsFresh marks) (fresh_decided marks) size) [
-    | inr none ↦ (marks, record { right = right; done = λ n lt off rule. none n lt (off, rule) })
-    | inl some ↦ absurd (omega (arith, fewer marks all some.0 some.1 some.2.0, few))
-  ]
+  close : (fuel : ℕ) (marks : List Bool) → length marks ≡ size → ((n : ℕ) → IsMarked marks n → P n) → count_by not marks < fuel → (marks' : List Bool) × IsClosed P size Rule marks'
+  close zero marks all right few = absurd (omega (arith, few))
   close (suc fuel) marks all right few = elim (some_or_none (IsFresh marks) (fresh_decided marks) size) [
     | inr none ↦ (marks, record { right = right; done = λ n lt off rule. none n lt (off, rule) })
     | inl some ↦ close fuel (set marks some.0 true) (length-set marks some.0 true ∙ all) (right_one marks all some.0 some.1 right some.2.1) (omega (arith, fewer marks all some.0 some.1 some.2.0, few))
   ]
 
   closed : (marks : List Bool) × IsClosed P size Rule marks
-  closed = close (count_by not (replicate size false)) (replicate size false) (length-replicate size false) (λ n is. absurd (none_marked size n is)) (omega arith)
+  closed = close (suc (count_by not (replicate size false))) (replicate size false) (length-replicate size false) (λ n is. absurd (none_marked size n is)) (omega arith)
 
 -- ---- a finite graph
 module _ (graph : ℕ → List ℕ) (size : ℕ) (inside : (n m : ℕ) → Contains (graph n) m → m < size) where
@@ -145,10 +138,7 @@ module _ (graph : ℕ → List ℕ) (size : ℕ) (inside : (n m : ℕ) → Conta
       all_or_first (λ i. IsMarked marks (get_or (graph n) i 0)) (λ i. IsMarked marks (get_or (graph n) i 0) → ⊥) (λ i. marked_decided marks (get_or (graph n) i 0)) (length (graph n))
 
   all_marked_decided : (marks : List Bool) (n : ℕ) → Either (AllMarked marks n)
-  all_marked_decided marks n = elim (marked_or_first marks n) [
-    | inl all ↦ inl all
-    | inr (i, l, off, before) ↦ inr (λ all. off (all i l))
-  ]
+  all_marked_decided marks n = or_then (marked_or_first marks n) (λ first all. first.2 (all first.0 first.1))
 
   founded_marks : (marks : List Bool) × IsClosed (Ends graph) size AllMarked marks
   founded_marks =

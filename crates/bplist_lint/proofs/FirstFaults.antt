@@ -1,5 +1,6 @@
 -- A file has at most one first fault, and a file that has one holds no value.
 use Rattle.std.proofs.Common.{◌≡◌, ◌⊎◌, ℕ, inl, inr, List, [], None, sym, ◌∙◌, subst}
+use Rattle.bplist_objects.specs.declared.rule.Rule.{Rule}
 use Rattle.bplist_objects.specs.declared.fault.Fault.{Fault}
 use Rattle.bplist_objects.specs.declared.frame.Frame.{Frame}
 use Rattle.bplist_objects.specs.Frame.{IsFrame}
@@ -26,31 +27,21 @@ abbrev IsObjectsFault : List ℕ → Frame → Fault → Type 0
 IsObjectsFault f F fault =
     IsReachedFault f F reach_rules fault ⊎ (KeepReached f F reach_rules F.objects × IsReachedFault f F (key_rules None) fault)
 
-module _ (f : List ℕ) (F : Frame) where
-  -- ---- the first fault of the objects is one
-  one_reach_fault : (a b : Fault) → IsReachedFault f F reach_rules a → IsReachedFault f F reach_rules b → a ≡ b
-  one_reach_fault = one_least_fault f F (Reach f F) (lists [] None) reach_rules
+-- ---- the first fault of the objects is one
+module _ (f : List ℕ) (F : Frame) (frame : IsFrame f F) where
+  -- if all reached objects keep their rules, there is no fault by them
+  all_kept : (kept_rules : List Rule) (a : Fault) → KeepReached f F kept_rules F.objects → IsReachedFault f F kept_rules a → ⊥
+  all_kept kept_rules = no_least_fault f F (Reach f F) (lists [] None) kept_rules F.objects (reach_within f F (numbered frame).top)
 
-  one_keys_fault : (a b : Fault) → IsReachedFault f F (key_rules None) a → IsReachedFault f F (key_rules None) b → a ≡ b
-  one_keys_fault = one_least_fault f F (Reach f F) (lists [] None) (key_rules None)
+  objects_kept : (a : Fault) → KeepReached f F reach_rules F.objects → KeepReached f F (key_rules None) F.objects → IsObjectsFault f F a → ⊥
+  objects_kept a kept keys (inl h) = all_kept reach_rules a kept h
+  objects_kept a kept keys (inr h) = all_kept (key_rules None) a keys h.1
 
-  module _ (frame : IsFrame f F) where
-    -- if all reached objects keep their rules, there is no fault by them
-    reach_kept : (a : Fault) → KeepReached f F reach_rules F.objects → IsReachedFault f F reach_rules a → ⊥
-    reach_kept = no_least_fault f F (Reach f F) (lists [] None) reach_rules F.objects (reach_within f F (numbered frame).top)
-
-    keys_kept : (a : Fault) → KeepReached f F (key_rules None) F.objects → IsReachedFault f F (key_rules None) a → ⊥
-    keys_kept = no_least_fault f F (Reach f F) (lists [] None) (key_rules None) F.objects (reach_within f F (numbered frame).top)
-
-    objects_kept : (a : Fault) → KeepReached f F reach_rules F.objects → KeepReached f F (key_rules None) F.objects → IsObjectsFault f F a → ⊥
-    objects_kept a kept keys (inl h) = reach_kept a kept h
-    objects_kept a kept keys (inr h) = keys_kept a keys h.1
-
-    one_objects_fault : (a b : Fault) → IsObjectsFault f F a → IsObjectsFault f F b → a ≡ b
-    one_objects_fault a b (inl h) (inl k) = one_reach_fault a b h k
-    one_objects_fault a b (inl h) (inr k) = absurd (reach_kept a k.0 h)
-    one_objects_fault a b (inr h) (inl k) = absurd (reach_kept b h.0 k)
-    one_objects_fault a b (inr h) (inr k) = one_keys_fault a b h.1 k.1
+  one_objects_fault : (a b : Fault) → IsObjectsFault f F a → IsObjectsFault f F b → a ≡ b
+  one_objects_fault a b (inl h) (inl k) = one_least_fault f F (Reach f F) (lists [] None) reach_rules a b h k
+  one_objects_fault a b (inl h) (inr k) = absurd (all_kept reach_rules a k.0 h)
+  one_objects_fault a b (inr h) (inl k) = absurd (all_kept reach_rules b h.0 k)
+  one_objects_fault a b (inr h) (inr k) = one_least_fault f F (Reach f F) (lists [] None) (key_rules None) a b h.1 k.1
 
 -- ---- the first fault of a file
 module _ (f : List ℕ) where

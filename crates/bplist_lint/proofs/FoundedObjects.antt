@@ -84,14 +84,12 @@ module _ (f : List ℕ) (F : Frame) where
     vouched = λ n vo.
         let r = reached n vo in
         let s = least n r in
-        let b = le-greatest (slice_index H) (refs s.0) in
         record {
           content = s.0;
           spells = s.1;
           lower = all_from _ (refs s.0) (λ m c.
-              let t = least m (next r (s.0, s.1, c)) in
-              let l = all_at _ (refs s.0) m b c in
-              (omega (arith, t.2), omega (arith, l, s.2)));
+              let l = all_at _ (refs s.0) m (le-greatest (slice_index H) (refs s.0)) c in
+              (omega (arith, (least m (next r (s.0, s.1, c))).2), omega (arith, l, s.2)));
           keys = keys n r s.0 s.1;
         };
   }

@@ -147,9 +147,8 @@ module _ (graph : Graph) where
   pub trail_step : (met marks : List Bool) (x start before after : ℕ) → x < graph.size → length met ≡ graph.size → slice_index_or met x false ≡ false → ((n : ℕ) → IsMarked met n → IsMarked marks n) → IsMarked marks x
       → before ≤ start + trail_bytes graph met → after ≤ before + (292 + length (graph.refs x) * (3 + graph.width)) → after ≤ start + trail_bytes graph marks
   trail_step met marks x start before after low all new are is so_far more =
-      let one = trail_on met x low all new in
       let few = trail_marked (set met x true) marks (λ n i. elim (fresh-set met x n i) [ inl old ↦ are n old | inr e ↦ rw e is ]) in
-      omega (arith, so_far, more, one, few)
+      omega (arith, so_far, more, trail_on met x low all new, few)
 
   -- nothing is met yet
   pub trail_zero : (size : ℕ) → trail_bytes graph (replicate size false) ≡ 0

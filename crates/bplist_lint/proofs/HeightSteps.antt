@@ -10,7 +10,8 @@ use Rattle.bplist_lint.specs.Graph.{Ends, Least, greatest, IsPart}
 use Rattle.bplist_lint.specs.Graph.Ends.{ends}
 use Rattle.bplist_lint.specs.Graph.Least.{above}
 use Rattle.bplist_keys.specs.Marks.{IsMarked}
-use Rattle.bplist_lint.specs.HeightWalks.{state_at, is_founded, first_state, HasMet, Standing, IsHeightWalk, AreLeastOf}
+use Rattle.bplist_lint.specs.HeightWalks.{state_at, is_founded, first_state, HasMet, Settles, Standing, IsHeightWalk, AreLeastOf}
+use Rattle.bplist_lint.specs.declared.heights.HeightWalk.{HeightWalk}
 use Rattle.bplist_lint.specs.declared.heights.State.{State}
 use Rattle.bplist_lint.specs.declared.heights.State.TheVariants.{New, Open, Founded, Circular}
 use Rattle.bplist_lint.proofs.MarkSteps.{apart_none, apart_push, apart_front, apart_last}
@@ -40,6 +41,22 @@ stays_known states n state within old m known e = elim (at_set states n state Ne
   | inl c ↦ old (sym c.1 ∙ e)
   | inr c ↦ known (sym c.1 ∙ e)
 ]
+
+-- another state than the one that is written stands at another place, as before
+unset : (states : List State) (m n : ℕ) (v state : State) → m < length states → state ≢ v
+    → state_at (set states m v) n ≡ state → (n ≢ m) × (state_at states n ≡ state)
+unset states m n v state within differ is = elim (at_set states m v New n within) [
+  | inl c ↦ absurd (differ (sym is ∙ c.1))
+  | inr c ↦ (c.0, sym c.1 ∙ is)
+]
+
+-- no object loses its state when one is written
+pub settles_more : (n : ℕ) (before after now : HeightWalk) (m : ℕ) (state : State) → m < length after.states.items → state ≢ New
+    → now.states.items ≡ set after.states.items m state → Settles n before after → Settles n before now
+settles_more n before after now m state within known is s = record {
+  sees = rw is (stays_known after.states.items m state within known n s.sees);
+  keeps = λ k old. rw is (stays_known after.states.items m state within known k (s.keeps k old));
+}
 
 -- a scan that found a new object, which is opened then, has met it too
 pub met_on : (references : List ℕ) (states : List State) (i next : ℕ) → next < length states → i < length references → next ≡ slice_index references i
@@ -97,10 +114,7 @@ module _ (size : ℕ) (states : List State) (heights stack : List ℕ) where
   -- a new object has no height
   pub no_height : Standing size states heights stack → (n : ℕ) → state_at states n ≡ New → slice_index heights n ≡ 0
   no_height s n new = elim (cases_lt 0 (slice_index heights n)) [
-    | inl some ↦ elim (s.known n some) [
-      | inl is ↦ absurd (cc (sym new ∙ is))
-      | inr is ↦ absurd (cc (sym new ∙ is))
-    ]
+    | inl some ↦ absurd (elim (s.known n some) [ inl is ↦ cc (sym new ∙ is) | inr is ↦ cc (sym new ∙ is) ])
     | inr none ↦ omega (arith, none)
   ]
 
@@ -125,10 +139,7 @@ module _ (size : ℕ) (states : List State) (heights stack : List ℕ) where
           | inl c ↦ rw c.0 (Contains-push stack m)
           | inr c ↦ Contains-append_left stack (m ∷ []) n (s.on_stack n (sym c.1 ∙ is))
         ];
-        low = λ n is. elim (at_set states m Open New n within) [
-          | inl c ↦ absurd (cc (sym c.1 ∙ is))
-          | inr c ↦ let l = s.low n (sym c.1 ∙ is) in omega (arith, l, rw new at same)
-        ];
+        low = λ n is. let l = s.low n (unset states m n Open Founded within (λ e. cc e) is).1 in omega (arith, l, rw new at same);
         known = λ n h. elim (s.known n h) [
           | inl is ↦ elim (at_set states m Open New n within) [
             | inl c ↦ inr c.1
@@ -153,9 +164,6 @@ module _ (size : ℕ) (states : List State) (heights stack : List ℕ) (n : ℕ)
       let more = rw top_open at (count-set is_founded states n Founded New within) in
       let most = count_by-le-length is_founded (set states n Founded) in
       omega (arith, more, most, length-set states n Founded, s.all_states)
-
-  front_other : (k : ℕ) → k < length stack → slice_index stack k ≢ n
-  front_other k h = apart_last stack n (slice_index stack k) s.apart (Contains-get_or stack k 0 h)
 
   -- the object on top waits again; its height slot holds the index at which its scan resumes
   pub standing_back : (heights' : List ℕ) → length heights' ≡ length heights → ((m : ℕ) → m ≢ n → get_or heights' m 0 ≡ get_or heights m 0) → Standing size states heights' (stack ++ n ∷ [])
@@ -183,21 +191,16 @@ module _ (size : ℕ) (states : List State) (heights stack : List ℕ) (n : ℕ)
         all_heights = length-set heights n h ∙ s.all_heights;
         are_open = λ k l.
             let was = s.are_open k (let long = length_push stack n in omega arith) in
-            get_or-set_other states n (slice_index stack k) state New (front_other k l) ∙ rw (get_or_append_left stack (n ∷ []) 0 k l) at was;
+            let other = apart_last stack n (slice_index stack k) s.apart (Contains-get_or stack k 0 l) in
+            get_or-set_other states n (slice_index stack k) state New other ∙ rw (get_or_append_left stack (n ∷ []) 0 k l) at was;
         apart = apart_front stack n s.apart;
-        on_stack = λ m is. elim (at_set states n state New m within) [
-          | inl c ↦ absurd (closed (sym c.1 ∙ is))
-          | inr c ↦ elim (Contains-push_cases stack n m (s.on_stack m (sym c.1 ∙ is))) [
-            | inl on ↦ on
-            | inr e ↦ absurd (c.0 (sym e))
-          ]
-        ];
+        on_stack = λ m is.
+            let c = unset states n m state Open within (λ e. closed (sym e)) is in
+            elim (Contains-push_cases stack n m (s.on_stack m c.1)) [ inl on ↦ on | inr e ↦ absurd (c.0 (sym e)) ];
         low = λ m is. elim (at_set states n state New m within) [
           | inl c ↦
               let founded : state ≡ Founded = sym c.1 ∙ is in
-              let counts : State → ℕ = λ x. cond (is_founded x) 1 0 in
-              let one : counts state ≡ counts Founded = ap counts founded in
-              rw (c.0, get_or-set_same heights n h 0 within') (let l = low founded in omega (arith, l, one, more))
+              rw (c.0, get_or-set_same heights n h 0 within') (let l = low founded in omega (arith, l, ap {B = ℕ} (λ (x : State). cond (is_founded x) 1 0) founded, more))
           | inr c ↦ rw (get_or-set_other heights n m h 0 c.0) (let l = s.low m (sym c.1 ∙ is) in omega (arith, l, more))
         ];
         known = λ m l. elim (at_set heights n h 0 m within') [
@@ -209,8 +212,7 @@ module _ (size : ℕ) (states : List State) (heights stack : List ℕ) (n : ℕ)
   pub work_settle : (state : State) → is_new state ≡ false → work (set states n state) stack < work states (stack ++ n ∷ [])
   work_settle state old =
       let within : n < length states = omega (arith, top_within, s.all_states) in
-      let long = length_push stack n in
-      omega (arith, long, rw (top_open, old) at (count-set is_new states n state New within))
+      omega (arith, length_push stack n, rw (top_open, old) at (count-set is_new states n state New within))
 
 -- ---- circles
 -- nothing on a circle is founded: objects j from k to last, each with the next one among its references, and the last
@@ -286,14 +288,8 @@ module _ (refs : ℕ → List ℕ) (marks : List Bool) (states : List State) (he
       | inr c ↦ let low : k < length stack = omega arith in
           rw (c.1, get_or_append_left stack (m ∷ []) 0 k low) (among k c.0)
     ];
-    measured = λ n is. elim (at_set states m Open New n within) [
-      | inl c ↦ absurd (cc (sym c.1 ∙ is))
-      | inr c ↦ w.measured n (sym c.1 ∙ is)
-    ];
-    circular = λ n is. elim (at_set states m Open New n within) [
-      | inl c ↦ absurd (cc (sym c.1 ∙ is))
-      | inr c ↦ w.circular n (sym c.1 ∙ is)
-    ];
+    measured = λ n is. w.measured n (unset states m n Open Founded within (λ e. cc e) is).1;
+    circular = λ n is. w.circular n (unset states m n Open Circular within (λ e. cc e) is).1;
     met = λ n is. elim (at_set states m Open New n within) [
       | inl c ↦ rw (c.0, slot) (omega arith, λ k low. absurd (omega (arith, low)))
       | inr c ↦ let old = w.met n (sym c.1 ∙ is) in (old.0, λ k low. stays_known states m Open within (λ e. cc e) _ (old.1 k low))
@@ -315,11 +311,8 @@ module _ (refs : ℕ → List ℕ) (marks : List Bool) (states : List State) (he
   }
 
 module _ (refs : ℕ → List ℕ) (marks : List Bool) (size : ℕ) (states : List State) (heights stack : List ℕ) (n : ℕ) (s : Standing size states heights (stack ++ n ∷ [])) (w : IsHeightWalk refs marks states heights (stack ++ n ∷ [])) where
-  is_open : state_at states n ≡ Open
-  is_open = top_open size states heights stack n s
-
   pub top_marked : IsMarked marks n
-  top_marked = w.marked n (λ e. absurd (cc (sym is_open ∙ e)))
+  top_marked = w.marked n (λ e. absurd (cc (sym (top_open size states heights stack n s) ∙ e)))
 
   -- the object on top is settled
   pub walking_settle : (state : State) (h : ℕ) → state ≢ Open → state ≢ New → (state ≡ Founded → Least refs n h) → (state ≡ Circular → Ends refs n → ⊥) → IsHeightWalk refs marks (set states n state) (set heights n h) stack
@@ -342,12 +335,10 @@ module _ (refs : ℕ → List ℕ) (marks : List Bool) (size : ℕ) (states : Li
           | inl c ↦ rw c.0 (circular (sym c.1 ∙ is))
           | inr c ↦ w.circular m (sym c.1 ∙ is)
         ];
-        met = λ m is. elim (at_set states n state New m within) [
-          | inl c ↦ absurd (closed (sym c.1 ∙ is))
-          | inr c ↦
-              let old = w.met m (sym c.1 ∙ is) in
-              rw (get_or-set_other heights n m h 0 c.0) (old.0, λ k low. stays_known states n state within known _ (old.1 k low))
-        ];
+        met = λ m is.
+            let c = unset states n m state Open within (λ e. closed (sym e)) is in
+            let old = w.met m c.1 in
+            rw (get_or-set_other heights n m h 0 c.0) (old.0, λ k low. stays_known states n state within known _ (old.1 k low));
       }
 
   -- a reference to an open object closes a circle, and one to a circular object leads to one

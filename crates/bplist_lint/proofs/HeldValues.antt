@@ -1,5 +1,5 @@
 -- A file holds a value exactly if it is well formed.
-use Rattle.std.proofs.Common.{ℕ, List, [], ◌∷◌, ◌++◌, subst, Contains, ◌↔◌}
+use Rattle.std.proofs.Common.{ℕ, List, [], ◌∷◌, ◌++◌, subst, Contains}
 use Rattle.std.specs.List.{AllByRecursion, AllZip}
 use Rattle.bplist_objects.specs.declared.frame.Frame.{Frame}
 use Rattle.bplist_objects.specs.Value.{Leaf, text, Value, leaf, array, set, dict, Values, no_values, value, Pairs, no_pairs, pair, keys}
@@ -32,21 +32,17 @@ module _ (f : List ℕ) (F : Frame) where
 
     pub each_sound : (vs : Values) (ms : List ℕ) → HoldEach f F ms vs → AllByRecursion Sound ms
     each_sound no_values [] s = tt
-    each_sound no_values (m ∷ ms) s = absurd s
-    each_sound (value v vs) [] s = absurd s
     each_sound (value v vs) (m ∷ ms) s = (holds_sound v m s.0, each_sound vs ms s.1)
+    each_sound _ _ s = absurd s
 
     pub pairs_sound : (ps : Pairs) (ks ms : List ℕ) → HoldPairs f F ks ms ps → AllZip (SpellsText f F) ks (keys ps) × AllByRecursion Sound ks × AllByRecursion Sound ms
     pairs_sound no_pairs [] [] s = (tt, tt, tt)
-    pairs_sound no_pairs [] (m ∷ ms) s = absurd s
     pairs_sound no_pairs (k ∷ ks) [] s = absurd s
-    pairs_sound no_pairs (k ∷ ks) (m ∷ ms) s = absurd s
     pairs_sound (pair u v ps) [] [] s = absurd s
-    pairs_sound (pair u v ps) [] (m ∷ ms) s = absurd s
-    pairs_sound (pair u v ps) (k ∷ ks) [] s = absurd s
     pairs_sound (pair u v ps) (k ∷ ks) (m ∷ ms) s =
         let r = pairs_sound ps ks ms s.2 in
         ((s.0, r.0), (leaf_sound k (text u) s.0, r.1), (holds_sound v m s.1, r.2))
+    pairs_sound _ _ _ s = absurd s
 
   -- a sound object holds a value
   pub sound_held : (n : ℕ) → Sound n → Held f F n
@@ -82,6 +78,3 @@ pub formed_holds : (f : List ℕ) (F : Frame) → IsWellFormed f F → (v : Valu
 formed_holds f F w =
     let v = sound_held f F F.top.0 (founded_sound f F w.contents F.top.0 w.founded top) in
     (v.0, record { frame = F; is = w.frame; holds = v.1; room = w.room })
-
-pub holds_iff : (f : List ℕ) → ((v : Value) × FileHolds f v) ↔ ((F : Frame) × IsWellFormed f F)
-holds_iff f = ((λ h. holds_formed f h.0 h.1), λ w. formed_holds f w.0 w.1)

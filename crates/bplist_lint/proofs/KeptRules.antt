@@ -1,7 +1,8 @@
 -- A file is well formed exactly if its reached objects keep their rules and its top is founded.
-use Rattle.std.proofs.Common.{◌≡◌, ℕ, ◌<◌, ◌≤◌, ◌+◌, ◌++◌, inl, inr, List, [], ◌∷◌, None, subst, arith}
+use Rattle.std.proofs.Common.{◌≡◌, ℕ, suc, ◌<◌, ◌≤◌, ◌+◌, ◌++◌, inl, inr, List, [], ◌∷◌, None, subst, arith}
 use Rattle.std.specs.List.{AllByRecursion}
-use Rattle.std.proofs.lemmas.Bool.{cases_lt}
+use Rattle.std.proofs.lemmas.Bool.{cases_eq, cases_lt}
+use Rattle.bplist_objects.specs.declared.rule.Rule.{Rule}
 use Rattle.bplist_objects.specs.declared.rule.Rule.TheVariants as rules
 use Rattle.bplist_objects.specs.declared.frame.Frame.{Frame}
 use Rattle.bplist_objects.specs.declared.head.Head.{Head}
@@ -34,10 +35,9 @@ pub record IsGreatest (S : ℕ → Type 0) (ns : List ℕ) (m : ℕ) : Type 0 wh
 
 pub greatest_member : (S : ℕ → Type 0) (n : ℕ) (ns : List ℕ) → AllByRecursion S (n ∷ ns) → (m : ℕ) × IsGreatest S (n ∷ ns) m
 greatest_member S n [] a = (n, record { member = a.0; high = ((a.0, omega arith), tt) })
-greatest_member S n (k ∷ ks) a = go (greatest_member S k ks a.1)
-  where
-    go : (m : ℕ) × IsGreatest S (k ∷ ks) m → (m : ℕ) × IsGreatest S (n ∷ k ∷ ks) m
-    go (m, g) = elim (cases_lt m n) [
+greatest_member S n (k ∷ ks) a =
+    let (m, g) = greatest_member S k ks a.1 in
+    elim (cases_lt m n) [
       | inl l ↦ (n, record { member = a.0; high = ((a.0, omega arith), all_weaker _ _ (λ x p. (p.0, omega (arith, p.1, l))) (k ∷ ks) g.high) })
       | inr h ↦ (m, record { member = g.member; high = ((a.0, h), g.high) })
     ]
@@ -52,6 +52,14 @@ module _ (f : List ℕ) (F : Frame) where
       let parts : (m : ℕ) → m < n → Reach f F m → KeepsAll (KeepsRule f F (Reach f F) (lists [] None) m) reach_rules × KeepsAll (KeepsRule f F (Reach f F) (lists [] None) m) (key_rules None) =
       λ m low r. kept_all_parts (KeepsRule f F (Reach f F) (lists [] None) m) reach_rules (key_rules None) (all m low r) in
       (λ m low r. (parts m low r).0, λ m low r. (parts m low r).1)
+
+  -- one more object keeps its rules, if it is reached
+  pub keep_more : (kept_rules : List Rule) (n next : ℕ) → next ≤ suc n → KeepReached f F kept_rules n
+      → (Reach f F n → KeepsAll (KeepsRule f F (Reach f F) (lists [] None) n) kept_rules) → KeepReached f F kept_rules next
+  keep_more kept_rules n next few before own m low r = elim (cases_eq m n) [
+    | inl e ↦ rw e (own (rw e at r))
+    | inr ne ↦ before m (omega arith) r
+  ]
 
   -- the rules of a reached object are those of an object by itself, and rule 31
   pub parted_rules : (n : ℕ) → KeepsAll (KeepsRule f F (Reach f F) (lists [] None) n) reach_rules → KeepsAll (KeepsByObject f F n) object_rules × ((IsOverfull f F (Reach f F) n → ⊥) × Unit {0})

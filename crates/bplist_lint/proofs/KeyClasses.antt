@@ -40,26 +40,25 @@ module _ (f : List ℕ) (F : Frame) where
     closed = λ n m marked r. (reached m).1 (next ((reached n).0 marked) r);
   }
 
+  -- the keys of a marked dictionary are marked
+  keys_marked : (marks : List Bool) → AreSound f F marks → (n : ℕ) → n < F.objects → IsMarked marks n → (head : Head) → HasHead f F n head → head.kind ≡ Dict
+      → (k : ℕ) → k < head.count → IsMarked marks (ref f F head k)
+  keys_marked marks sound n within marked head has dict k low =
+      let c = content_at f F head in
+      let spells = ((head_tie f F n sound.framed within head).0 (has, sound.kept n marked)).1 in
+      let among = each_key f F (Contains (refs c)) head dict (all_from (Contains (refs c)) (refs c) (λ m in_refs. in_refs)) k low in
+      sound.closed n (ref f F head k) marked (c, spells, among)
+
   -- if the reached objects are named, so are the keys of the reached ones
   pub reached_named : (marks : List Bool) → length marks ≡ F.objects → IsFrame f F → ((m : ℕ) → IsMarked marks m ↔ Reach f F m)
       → KeepReached f F reach_rules F.objects → AreNamed f F marks
-  reached_named marks many framed reached kept n r head has dict k low =
-      let sound = reached_sound marks many framed reached kept in
-      let within = reach_within f F (numbered framed).top n r in
-      let marked = (reached n).1 r in
-      let c = content_at f F head in
-      let spells = ((head_tie f F n framed within head).0 (has, sound.kept n marked)).1 in
-      let among = each_key f F (Contains (refs c)) head dict (all_from (Contains (refs c)) (refs c) (λ m in_refs. in_refs)) k low in
-      sound.closed n (ref f F head k) marked (c, spells, among)
+  reached_named marks many framed reached kept n r =
+      keys_marked marks (reached_sound marks many framed reached kept) n (reach_within f F (numbered framed).top n r) ((reached n).1 r)
 
   -- the keys of a marked dictionary keep rules 14 to 20
   pub sound_keys : (marks : List Bool) → AreSound f F marks → (n : ℕ) → n < F.objects → IsMarked marks n → (head : Head) → HasHead f F n head → head.kind ≡ Dict
       → KeysAreSound f F head
-  sound_keys marks sound n within marked head has dict k low inside =
-      let c = content_at f F head in
-      let spells = ((head_tie f F n sound.framed within head).0 (has, sound.kept n marked)).1 in
-      let among = each_key f F (Contains (refs c)) head dict (all_from (Contains (refs c)) (refs c) (λ m in_refs. in_refs)) k low in
-      sound.kept (ref f F head k) (sound.closed n (ref f F head k) marked (c, spells, among))
+  sound_keys marks sound n within marked head has dict k low inside = sound.kept (ref f F head k) (keys_marked marks sound n within marked head has dict k low)
 
   -- what is known of the keys of a marked dictionary
   pub keys_known : (marks named : List Bool) (classes : List ℕ) (n : ℕ) → AreSound f F marks → AreClasses f F named classes → HasNamedKeys f F named n → n < F.objects → IsMarked marks n

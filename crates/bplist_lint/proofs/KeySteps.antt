@@ -1,6 +1,5 @@
 -- What the keys of a dictionary keep and break.
-use Rattle.std.proofs.Common.{◌≡◌, ℕ, ◌+◌, ◌<◌, inl, inr, List, [], None, length, sym, ap, ◌∙◌, subst, arith}
-use Rattle.std.proofs.lemmas.Bool.{cases_eq}
+use Rattle.std.proofs.Common.{◌≡◌, ℕ, ◌+◌, ◌<◌, List, [], None, length, sym, ap, ◌∙◌, arith}
 use Rattle.bplist_objects.specs.declared.fault.Fault.{Fault}
 use Rattle.bplist_objects.specs.declared.frame.Frame.{Frame}
 use Rattle.bplist_objects.specs.declared.head.Head.{Head}
@@ -19,6 +18,7 @@ use Rattle.bplist_cert.specs.KeyRepeats.{HasGoodKeys, BreaksKeys}
 use Rattle.bplist_cert.proofs.CheckSteps.{kept_by_good, first_of_keys}
 use Rattle.bplist_cert.specs.CheckRules.{key_rules}
 use Rattle.bplist_lint.specs.ReachRules.{IsReachedFault, KeepReached}
+use Rattle.bplist_lint.proofs.KeptRules.{keep_more}
 
 module _ (f : List ℕ) (F : Frame) where
   -- the first fault of the keys
@@ -27,16 +27,7 @@ module _ (f : List ℕ) (F : Frame) where
 
   -- one more object
   pub keys_more : (n : ℕ) → HasGoodKeys f F None n → KeepReached f F (key_rules None) n → KeepReached f F (key_rules None) (n + 1)
-  keys_more n good kept m low r = elim (cases_eq m n) [
-    | inl e ↦ kept_by_good f F (Reach f F) [] m None (subst (HasGoodKeys f F None) (sym e) good)
-    | inr ne ↦ kept m (omega arith) r
-  ]
-
-  pub keys_over : (n : ℕ) → (Reach f F n → ⊥) → KeepReached f F (key_rules None) n → KeepReached f F (key_rules None) (n + 1)
-  keys_over n unreached kept m low r = elim (cases_eq m n) [
-    | inl e ↦ absurd (unreached (rw e at r))
-    | inr ne ↦ kept m (omega arith) r
-  ]
+  keys_more n good kept = keep_more f F (key_rules None) n (n + 1) (omega arith) kept (λ _. kept_by_good f F (Reach f F) [] n None good)
 
 -- an object without references that keeps rules 14 to 20 has no keys
 pub childless_keys : (f : List ℕ) (F : Frame) (n : ℕ) → IsFrame f F → n < F.objects → KeepsAll (KeepsByObject f F n) object_rules → refs_at f F n ≡ []

@@ -1,7 +1,7 @@
 -- Steps of making key lists, one after the other.
-use Rattle.std.proofs.Common.{◌≡◌, Bool, ◌≢◌, inl, inr, ℕ, zero, suc, ◌+◌, ◌-◌, ◌*◌, ◌<◌, ◌≤◌, rules, true, false, List, [], ◌++◌, length, take, drop, set, slice_index, Option, Some, None, is_some, unwrap_or, nat_lt, cond, refl, sym, ◌∙◌, ap, subst, arith, lt-ltb}
+use Rattle.std.proofs.Common.{◌≡◌, ◌≢◌, inl, inr, ℕ, zero, suc, ◌+◌, ◌-◌, ◌*◌, ◌<◌, ◌≤◌, rules, true, false, List, [], ◌++◌, length, take, drop, set, slice_index, Option, Some, None, is_some, unwrap_or, nat_lt, cond, refl, sym, ◌∙◌, ap, subst, arith, lt-ltb}
 use Rattle.std.proofs.Math.Seq.{drop-append_seam, take-length}
-use Rattle.std.proofs.lemmas.Bool.{cases_eq, ltb-true}
+use Rattle.std.proofs.lemmas.Bool.{cases_Bool, cases_eq, ltb-true}
 use Rattle.std.proofs.lemmas.List.{get_or-set_same, get_or-set_other, length-append, length-drop, drop-append-le, take-append-le}
 use Rattle.bplist_octets.specs.Octets.{part}
 use Rattle.bplist_objects.specs.declared.frame.Frame.{Frame}
@@ -29,6 +29,7 @@ use Rattle.bplist_lint.specs.KeyLists.{IsListed}
 use Rattle.bplist_cert.proofs.CheckSteps.{good_keeps}
 use Rattle.bplist_cert.proofs.AcceptedCertificates.{accepted, valid_seen, vouched_keys}
 use Rattle.bplist_lint.specs.Upgraded.{pairs, pairs_below, HasPairs, Listed, IsUpgraded}
+use Rattle.bplist_lint.proofs.ObjectReferences.{found_or_none}
 use Rattle.bplist_lint.proofs.RangeSums.{found_next}
 use Rattle.bplist_lint.proofs.TallySteps.{next_is}
 
@@ -55,13 +56,6 @@ with_kind head kind = record { kind = kind; count = head.count; body = head.body
 dict_pairs : (head : Head) → head.kind ≡ kinds.Dict → pairs_of head ≡ Some head.count
 dict_pairs head e = ap (λ kind. pairs_of (with_kind head kind)) e
 
-other_pairs : (head : Head) → (head.kind ≡ kinds.Dict → ⊥) → pairs_of head ≡ None
-other_pairs head = by head.kind
-  where
-    by : (kind : Kind) → (kind ≡ kinds.Dict → ⊥) → pairs_of (with_kind head kind) ≡ None
-    by kinds.Dict no_dict = absurd (no_dict refl)
-    by _ no_dict = refl
-
 -- only that of a dictionary announces pairs
 some_pairs : (head : Head) (k : ℕ) → pairs_of head ≡ Some k → (head.kind ≡ kinds.Dict) × (head.count ≡ k)
 some_pairs head k = by head.kind
@@ -69,6 +63,9 @@ some_pairs head k = by head.kind
     by : (kind : Kind) → pairs_of (with_kind head kind) ≡ Some k → (kind ≡ kinds.Dict) × (head.count ≡ k)
     by kinds.Dict e = (refl, same_Some head.count k e)
     by _ e = absurd (cc e)
+
+other_pairs : (head : Head) → (head.kind ≡ kinds.Dict → ⊥) → pairs_of head ≡ None
+other_pairs head no_dict = elim (found_or_none (pairs_of head)) [ inl none ↦ none | inr (k, e) ↦ absurd (no_dict (some_pairs head k e).0) ]
 
 -- the pairs that are found are those of vouched dictionaries
 module _ (f : List ℕ) (F : Frame) (heights : List ℕ) where
@@ -84,26 +81,20 @@ module _ (f : List ℕ) (F : Frame) (heights : List ℕ) where
       pairs_vouched n v (Content.dict ks ms) s ∙ dict_pairs s.shape parts.0 ∙ ap Some (sym many.0 ∙ long)
 
   pub pairs_given : IsValid f F heights → (n k : ℕ) → pairs f F heights n ≡ Some k → HasPairs f F heights n k
-  pairs_given valid n k e = go (nat_lt 0 (slice_index heights n)) refl
-    where
-      go : (b : Bool) → nat_lt 0 (slice_index heights n) ≡ b → HasPairs f F heights n k
-      go false off = absurd (let none : pairs f F heights n ≡ None = ap (λ b. cond b (option_and_then pairs_of (head_found f F n)) None) off in cc (e, none))
-      go true on =
-          let low = ltb-true 0 (slice_index heights n) on in
-          let v : IsVouchedBy heights n = omega (arith, low) in
-          let o = valid.vouched n v in
-          let shape = o.spells.shape in
-          let is = some_pairs shape k (sym (pairs_vouched n v o.content o.spells) ∙ e) in
-          let dict : o.content ≡ content_of f F kinds.Dict shape.count shape.body = o.spells.means ∙ ap (λ kind. content_of f F kind shape.count shape.body) is.0 in
-          (v, (nums_at f shape.body F.ref_size shape.count, nums_at f (shape.body + shape.count * F.ref_size) F.ref_size shape.count, subst (Spells f F n) dict o.spells, length-nums_at f shape.body F.ref_size shape.count ∙ is.1))
+  pairs_given valid n k e = elim (cases_Bool (nat_lt 0 (slice_index heights n))) [
+    | inr off ↦ absurd (let none : pairs f F heights n ≡ None = ap (λ b. cond b (option_and_then pairs_of (head_found f F n)) None) off in cc (e, none))
+    | inl on ↦
+        let v : IsVouchedBy heights n = omega (arith, ltb-true 0 (slice_index heights n) on) in
+        let o = valid.vouched n v in
+        let shape = o.spells.shape in
+        let is = some_pairs shape k (sym (pairs_vouched n v o.content o.spells) ∙ e) in
+        let dict : o.content ≡ content_of f F kinds.Dict shape.count shape.body = o.spells.means ∙ ap (λ kind. content_of f F kind shape.count shape.body) is.0 in
+        (v, (nums_at f shape.body F.ref_size shape.count, nums_at f (shape.body + shape.count * F.ref_size) F.ref_size shape.count, subst (Spells f F n) dict o.spells, length-nums_at f shape.body F.ref_size shape.count ∙ is.1))
+  ]
 
   -- without pairs none are found
   pub no_pairs : IsValid f F heights → (n : ℕ) → ((k : ℕ) → HasPairs f F heights n k → ⊥) → pairs f F heights n ≡ None
-  no_pairs valid n none = go (pairs f F heights n) refl
-    where
-      go : (found : Option ℕ) → pairs f F heights n ≡ found → pairs f F heights n ≡ None
-      go None e = e
-      go (Some k) e = absurd (none k (pairs_given valid n k e))
+  no_pairs valid n none = elim (found_or_none (pairs f F heights n)) [ inl e ↦ e | inr (k, e) ↦ absurd (none k (pairs_given valid n k e)) ]
 
 module _ (f : List ℕ) (F : Frame) (heights : List ℕ) where
   pairs_next : (n : ℕ) → pairs_below f F heights (suc n) ≡ pairs_below f F heights n + unwrap_or (pairs f F heights n) 0
@@ -217,10 +208,9 @@ module _ (f : List ℕ) (F : Frame) (heights : List ℕ) where
       -- there is room for the positions
       pub listed_room : head.kind ≡ kinds.Dict → 1 ≤ F.ref_size → HaveRoom f F (IsVouchedBy heights) → length positions + head.count + 8 ≤ F.table
       listed_room dict low have =
-          let short = pairs_within dict low in
           let s = sums_more f F (IsVouchedBy heights) n (head.«end» - off f F n) l.used vouched (shape_extent f F n head shape) l.sums in
           let all = have s.objects _ s.differ (all_weaker _ _ (λ m k. k.0) s.objects s.inside) s.take_all in
-          omega (arith, all, l.few, short)
+          omega (arith, all, l.few, pairs_within dict low)
 
   -- all are listed
   module _ (valid : IsValid f F heights) (keyed : Keyed) (count : length keyed.starts ≡ F.objects) (l : Listed f F heights F.objects keyed.starts keyed.positions) where

@@ -1,12 +1,16 @@
 -- Steps of the walk that marks the references of one object.
-use Rattle.std.proofs.Common.{◌≡◌, ◌≢◌, ℕ, ◌+◌, ◌-◌, ◌<◌, ◌≤◌, ◌⊎◌, inl, inr, Bool, true, false, List, [], ◌∷◌, ◌++◌, length, get_or, slice_index, set, take, replicate, Contains, sym, ◌∙◌, subst, arith}
-use Rattle.std.proofs.Common.{below_more}
+use Rattle.std.proofs.Common.{◌≡◌, ◌≢◌, ℕ, ◌+◌, ◌-◌, ◌<◌, ◌≤◌, ◌⊎◌, inl, inr, Bool, true, false, List, [], ◌∷◌, ◌++◌, length, get_or, slice_index, set, take, replicate, Contains, sym, ◌∙◌, subst, below_more, arith}
 use Rattle.std.proofs.lemmas.Bool.{cases_eq, cases_lt, false≢true}
 use Rattle.std.proofs.lemmas.List.{get_or-set_same, get_or-set_other, get_or-take, length-take, length-take-le, get_or_default}
 use Rattle.std.proofs.lemmas.List.Elements.{Contains-append_left, Contains-push, Contains-push_cases, Contains-get_or}
 use Rattle.bplist_keys.specs.Marks.{IsMarked}
 use Rattle.bplist_lint.specs.ReachWalk.{AreApart, Noted}
 use Rattle.bplist_lint.proofs.ListWrites.{seen-set, unwritten, differ_push, differ_front, differ_last}
+
+-- what the second of two cases leads to
+pub or_then : {A B C : Type 0} → A ⊎ B → (B → C) → A ⊎ C
+or_then (inl a) next = inl a
+or_then (inr b) next = inr (next b)
 
 -- ---- a stack on which no object is twice
 pub apart_none : AreApart []
@@ -74,10 +78,7 @@ module _ (references : List ℕ) (next : ℕ) (marks : List Bool) (stack : List 
           | inl w ↦ s.fresh n w
           | inr e ↦ inr (rw e among, inl (rw e above))
         ];
-        waiting = λ n h. elim (s.waiting n h) [
-          | inl old ↦ inl old
-          | inr new ↦ inr (seen-set marks' m n fits new.0, new.1, new.2)
-        ];
+        waiting = λ n h. or_then (s.waiting n h) (λ new. (seen-set marks' m n fits new.0, new.1, new.2));
         apart = s.apart;
         all = all_more;
       }
@@ -88,17 +89,11 @@ module _ (references : List ℕ) (next : ℕ) (marks : List Bool) (stack : List 
         keeps_marks = λ n h. seen-set marks' m n fits (s.keeps_marks n h);
         keeps_stack = λ n h. Contains-append_left stack' (m ∷ []) n (s.keeps_stack n h);
         fresh = λ n h. elim (fresh-set marks' m n h) [
-          | inl w ↦ elim (s.fresh n w) [
-            | inl o ↦ inl o
-            | inr p ↦ inr (p.0, elim p.1 [ inl a ↦ inl a | inr c ↦ inr (Contains-append_left stack' (m ∷ []) n c) ])
-          ]
+          | inl w ↦ or_then (s.fresh n w) (λ p. (p.0, or_then p.1 (Contains-append_left stack' (m ∷ []) n)))
           | inr e ↦ inr (rw e among, inr (rw e (Contains-push stack' m)))
         ];
         waiting = λ n h. elim (Contains-push_cases stack' m n h) [
-          | inl w ↦ elim (s.waiting n w) [
-            | inl old ↦ inl old
-            | inr later ↦ inr (seen-set marks' m n fits later.0, later.1, later.2)
-          ]
+          | inl w ↦ or_then (s.waiting n w) (λ later. (seen-set marks' m n fits later.0, later.1, later.2))
           | inr e ↦ rw (← e) (inr (get_or-set_same marks' m true false fits, (λ before. false≢true (sym new ∙ s.keeps_marks m before)), low))
         ];
         apart = λ on apart. apart_push stack' m (s.apart on apart) (λ c. false≢true (sym new ∙ stack_marked references next i marks stack marks' stack' s on m c));
@@ -115,17 +110,11 @@ module _ (references : List ℕ) (next : ℕ) (marks : List Bool) (stack : List 
           keeps_marks = λ m h. t.keeps_marks m (s.keeps_marks m h);
           keeps_stack = λ m h. t.keeps_stack m (s.keeps_stack m h);
           fresh = λ m h. elim (t.fresh m h) [
-            | inl before ↦ elim (s.fresh m before) [
-              | inl old ↦ inl old
-              | inr new ↦ inr (new.0, elim new.1 [ inl above ↦ inl above | inr on ↦ inr (t.keeps_stack m on) ])
-            ]
+            | inl before ↦ or_then (s.fresh m before) (λ new. (new.0, or_then new.1 (t.keeps_stack m)))
             | inr now ↦ inr (among m now.0, now.1)
           ];
           waiting = λ m h. elim (t.waiting m h) [
-            | inl before ↦ elim (s.waiting m before) [
-              | inl old ↦ inl old
-              | inr new ↦ inr (t.keeps_marks m new.0, new.1, new.2)
-            ]
+            | inl before ↦ or_then (s.waiting m before) (λ new. (t.keeps_marks m new.0, new.1, new.2))
             | inr now ↦ inr (now.0, (λ old. now.1 (s.keeps_marks m old)), now.2)
           ];
           apart = λ on apart. t.apart (stack_marked references next i marks stack marks' stack' s on) (s.apart on apart);

@@ -1,5 +1,5 @@
 -- What an object's references are, by what was read of it.
-use Rattle.std.proofs.Common.{◌≡◌, ℕ, ◌<◌, ◌+◌, ◌-◌, min, IsTrue, List, [], drop, length, slice_index, Option, Some, None, inl, inr, refl, sym, ap, ◌∙◌, arith}
+use Rattle.std.proofs.Common.{◌≡◌, ◌⊎◌, ℕ, ◌<◌, ◌+◌, ◌-◌, min, IsTrue, List, [], drop, length, slice_index, Option, Some, None, inl, inr, refl, sym, ap, ◌∙◌, arith}
 use Rattle.std.proofs.lemmas.Bool.{cases_lt}
 use Rattle.std.proofs.lemmas.List.{nil_from_length, length-drop, get_or-drop, drop_all}
 use Rattle.std.specs.Option.{option_map_or}
@@ -13,9 +13,8 @@ use Rattle.bplist_objects.specs.Markers.{head_found}
 use Rattle.bplist_objects.specs.Spelled.{is_proper, spelled_at, refs_at}
 use Rattle.bplist_objects.proofs.Fronts.{one_shape}
 use Rattle.bplist_objects.proofs.SpelledContents.{spells_iff}
-use Rattle.bplist_objects.proofs.References.{length-refs}
 use Rattle.bplist_objects.specs.Scan.{AreBelow, nth_number}
-use Rattle.bplist_objects.proofs.References.{nth-refs, all_refs}
+use Rattle.bplist_objects.proofs.References.{length-refs, nth-refs, all_refs}
 use Rattle.bplist_objects.proofs.ProperLeaves.{body_kept, spells_bodies, bodies_spell}
 use Rattle.bplist_objects.proofs.HeadLaws.{head_is_found}
 use Rattle.bplist_objects.proofs.ReachedObjects.{refs_spelled}
@@ -23,6 +22,11 @@ use Rattle.bplist_objects.proofs.HeadTies.{spells_body}
 use Rattle.bplist_lint.specs.declared.graph.View.{View}
 use Rattle.bplist_lint.specs.Graph.{IsPart}
 use Rattle.bplist_lint.specs.ReferenceGraph.{refs_announced, hidden, refs_in}
+
+-- something is found or not
+pub found_or_none : {X : Type 0} (found : Option X) → (found ≡ None) ⊎ ((x : X) × (found ≡ Some x))
+found_or_none None = inl refl
+found_or_none (Some x) = inr (x, refl)
 
 module _ (f : List ℕ) (F : Frame) (n : ℕ) where
   -- an object that spells nothing refers to nothing
@@ -40,17 +44,13 @@ module _ (f : List ℕ) (F : Frame) (n : ℕ) where
 
   -- an object whose shape has no references refers to nothing
   pub no_refs_leaf : (h : Head) → HasShape f F n h → ref_count h.kind h.count ≡ 0 → refs_at f F n ≡ []
-  no_refs_leaf h has none = go (spelled_at f F n) refl
-    where
-      of_content : (c : Content) → Spells f F n c → refs_at f F n ≡ []
-      of_content c s =
-          let same : s.shape ≡ h = one_shape f F n s.shape h s.has has in
-          let is : c ≡ content_at f F h = s.means ∙ ap (content_at f F) same in
-          refs_spelled f F n c s ∙ ap refs is ∙ nil_from_length (refs (content_at f F h)) (length-refs f F h.kind h.count h.body ∙ none)
-
-      go : (found : Option Content) → spelled_at f F n ≡ found → refs_at f F n ≡ []
-      go None e = no_refs (λ c s. let k : None ≡ Some c = sym e ∙ (spells_iff f F n c).0 s in cc k)
-      go (Some c) e = of_content c ((spells_iff f F n c).1 e)
+  no_refs_leaf h has none = elim (found_or_none (spelled_at f F n)) [
+    | inl e ↦ no_refs (λ c s. let k : None ≡ Some c = sym e ∙ (spells_iff f F n c).0 s in cc k)
+    | inr (c, e) ↦
+        let s = (spells_iff f F n c).1 e in
+        let is : c ≡ content_at f F h = s.means ∙ ap (content_at f F) (one_shape f F n s.shape h s.has has) in
+        refs_spelled f F n c s ∙ ap refs is ∙ nil_from_length (refs (content_at f F h)) (length-refs f F h.kind h.count h.body ∙ none)
+  ]
 
   -- its head is found
   pub found_as : (h : Head) → HasShape f F n h → head_found f F n ≡ Some h
@@ -73,11 +73,10 @@ module _ (f : List ℕ) (F : Frame) (n : ℕ) where
       }
 
   pub as_shape : (h : Head) → HasShape f F n h → (i : ℕ) → i < length (refs_at f F n) → IsAs h
-  as_shape h has i within = go (spelled_at f F n) refl
-    where
-      go : (found : Option Content) → spelled_at f F n ≡ found → IsAs h
-      go None e = absurd (let z = ap length (no_refs (λ c s. let k : None ≡ Some c = sym e ∙ (spells_iff f F n c).0 s in cc k)) in omega arith)
-      go (Some c) e = as_spelled h has c ((spells_iff f F n c).1 e)
+  as_shape h has i within = elim (found_or_none (spelled_at f F n)) [
+    | inl e ↦ absurd (let z = ap length (no_refs (λ c s. let k : None ≡ Some c = sym e ∙ (spells_iff f F n c).0 s in cc k)) in omega arith)
+    | inr (c, e) ↦ as_spelled h has c ((spells_iff f F n c).1 e)
+  ]
 
   -- ---- the references in a view
   module _ (view : View) where

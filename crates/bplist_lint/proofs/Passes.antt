@@ -1,5 +1,5 @@
 -- What the linter's passes find, one after the other.
-use Rattle.std.proofs.Common.{◌≡◌, ℕ, zero, suc, ◌+◌, ◌*◌, ◌<◌, ◌≤◌, inl, cond, nat_lt, Bool, List, length, take, slice_index, count_by, filter, IsTrue, Option, None, refl, sym, ap, subst, ◌∙◌, arith, min, lt-ltb}
+use Rattle.std.proofs.Common.{◌≡◌, ℕ, zero, suc, ◌+◌, ◌*◌, ◌<◌, ◌≤◌, cond, nat_lt, Bool, List, length, take, slice_index, count_by, filter, IsTrue, Option, None, refl, sym, ap, subst, ◌∙◌, arith, min, lt-ltb}
 use Rattle.std.specs.List.{range_with_len}
 use Rattle.std.proofs.Math.Nat.{min-eq_right, mul-le-mul_left}
 use Rattle.std.proofs.Math.Numerals.{add-one}
@@ -13,7 +13,6 @@ use Rattle.bplist_objects.specs.Answers.{Never}
 use Rattle.bplist_objects.specs.Frame.{IsFrame, trailer}
 use Rattle.bplist_objects.specs.Safe.{IsSafeFrame}
 use Rattle.bplist_objects.specs.File.{FileHolds}
-use Rattle.bplist_objects.proofs.FrameTies.{IsTrailer, IsTrailerFault, trailer_fault, entry_fault, low_is_frame}
 use Rattle.bplist_objects.specs.Value.{Value}
 use Rattle.bplist_objects.specs.Reach.{Reach}
 use Rattle.bplist_objects.specs.Spelled.{refs_at}
@@ -34,7 +33,6 @@ use Rattle.bplist_lint.specs.Graph.{AreLeast, IsCircleOf}
 use Rattle.bplist_lint.specs.ReachRules.{number_below, references_below, is_marked}
 use Rattle.bplist_lint.specs.FileFault.{IsFileFault, IsFileCircle}
 use Rattle.bplist_lint.specs.Refusals.{Refuses, no_circle}
-use Rattle.bplist_objects.specs.Offsets.{AreOffsets32, AreBelowTable, IsOffsetFault}
 use Rattle.bplist_lint.specs.LeastHeights.{AreLeastHeights}
 use Rattle.bplist_lint.specs.Linted.{HaveReferences, KeepsRules, IsLintedBy, HasNoHeights, lint_bytes, lint_of, objects_said}
 use Rattle.bplist_lint.specs.Upgraded.{IsLintedWith}
@@ -46,7 +44,6 @@ use Rattle.bplist_lint.proofs.ExtentBytes.{extents_tallied}
 use Rattle.bplist_lint.proofs.KeyClasses.{reached_sound}
 use Rattle.bplist_lint.proofs.HeldValues.{formed_holds}
 use Rattle.bplist_lint.proofs.KeptRules.{kept_both, kept_room, kept_spells}
-use Rattle.bplist_lint.proofs.OffsetSteps.{kept_low, kept_high}
 use Rattle.bplist_lint.proofs.RangeSums.{sum_next, have_references}
 use Rattle.bplist_lint.proofs.Walks.{same_mark}
 use Rattle.bplist_lint.proofs.ReferenceGraph.{circle_iff}
@@ -184,14 +181,3 @@ refusal_decides f e = refusal_means (IsFileFault f) (λ _. HasNoHeights f) (IsFi
 
 pub refusal_never : (f : List ℕ) (v : Value) → FileHolds f v → (e : LintRefusal) → Refuses (IsFileFault f) (IsFileCircle f) e → Refuses Never no_circle e
 refusal_never f v holds e = refusal_means (IsFileFault f) Never (IsFileCircle f) no_circle e (λ a h. fault_not_held f a v h holds) (λ circle h. circle_not_held f circle v h holds)
-
--- ---- the trailer, and then the table in memory, decide rules 1 to 13
-pub trailer_fault_of_file : (f : List ℕ) (fault : Fault) → IsTrailerFault f fault → IsFileFault f fault
-trailer_fault_of_file f fault h = inl (trailer_fault f fault h)
-
-module _ (f : List ℕ) (F : Frame) (trailed : IsTrailer f F) (places : List ℕ) (kept : AreOffsets32 f F F.objects places) where
-  pub place_fault_of_file : (fault : Fault) → IsOffsetFault F places fault → IsFileFault f fault
-  place_fault_of_file fault h = inl (entry_fault f F fault trailed h.rule (kept_high f F places kept fault trailed h))
-
-  pub frame_by_places : AreBelowTable F places → IsFrame f F
-  frame_by_places low = low_is_frame f F trailed (kept_low f F places kept trailed low)

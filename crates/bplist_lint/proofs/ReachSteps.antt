@@ -12,7 +12,7 @@ use Rattle.bplist_objects.specs.declared.head.Head.{Head}
 use Rattle.bplist_objects.specs.Heads.{content_at, refs}
 use Rattle.bplist_objects.specs.Numbers.{num_at}
 use Rattle.bplist_objects.specs.Reach.{Reach, top, next}
-use Rattle.bplist_objects.specs.Safe.{IsSafeHead, ref_count}
+use Rattle.bplist_objects.specs.Safe.{IsSafeFrame, IsSafeHead, ref_count}
 use Rattle.bplist_objects.specs.Scan.{AreBelow, nth_number}
 use Rattle.bplist_objects.specs.Spelled.{refs_at}
 use Rattle.bplist_objects.proofs.Bounds.{place_fits}
@@ -21,11 +21,12 @@ use Rattle.bplist_objects.proofs.ReachedObjects.{refs_iff}
 use Rattle.bplist_objects.proofs.References.{length-refs, nth-refs}
 use Rattle.bplist_keys.specs.Marks.{IsMarked}
 use Rattle.bplist_lint.specs.ReachSearch.{IsReady, HasMarks, row_length, place_index, index_count, reference_at, AreGood, AreFollowed, Looked, IsSearching}
-use Rattle.bplist_lint.specs.BitSets.{IsIn}
+use Rattle.bplist_lint.specs.BitSets.{IsIn, count_in}
 use Rattle.bplist_lint.specs.declared.bit_set.BitSet.{BitSet}
 use Rattle.bplist_lint.specs.declared.reach.ReachSearch.{ReachSearch}
+use Rattle.bplist_lint.proofs.BitCounts.{count_few}
 use Rattle.bplist_lint.proofs.ListWrites.{seen-set, unwritten, count-set}
-use Rattle.bplist_lint.proofs.MarkSteps.{fresh-set, none_marked}
+use Rattle.bplist_lint.proofs.MarkSteps.{or_then, fresh-set, none_marked}
 
 pub marked_within : (marks : List Bool) (n : ℕ) → IsMarked marks n → n < length marks
 marked_within [] n h = absurd (false≢true h)
@@ -36,9 +37,11 @@ marked_within (x ∷ marks) (suc n) h = let r = marked_within marks n h in omega
 -- there are few more numbers than places
 pub size_small : (F : Frame) → index_count F ≤ F.table + F.ref_size
 size_small F =
-    let whole = div-mul-le_self F.table F.ref_size in
-    let sum = add-mul (F.table / F.ref_size) 1 F.ref_size in
-    omega (arith, whole, sum)
+    omega (arith, div-mul-le_self F.table F.ref_size, add-mul (F.table / F.ref_size) 1 F.ref_size)
+
+-- the places of both sets cost no more than the table allows
+pub places_few : {size : ℕ} (F : Frame) → IsSafeFrame size F → (good followed : List ℕ) → 8 * (count_in good (index_count F) + count_in followed (index_count F)) ≤ 16 * F.table + 128
+places_few F safe good followed = omega (arith, count_few good (index_count F), count_few followed (index_count F), size_small F, safe.safe.ref_high)
 
 pub number_low : (F : Frame) (place : ℕ) → 1 ≤ F.ref_size → place ≤ F.table → place_index F place < index_count F
 number_low F place some within =
@@ -69,12 +72,8 @@ module _ (F : Frame) (some : 1 ≤ F.ref_size) (place k : ℕ) (within : place +
   place_back =
       let low = ap (λ x. x % row_length F) number_is ∙ mod-mul-add (place % F.ref_size) (row_length F) (place / F.ref_size + k) column in
       let high = ap (λ x. x / row_length F) number_is ∙ div-mul-add (place % F.ref_size) (row_length F) (place / F.ref_size + k) column in
-      let part = div-add-mod' place F.ref_size in
       let sum = add-mul (place / F.ref_size) k F.ref_size in
-      ap₂ (λ a b. a * F.ref_size + b) low high ∙ omega (arith, part, sum)
-
-  pub reference_back : (f : List ℕ) → reference_at f F (place_index F place + k) ≡ nth_number f place F.ref_size k
-  reference_back f = ap (λ p. num_at f p F.ref_size) place_back
+      ap₂ (λ a b. a * F.ref_size + b) low high ∙ omega (arith, div-add-mod' place F.ref_size, sum)
 
   -- each of them is a number of the set
   pub number_fits : place_index F place + k < index_count F
@@ -105,13 +104,10 @@ module _ (references : List ℕ) (marks : List Bool) (stack : List ℕ) where
     keeps_stack = λ n h. Contains-append_left stack' (m ∷ []) n (s.keeps_stack n h);
     fresh = λ n h. elim (cases_eq n m) [
       | inl e ↦ inr (rw e among, rw e (Contains-push stack' m))
-      | inr d ↦ elim (s.fresh n (rw (get_or-set_other marks' m n true false d) at h)) [
-        | inl old ↦ inl old
-        | inr new ↦ inr (new.0, Contains-append_left stack' (m ∷ []) n new.1)
-      ]
+      | inr d ↦ or_then (s.fresh n (rw (get_or-set_other marks' m n true false d) at h)) (λ new. (new.0, Contains-append_left stack' (m ∷ []) n new.1))
     ];
     waiting = λ n h. elim (Contains-push_cases stack' m n h) [
-      | inl w ↦ elim (s.waiting n w) [ inl old ↦ inl old | inr new ↦ inr (seen-set marks' m n fits new) ]
+      | inl w ↦ or_then (s.waiting n w) (seen-set marks' m n fits)
       | inr e ↦ rw (← e) (inr (get_or-set_same marks' m true false fits))
     ];
   }
@@ -212,14 +208,11 @@ module _ (f : List ℕ) (F : Frame) where
   module _ (head : Head) (some : 1 ≤ F.ref_size) (safe : IsSafeHead F head) where
     -- reference k is at this number
     pub reference_at_k : (k : ℕ) → k < ref_count head.kind head.count → reference_at f F (place_index F head.body + k) ≡ nth_number f head.body F.ref_size k
-    reference_at_k k low = reference_back F some head.body k (place_fits F head safe k low) f
-
-    pub place_index_k : (k : ℕ) → k < ref_count head.kind head.count → place_index F head.body + k < index_count F
-    place_index_k k low = number_fits F some head.body k (place_fits F head safe k low)
+    reference_at_k k low = ap (λ p. num_at f p F.ref_size) (place_back F some head.body k (place_fits F head safe k low))
 
     pub numbers_low : place_index F head.body + ref_count head.kind head.count ≤ index_count F
     numbers_low = elim (cases_lt 0 (ref_count head.kind head.count)) [
-      | inl has ↦ let last = place_index_k (ref_count head.kind head.count - 1) (omega arith) in omega (arith, last, has)
+      | inl has ↦ let last = number_fits F some head.body (ref_count head.kind head.count - 1) (place_fits F head safe _ (omega arith)) in omega (arith, last, has)
       | inr none ↦ let first = number_low F head.body some (omega (arith, safe.body, safe.table)) in omega (arith, first, none)
     ]
 

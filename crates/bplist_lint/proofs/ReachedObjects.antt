@@ -45,10 +45,7 @@ module _ (f : List ℕ) (F : Frame) (n : ℕ) (head : Head) (has : HasHead f F n
   none_of : (kind : Kind) (count : ℕ) → 0 < ref_count kind count → ((kind ≡ kinds.Ascii → ⊥) × (kind ≡ kinds.Uid → ⊥))
   none_of kinds.Ascii count some = absurd (omega (arith, some))
   none_of kinds.Uid count some = absurd (omega (arith, some))
-  none_of kinds.Array count some = ((λ e. cc), (λ e. cc))
-  none_of kinds.Set count some = ((λ e. cc), (λ e. cc))
-  none_of kinds.Dict count some = ((λ e. cc), (λ e. cc))
-  none_of _ count some = absurd (omega (arith, some))
+  none_of _ count some = ((λ e. cc), (λ e. cc))
 
   -- what has references, each the number of an object
   pub container_kept : 0 < ref_count head.kind head.count → AreBelow f head.body F.ref_size (ref_count head.kind head.count) F.objects → KeepsAll (KeepsByObject f F n) object_rules

@@ -12,7 +12,7 @@ use Rattle.bplist_lint.specs.Graph.Reaches.{start, onward}
 use Rattle.bplist_lint.specs.Graph.Ends.{ends}
 use Rattle.bplist_lint.specs.Graph.Least.{above}
 use Rattle.bplist_lint.specs.FileFault.{IsCircle}
-use Rattle.bplist_lint.specs.LeastHeights.{StandLeast, AreLeastHeights}
+use Rattle.bplist_lint.specs.LeastHeights.{AreLeastHeights}
 use Rattle.bplist_lint.proofs.FirstWithout.{IsFirstUnfounded, first_among, first_too}
 use Rattle.bplist_lint.proofs.FoundedObjects.{StandsLeast}
 
@@ -118,12 +118,9 @@ module _ (f : List ℕ) (F : Frame) where
           let sum = ap greatest (all ∙ ap (map (slice_index heights)) same) in
           (s.0, s.1, omega (arith, e, sum))
 
-      pub stand_least : StandLeast f F heights
-      stand_least n r = stands n (slice_index heights n) r refl (least.vouched n (vouched_reached n r)).1
-
       pub are_least_heights : length heights ≡ F.objects → AreLeastHeights f F heights
       are_least_heights count = record {
         count = count;
-        least = stand_least;
+        least = λ n r. stands n (slice_index heights n) r refl (least.vouched n (vouched_reached n r)).1;
         only = λ n v. reach_to n (least.vouched n (omega (arith, v))).0;
       }

@@ -9,7 +9,7 @@ use Rattle.bplist_lint.specs.Graph.Ends.{ends}
 use Rattle.bplist_lint.specs.Graph.Least.{above}
 use Rattle.bplist_lint.specs.Trail.{number, object, AllHave, IsFirstIndex, IsTrail, Leading}
 use Rattle.bplist_lint.proofs.FirstWithout.{first_among, first_off, first_too}
-use Rattle.bplist_lint.proofs.ListWrites.{push_cases, at_set, seen-set, count-set, unwritten}
+use Rattle.bplist_lint.proofs.ListWrites.{push_cases, at_set, seen-set, count-set, unwritten, differ_push}
 
 pub numbers_named : (xs : List ℕ) → map number (map object xs) ≡ xs
 numbers_named [] = refl
@@ -49,7 +49,6 @@ fewer_left met x within new = let n = rw new at (count-set not met x true false 
 pub trail_more : (size : ℕ) (met : List Bool) (trail : List ℕ) (x : ℕ) → IsTrail size met trail → x < size → get_or met x false ≡ false → IsTrail size (set met x true) (trail ++ x ∷ [])
 trail_more size met trail x p in' new =
     let within : x < length met = omega (arith, p.all_met) in
-    let long = length_push trail x in
     let not_x : (j : ℕ) → j < length trail → get_or trail j 0 ≢ x = λ j h e. absurd (false≢true (sym new ∙ rw e at (p.marked j h))) in
     record {
       all_met = length-set met x true ∙ p.all_met;
@@ -61,10 +60,7 @@ trail_more size met trail x p in' new =
         | inl c ↦ rw c.1 (seen-set met x _ within (p.marked k c.0))
         | inr c ↦ rw c.1 (get_or-set_same met x true false within)
       ];
-      differ = λ j k less h. elim (push_cases trail x 0 k h) [
-        | inl c ↦ let low : j < length trail = let l = c.0 in omega arith in rw (c.1, get_or_append_left trail (x ∷ []) 0 j low) (p.differ j k less c.0)
-        | inr c ↦ let low : j < length trail = let l = c.0 in omega arith in rw (c.1, get_or_append_left trail (x ∷ []) 0 j low) (not_x j low)
-      ];
+      differ = differ_push (λ n. n) 0 trail x p.differ not_x;
     }
 
 pub leading_more : (refs : ℕ → List ℕ) (top : ℕ) (trail : List ℕ) (x m : ℕ) → Leading refs top trail x → Reaches refs top m → IsFirstUnfoundedIn refs x m → Leading refs top (trail ++ x ∷ []) m

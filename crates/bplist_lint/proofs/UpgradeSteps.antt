@@ -19,11 +19,7 @@ check_no_change (cert_refusals.Fault fault) h = absurd h
 check_no_change (cert_refusals.Read _) h = λ e. cc
 check_no_change cert_refusals.Memory h = λ e. cc
 
--- if something is known to exist, what follows from it about `Changed`
-open_no_change : {P : Type 0} → ∥ P ∥₁ → (e : UpgradeFault) → (P → e ≢ faults.Changed) → e ≢ faults.Changed
-open_no_change t e from = λ is. not_there t (λ p. from p is)
-
 -- if something is known to exist, what follows from it about the answer
 pub open_upgrades : {P X : Type 0} (Q : X → Type 0) → ∥ P ∥₁ → (made : Result X UpgradeFault) → (P → Upgrades Q made) → Upgrades (λ x. ∥ Q x ∥₁) made
 open_upgrades Q t (Ok x) from = ∥∥₁_map t from
-open_upgrades Q t (Err e) from = open_no_change t e from
+open_upgrades Q t (Err e) from = λ is. not_there t (λ p. from p is)

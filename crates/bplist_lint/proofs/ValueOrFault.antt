@@ -1,5 +1,6 @@
 -- Each file is well formed or has a first fault.
-use Rattle.std.proofs.Common.{◌≡◌, ℕ, zero, suc, ◌+◌, ◌-◌, ◌*◌, ◌<◌, ◌≤◌, ◌⊎◌, inl, inr, List, [], ◌∷◌, None, Contains, refl, sym, subst, arith}
+use Rattle.std.proofs.Common.{ℕ, zero, suc, ◌+◌, ◌-◌, ◌*◌, ◌<◌, ◌≤◌, ◌⊎◌, inl, inr, List, [], None, Contains, refl, arith}
+use Rattle.std.proofs.Math.Logic.{⊎_map}
 use Rattle.std.proofs.lemmas.Bool.{cases_lt}
 use Rattle.bplist_objects.specs.declared.rule.Rule.TheVariants as rules
 use Rattle.bplist_objects.specs.declared.fault.Fault.{Fault}
@@ -10,22 +11,20 @@ use Rattle.bplist_objects.specs.Heads.{Content, Spells}
 use Rattle.bplist_objects.specs.Value.{Value}
 use Rattle.bplist_objects.specs.File.{FileHolds}
 use Rattle.bplist_objects.specs.Announced.{HasHead}
-use Rattle.bplist_objects.specs.Rules.{KeepsAll, IsFirstFault, OfObject}
+use Rattle.bplist_objects.specs.Rules.{KeepsAll}
 use Rattle.bplist_objects.specs.ObjectRules.{KeepsByObject, object_rules}
 use Rattle.bplist_objects.specs.Reach.{Reach, top, Founded}
 use Rattle.bplist_objects.specs.Extents.{Sums}
 use Rattle.bplist_objects.specs.Spelled.{refs_at}
 use Rattle.bplist_objects.proofs.KeptOrBroken.{frame_kept_or_fault, object_kept_or_fault}
-use Rattle.bplist_objects.proofs.ExtentSums.{shape_extent, sums_none, sums_more, sums_same, not_overfull, overfull}
+use Rattle.bplist_objects.proofs.ExtentSums.{sums_none, sums_same}
 use Rattle.bplist_objects.proofs.FrameTies.{numbered, trailer_is_frame}
 use Rattle.bplist_objects.proofs.ReachedObjects.{refs_iff, refs_within}
 use Rattle.bplist_objects.proofs.Lists.{Either, all_or_first}
-use Rattle.bplist_objects.proofs.RuleLaws.{first_fault_after, first_fault_among}
 use Rattle.bplist_objects.proofs.HeadTies.{keeps_iff, shape_announced}
 use Rattle.bplist_cert.proofs.DecidedObjects.{fault_at}
 use Rattle.bplist_cert.proofs.DecidedKeys.{dict_decided, texts_or_first, differ_or_first}
-use Rattle.bplist_cert.specs.Lists.{lists}
-use Rattle.bplist_cert.specs.CheckRules.{KeepsRule, BreaksRule, key_rules}
+use Rattle.bplist_cert.specs.CheckRules.{key_rules}
 use Rattle.bplist_cert.specs.KeyRepeats.{HasGoodKeys, BreaksKeys}
 use Rattle.bplist_lint.specs.ReachRules.{IsReachedFault, KeepReached, reach_rules}
 use Rattle.bplist_lint.specs.FileFault.{IsCircle, IsFileFault, IsFileCircle}
@@ -36,7 +35,8 @@ use Rattle.bplist_lint.proofs.ReferenceGraph.{reach_iff, founded_iff, circle_iff
 use Rattle.bplist_cert.proofs.CheckSteps.{kept_by_good}
 use Rattle.bplist_cert.proofs.KeyRepeats.{good_at}
 use Rattle.bplist_lint.proofs.KeySteps.{keys_fault}
-use Rattle.bplist_lint.proofs.KeptRules.{kept_both, both_rules, kept_spells, kept_formed}
+use Rattle.bplist_lint.proofs.KeptRules.{keep_more, kept_both, kept_spells, kept_formed}
+use Rattle.bplist_lint.proofs.TallySteps.{sums_with, object_fault, room_fault, kept_with}
 
 module _ (f : List ℕ) (F : Frame) (frame : IsFrame f F) where
   -- ---- the graph of the references is finite
@@ -44,10 +44,8 @@ module _ (f : List ℕ) (F : Frame) (frame : IsFrame f F) where
   refs_inside n m c = refs_within f F n m ((refs_iff f F n m).1 c)
 
   reached_or_not : (n : ℕ) → Either (Reach f F n)
-  reached_or_not n = elim (reach_decided (refs_at f F) F.objects refs_inside F.top.0 (numbered frame).top n) [
-    | inl r ↦ inl ((reach_iff f F n).0 r)
-    | inr no1 ↦ inr (λ r. no1 ((reach_iff f F n).1 r))
-  ]
+  reached_or_not n =
+      ⊎_map (reach_iff f F n).0 (λ never r. never ((reach_iff f F n).1 r)) (reach_decided (refs_at f F) F.objects refs_inside F.top.0 (numbered frame).top n)
 
   -- ---- rules 14 to 20 and 31
   -- the reached objects below n keep these rules and take t bytes, for which there is room
@@ -56,37 +54,18 @@ module _ (f : List ℕ) (F : Frame) (frame : IsFrame f F) where
     sums : Sums f F (Reach f F) n t
     room : t + 8 ≤ F.table
 
-  keep_more : (n : ℕ) → KeepReached f F reach_rules n → (Reach f F n → KeepsAll (KeepsRule f F (Reach f F) (lists [] None) n) reach_rules) → KeepReached f F reach_rules (suc n)
-  keep_more n below own m lt r = elim (cases_lt m n) [
-    | inl l ↦ below m l r
-    | inr h ↦
-        let e : n ≡ m = omega (arith, lt, h) in
-        subst (λ k. KeepsAll (KeepsRule f F (Reach f F) (lists [] None) k) reach_rules) e (own (subst (Reach f F) (sym e) r))
-  ]
-
   module _ (n t : ℕ) (lt : n < F.objects) (p : IsPassed n t) (r : Reach f F n) where
-    own_fault : (fault : Fault) → IsFirstFault (KeepsRule f F (Reach f F) (lists [] None) n) (OfObject n (BreaksRule f F (Reach f F) (lists [] None) n)) reach_rules fault → IsReachedFault f F reach_rules fault
-    own_fault fault first = record { object = n; member = r; first = first; least = p.kept }
-
     pass_kept : KeepsAll (KeepsByObject f F n) object_rules → ((u : ℕ) × IsPassed (suc n) u) ⊎ ((fault : Fault) × IsReachedFault f F reach_rules fault)
     pass_kept kept =
-        let s = (keeps_iff f F n frame lt).0 kept in
-        let head = s.1.shape in
-        let u = t + (head.«end» - off f F n) in
-        let sums = sums_more f F (Reach f F) n (head.«end» - off f F n) t r (shape_extent f F n head s.1.has) p.sums in
+        let s = ((keeps_iff f F n frame lt).0 kept).1 in
+        let u = t + (s.shape.«end» - off f F n) in
         elim (cases_lt F.table (u + 8)) [
-          | inl full ↦
-              let fault = fault_at rules.Overfull n (off f F n) in
-              inr (
-                fault,
-                own_fault fault (first_fault_after (KeepsRule f F (Reach f F) (lists [] None) n) (OfObject n (BreaksRule f F (Reach f F) (lists [] None) n)) object_rules (rules.Overfull ∷ []) fault kept
-                    (inl (refl, (refl, (overfull f F (Reach f F) n u sums full, refl))))),
-              )
+          | inl full ↦ inr (fault_at rules.Overfull n (off f F n), room_fault f F n r p.kept frame lt t p.sums s.shape s.has.has kept (fault_at rules.Overfull n (off f F n)) refl refl refl full)
           | inr room ↦ inl (
             u,
             record {
-              kept = keep_more n p.kept (λ on. both_rules f F n kept (not_overfull f F (Reach f F) n u sums room));
-              sums = sums;
+              kept = kept_with f F n r p.kept frame lt t p.sums s.shape s.has.has kept room;
+              sums = sums_with f F n r p.kept frame lt t p.sums s.shape s.has.has kept;
               room = room;
             },
           )
@@ -95,7 +74,7 @@ module _ (f : List ℕ) (F : Frame) (frame : IsFrame f F) where
     pass_reached : ((u : ℕ) × IsPassed (suc n) u) ⊎ ((fault : Fault) × IsReachedFault f F reach_rules fault)
     pass_reached = elim (object_kept_or_fault f F n object_rules) [
       | inl kept ↦ pass_kept kept
-      | inr broken ↦ inr (broken.0, own_fault broken.0 (first_fault_among (KeepsRule f F (Reach f F) (lists [] None) n) (OfObject n (BreaksRule f F (Reach f F) (lists [] None) n)) object_rules (rules.Overfull ∷ []) broken.0 broken.1))
+      | inr broken ↦ inr (broken.0, object_fault f F n r p.kept broken.0 broken.1)
     ]
 
   pass : (n : ℕ) → n ≤ F.objects → ((t : ℕ) × IsPassed n t) ⊎ ((fault : Fault) × IsReachedFault f F reach_rules fault)
@@ -107,7 +86,7 @@ module _ (f : List ℕ) (F : Frame) (frame : IsFrame f F) where
       | inr never ↦ inl (
         before.0,
         record {
-          kept = keep_more n before.1.kept (λ r. absurd (never r));
+          kept = keep_more f F reach_rules n (suc n) (omega arith) before.1.kept (λ r. absurd (never r));
           sums = sums_same f F (Reach f F) n before.0 never before.1.sums;
           room = before.1.room;
         },
@@ -183,15 +162,9 @@ module _ (f : List ℕ) (F : Frame) (frame : IsFrame f F) where
 pub formed_or_fault : (f : List ℕ) → ((F : Frame) × IsWellFormed f F) ⊎ (((fault : Fault) × IsFileFault f fault) ⊎ ((circle : List ℕ) × IsFileCircle f circle))
 formed_or_fault f = elim (frame_kept_or_fault f) [
   | inr fault ↦ inr (inl (fault.0, inl fault.1))
-  | inl kept ↦ let F = trailer f in let frame = trailer_is_frame f kept in elim (formed_or_objects f F frame) [
-    | inl w ↦ inl (F, w)
-    | inr r ↦ inr r
-  ]
+  | inl kept ↦ ⊎_map (λ (w : IsWellFormed f (trailer f)). (trailer f, w)) (λ fault. fault) (formed_or_objects f (trailer f) (trailer_is_frame f kept))
 ]
 
 -- a file that is well formed holds a value
 pub value_or_fault : (f : List ℕ) → ((v : Value) × FileHolds f v) ⊎ (((fault : Fault) × IsFileFault f fault) ⊎ ((circle : List ℕ) × IsFileCircle f circle))
-value_or_fault f = elim (formed_or_fault f) [
-  | inl w ↦ inl (formed_holds f w.0 w.1)
-  | inr r ↦ inr r
-]
+value_or_fault f = ⊎_map (λ (w : (F : Frame) × IsWellFormed f F). formed_holds f w.0 w.1) (λ fault. fault) (formed_or_fault f)

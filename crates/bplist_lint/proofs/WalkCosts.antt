@@ -21,11 +21,11 @@ use Rattle.bplist_lint.specs.Trail.{trail_bytes}
 use Rattle.bplist_lint.specs.declared.graph.View.{View}
 use Rattle.bplist_lint.specs.declared.graph.View.TheVariants as views
 use Rattle.bplist_lint.specs.declared.heights.State.{State}
-use Rattle.bplist_lint.proofs.ExtentBytes.{extent_within, refs_bytes, shape_of}
+use Rattle.bplist_lint.proofs.ExtentBytes.{refs_bytes, shape_of}
 use Rattle.bplist_lint.proofs.HeightSteps.{first_is}
 use Rattle.bplist_lint.proofs.KeyClasses.{reached_sound}
 use Rattle.bplist_lint.proofs.ObjectReferences.{as_shape}
-use Rattle.bplist_lint.proofs.RangeSums.{extents_next, sum_below, sum_next}
+use Rattle.bplist_lint.proofs.RangeSums.{extent_is, extents_next, sum_below, sum_next}
 use Rattle.bplist_lint.proofs.ReachSteps.{marked_within}
 use Rattle.bplist_lint.proofs.ValueHeights.{all_closed}
 
@@ -85,7 +85,7 @@ module _ (f : List ℕ) (F : Frame) (safe : IsSafeFrame (length f) F) (framed : 
       let shape = shape_at n (omega (arith, marked_within marks n is, all)) is in
       let c = length (refs_in views.Values f F n) in
       let one : c * 1 ≤ c * F.ref_size = mul-le-mul_left c safe.safe.ref_low in
-      omega (arith, one, shown_bytes f F views.Values safe.safe.ref_low n shape.0 shape.1, extent_within f F n shape.0 shape.1, safe.small))
+      omega (arith, one, shown_bytes f F views.Values safe.safe.ref_low n shape.0 shape.1, extent_is f F n shape.0 shape.1.has, shape.1.inside, safe.small))
 
   -- the walk for the heights
   module _ (childless : List Bool) where

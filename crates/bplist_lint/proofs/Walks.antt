@@ -1,5 +1,5 @@
 -- What the one walk over the reached objects knows between two visits, and at its end.
-use Rattle.std.proofs.Common.{◌≡◌, ◌≢◌, ◌↔◌, ℕ, zero, suc, ◌+◌, ◌<◌, ◌≤◌, inl, inr, Bool, true, false, cond, List, [], ◌∷◌, ◌++◌, length, get_or, set, replicate, refl, sym, ap, ◌∙◌, subst, arith}
+use Rattle.std.proofs.Common.{◌≡◌, ◌≢◌, ℕ, zero, suc, ◌+◌, ◌<◌, ◌≤◌, inl, inr, Bool, true, false, cond, List, [], ◌∷◌, ◌++◌, length, get_or, set, replicate, Contains, refl, sym, ap, ◌∙◌, subst, arith}
 use Rattle.std.proofs.lemmas.Bool.{cases_eq, false≢true, false_from_ne_true}
 use Rattle.std.proofs.lemmas.List.{get_or-set_same, get_or-set_other, length-set, length-replicate, get_or_default}
 use Rattle.std.proofs.lemmas.List.Elements.{Contains-append_left, Contains-push, Contains-push_cases}
@@ -23,21 +23,20 @@ use Rattle.bplist_lint.specs.ReferenceGraph.{AreChildless}
 use Rattle.bplist_lint.specs.KeyClasses.{AreSound}
 use Rattle.bplist_lint.specs.ReachRules.{is_marked}
 use Rattle.bplist_lint.specs.Tallies.{IsTalliedWith}
-use Rattle.bplist_lint.specs.ReachWalk.{Noted, extent, extents_below, IsVisited, IsWalkState, IsWalked, AreNamed}
+use Rattle.bplist_lint.specs.ReachWalk.{AreApart, Noted, extent, extents_below, IsVisited, IsWalkState, IsWalked, AreNamed}
 use Rattle.bplist_lint.proofs.ExtentBytes.{sums_at}
 use Rattle.bplist_lint.proofs.KeptRules.{both_rules}
-use Rattle.bplist_lint.proofs.MarkSteps.{apart_none, apart_push, apart_front, apart_last, fresh-set}
-use Rattle.bplist_lint.proofs.RangeSums.{sum_below, sum_next, sum_none, sum_on, extent_is, references_of, references_are, extents_sum, references_sum}
+use Rattle.bplist_lint.proofs.MarkSteps.{or_then, apart_none, apart_push, apart_front, apart_last, fresh-set}
+use Rattle.bplist_lint.proofs.RangeSums.{sum_below, sum_most, sum_next, sum_none, sum_on, extent_is, references_of, references_are, extents_sum, references_sum}
 use Rattle.bplist_lint.proofs.ReachSteps.{marked_within}
 use Rattle.bplist_lint.proofs.ListWrites.{seen-set, unwritten}
 
 -- ---- sums below a number
 sum_alike : (g k : ℕ → ℕ) (n : ℕ) → ((m : ℕ) → m < n → g m ≡ k m) → sum_below g n ≡ sum_below k n
-sum_alike g k zero same = refl
-sum_alike g k (suc n) same =
-    let before = sum_alike g k n (λ m low. same m (omega arith)) in
-    let here = same n (omega arith) in
-    omega (arith, sum_next g n, sum_next k n)
+sum_alike g k n same =
+    let most = sum_most k g n (λ m low. omega (arith, same m low)) in
+    let least = sum_most g k n (λ m low. omega (arith, same m low)) in
+    omega arith
 
 -- one more number, with what is added for it
 sum_turned : (g k : ℕ → ℕ) (n i : ℕ) → i < n → ((m : ℕ) → m ≢ i → g m ≡ k m) → k i ≡ 0 → sum_below g n ≡ sum_below k n + g i
@@ -67,10 +66,6 @@ pub same_mark : (a b : Bool) → (a ≡ true → b ≡ true) → (b ≡ true →
 same_mark true b to from = sym (to refl)
 same_mark false true to from = absurd (false≢true (from refl))
 same_mark false false to from = refl
-
--- if both mark the same, the sums are the same
-sum_as_marked : (g : ℕ → ℕ) (marks visited : List Bool) (n : ℕ) → ((m : ℕ) → IsMarked marks m ↔ IsMarked visited m) → sum_below (λ m. cond (is_marked visited m) (g m) 0) n ≡ sum_below (λ m. cond (is_marked marks m) (g m) 0) n
-sum_as_marked g marks visited n same = sum_alike _ _ n (λ m low. ap (λ b. cond b (g m) 0) (same_mark (is_marked visited m) (is_marked marks m) (same m).1 (same m).0))
 
 module _ (f : List ℕ) (F : Frame) where
   -- ---- the beginning
@@ -104,21 +99,22 @@ module _ (f : List ℕ) (F : Frame) where
   visited_more marks marks' keys keys' n keeps more v = record { head = v.head; has = v.has; kept = v.kept; all = λ i low. keeps _ (v.all i low); named = λ head has dict k low. more _ (v.named head has dict k low) }
 
   module _ (n : ℕ) (marks childless keys : List Bool) (tally : Tally) (w : IsWalkState f F n [] marks childless keys tally) where
-    -- object n, which is not marked, is passed over
-    pub walking_over : get_or marks n false ≡ false → IsWalkState f F (n + 1) [] marks childless keys tally
-    walking_over unmarked = record {
+    -- object n is passed: if it is marked, it waits on the stack, and nothing else does
+    passed : (stack : List ℕ) → ((m : ℕ) → Contains stack m → m ≡ n) → AreApart stack → (Contains stack n → IsMarked marks n)
+        → (IsMarked marks n → Contains stack n) → IsWalkState f F (n + 1) stack marks childless keys tally
+    passed stack alone apart marked on = record {
       visited = w.visited;
       all_visited = w.all_visited;
       begun = w.begun;
       sound = w.sound;
-      waiting = λ m c. absurd (none_in m c);
-      apart = w.apart;
+      waiting = λ m c. let e = alone m c in rw e (marked (rw e at c), (λ h. let l = (w.each n h).1 in omega arith), omega arith);
+      apart = apart;
       closed = λ m h. elim (w.closed m h) [
         | inl from ↦ elim (cases_eq m n) [
-          | inl e ↦ absurd (false≢true (sym unmarked ∙ rw e at h))
+          | inl e ↦ inr (inl (rw e (on (rw e at h))))
           | inr ne ↦ inl (omega arith)
         ]
-        | inr later ↦ inr later
+        | inr later ↦ elim later [ inl none ↦ absurd (none_in m none) | inr visited ↦ inr (inr visited) ]
       ];
       each = λ m h. let v = w.each m h in (v.0, (let l = v.1 in omega arith), v.2);
       childless_known = w.childless_known;
@@ -127,31 +123,15 @@ module _ (f : List ℕ) (F : Frame) where
       references = w.references;
     }
 
-    -- object n, which is marked, is about to be visited
+    -- object n is not marked
+    pub walking_over : get_or marks n false ≡ false → IsWalkState f F (n + 1) [] marks childless keys tally
+    walking_over unmarked = passed [] (λ m c. absurd (none_in m c)) w.apart (λ c. absurd (none_in n c)) (λ is. absurd (false≢true (sym unmarked ∙ is)))
+
+    -- object n is marked, and is about to be visited
     pub walking_on : IsMarked marks n → IsWalkState f F (n + 1) ([] ++ n ∷ []) marks childless keys tally
-    walking_on marked = record {
-      visited = w.visited;
-      all_visited = w.all_visited;
-      begun = w.begun;
-      sound = w.sound;
-      waiting = λ m c. elim (Contains-push_cases [] n m c) [
-        | inl none ↦ absurd (none_in m none)
-        | inr e ↦ rw (← e) (marked, (λ h. let l = (w.each n h).1 in omega arith), omega arith)
-      ];
-      apart = apart_push [] n apart_none (none_in n);
-      closed = λ m h. elim (w.closed m h) [
-        | inl from ↦ elim (cases_eq m n) [
-          | inl e ↦ inr (inl (rw e (Contains-push [] n)))
-          | inr ne ↦ inl (omega arith)
-        ]
-        | inr later ↦ elim later [ inl on ↦ absurd (none_in m on) | inr visited ↦ inr (inr visited) ]
-      ];
-      each = λ m h. let v = w.each m h in (v.0, (let l = v.1 in omega arith), v.2);
-      childless_known = w.childless_known;
-      reached = w.reached;
-      used = w.used;
-      references = w.references;
-    }
+    walking_on marked =
+        passed ([] ++ n ∷ []) (λ m c. elim (Contains-push_cases [] n m c) [ inl none ↦ absurd (none_in m none) | inr e ↦ sym e ])
+        (apart_push [] n apart_none (none_in n)) (λ _. marked) (λ _. Contains-push [] n)
 
   -- object n of the stack is visited
   module _ (frame : IsFrame f F) (next0 n : ℕ) (within : n < F.objects) (stack : List ℕ) (marks childless keys : List Bool) (tally : Tally) (w : IsWalkState f F next0 (stack ++ n ∷ []) marks childless keys tally) where
@@ -176,17 +156,14 @@ module _ (f : List ℕ) (F : Frame) where
           ];
           apart = s.apart (λ m c. (w.waiting m (Contains-append_left stack (n ∷ []) m c)).0) (apart_front stack n w.apart);
           closed = λ m h. elim (s.fresh m h) [
-            | inl old ↦ elim (w.closed m old) [
-              | inl above ↦ inl above
-              | inr later ↦ elim later [
-                | inl waits ↦ elim (Contains-push_cases stack n m waits) [
-                  | inl rest ↦ inr (inl (s.keeps_stack m rest))
-                  | inr e ↦ inr (inr (rw (← e) (get_or-set_same w.visited n true false here)))
-                ]
-                | inr before ↦ inr (inr (seen-set w.visited n m here before))
+            | inl old ↦ or_then (w.closed m old) (λ later. elim later [
+              | inl waits ↦ elim (Contains-push_cases stack n m waits) [
+                | inl rest ↦ inl (s.keeps_stack m rest)
+                | inr e ↦ inr (rw (← e) (get_or-set_same w.visited n true false here))
               ]
-            ]
-            | inr new ↦ elim new.1 [ inl above ↦ inl above | inr waits ↦ inr (inl waits) ]
+              | inr before ↦ inr (seen-set w.visited n m here before)
+            ])
+            | inr new ↦ or_then new.1 (λ waits. inl waits)
           ];
           each = λ m h. elim (fresh-set w.visited n m h) [
             | inl before ↦ let v = w.each m before in (s.keeps_marks m v.0, v.1, visited_more _ _ _ _ m s.keeps_marks more v.2)
@@ -214,7 +191,7 @@ module _ (f : List ℕ) (F : Frame) where
         rw (← c.2) (rw (get_or_default (refs_at f F k) c.0 n 0 c.1) (v.all c.0 c.1))
 
     same_sum : (g : ℕ → ℕ) → sum_below (λ m. cond (is_marked w.visited m) (g m) 0) F.objects ≡ sum_below (λ m. cond (is_marked reached.marks.items m) (g m) 0) F.objects
-    same_sum g = sum_as_marked g reached.marks.items w.visited F.objects (λ m. (visited_as m, λ h. (w.each m h).0))
+    same_sum g = sum_alike _ _ F.objects (λ m low. ap (λ b. cond b (g m) 0) (same_mark (is_marked w.visited m) (is_marked reached.marks.items m) (λ h. (w.each m h).0) (visited_as m)))
 
     used_below : (n : ℕ) → n ≤ F.objects → extents_below f F (is_marked reached.marks.items) n + 8 ≤ F.table
     used_below n low =

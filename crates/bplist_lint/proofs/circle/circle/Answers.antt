@@ -48,12 +48,11 @@ walk-preserved g c =
 pub returns-clause-circle : goal.returns-clause-circle
 returns-clause-circle g c = λ honest whole.
     let l = c.walk.invariant.leading honest whole in
-    let p = c.walk.invariant.placed in
     elim c.walk-test.branch [
       | else-walk-test w ↦
           let at_index = rw (c.deref.ensures.value, w.trail-is) at c.index_in-index.ensures in
           let objects = rw (c.tail.ensures, c.deref-2.ensures.value, w.trail-is) at c.in_ok-named.ensures in
-          rw (objects, numbers_named) (is_circle _ _ _ _ _ _ _ p l at_index)
+          rw (objects, numbers_named) (is_circle _ _ _ _ _ _ _ c.walk.invariant.placed l at_index)
       | then-walk-test+in_ok-push+in_ok-m+in-None w ↦
           let have = (rw w.in-None.is at (rw (c.walk.invariant.same, c.walk.invariant.reads) at w.in_ok-m.ensures.first)) honest (whole _ l.reached) in
           absurd (l.not_founded (founded_all _ _ _ _ (c.requires.heights honest) have))

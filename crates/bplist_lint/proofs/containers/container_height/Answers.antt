@@ -82,7 +82,6 @@ returns-clause-exact g c = λ honest kept keys new.
 asked : (g : Over) (c : After-read_refs_in g) → HonestlyIn (g.P.Source.means c.args.src.now) (λ f F. g.P.Source.asked c.read_refs_in.new.src ≤ g.P.Source.asked c.args.src.now + (36 + extent f F c.args.n))
 asked g c honest =
     let i = c.loop-done.invariant in
-    let f = (g.P.Source.means c.args.src.now).octets in
     let F : Frame = frame_in (g.P.Source.means c.args.src.now) in
     let head = c.in-Some.head in
     let shape = rw c.in-Some.is at (c.in_ok-head.ensures.shape honest) in
@@ -93,7 +92,7 @@ asked g c honest =
     let low : done + now ≤ ref_count head.kind head.count = omega (arith, c.min-now.ensures, c.refs_of-refs.ensures, i.within) in
     let read = asked_on start _ _ done now F.ref_size i.asked (rw (i.reads, short) at c.read_refs_in.ensures.asks) in
     let all = asked_within start _ (done + now) (ref_count head.kind head.count) F.ref_size read low in
-    omega (arith, all, refs_bytes f F c.args.n head c.frame-frame.ensures.framed.safe.safe.ref_low shape)
+    omega (arith, all, refs_bytes _ F c.args.n head c.frame-frame.ensures.framed.safe.safe.ref_low shape)
 
 pub returns-in_err-read_refs_in-clause-asks : goal.returns-in_err-read_refs_in-clause-asks
 returns-in_err-read_refs_in-clause-asks g c = asked g (goal.at.returns-in_err-read_refs_in-clause-asks g c).After-read_refs_in
@@ -107,11 +106,10 @@ returns-in_default-greatest_height-clause-asks g c = asked g (goal.at.returns-in
 pub returns-clause-asks : goal.returns-clause-asks
 returns-clause-asks g c = λ honest.
     let i = c.loop-done.invariant in
-    let f = (g.P.Source.means c.args.src.now).octets in
     let F : Frame = frame_in (g.P.Source.means c.args.src.now) in
     let head = c.in-Some.head in
     let shape = rw c.in-Some.is at (c.in_ok-head.ensures.shape honest) in
-    let fit = refs_bytes f F c.args.n head c.frame-frame.ensures.framed.safe.safe.ref_low shape in
+    let fit = refs_bytes _ F c.args.n head c.frame-frame.ensures.framed.safe.safe.ref_low shape in
     let start = g.P.Source.asked c.args.src.now + 36 in
     let all = asked_within start _ c.loop-done.done (ref_count head.kind head.count) F.ref_size i.asked (omega (arith, i.within, c.refs_of-refs.ensures)) in
     omega (arith, all, fit)

@@ -1,7 +1,6 @@
 use Rattle.std.proofs.Common.{◌≡◌, ◌≤◌, ℕ, ◌+◌, ◌*◌, ◌-◌, inl, inr, refl, sym, ◌∙◌, subst, arith}
 use Rattle.std.proofs.lemmas.Bool.{false≢true}
 use Rattle.std.proofs.lemmas.Grind.{common_steps}
-use Rattle.bplist_objects.specs.declared.frame.Frame.{Frame}
 use Rattle.bplist_objects.specs.Framed.{HonestlyIn, frame_in}
 use Rattle.bplist_objects.proofs.FrameTies.{numbered}
 use Rattle.bplist_objects.proofs.ReachedObjects.{reach_within}
@@ -31,8 +30,6 @@ loop-n-init g c = record {
 pub loop-n-preserved-then-not-childless-n : goal.loop-n-preserved-then-not-childless-n
 loop-n-preserved-then-not-childless-n g c =
     let m = g.P.Source.means c.args.src.now in
-    let f = m.octets in
-    let F : Frame = frame_in m in
     let i = c.loop-n.invariant in
     let n : ℕ = c.loop-n.n - 1 in
     let next : n + 1 ≡ c.loop-n.n = omega (arith, c.loop-n-test.true) in
@@ -40,7 +37,7 @@ loop-n-preserved-then-not-childless-n g c =
       reads = c.in_ok-height.ensures.reads ∙ i.reads;
       asked = λ honest.
           let more = rw (← next) at (i.asked honest) in
-          let own = rw c.if-marks-n.true at (extents_more f F (is_marked c.args.marks.now) n) in
+          let own = rw c.if-marks-n.true at (extents_more m.octets (frame_in m) (is_marked c.args.marks.now) n) in
           let one = (rw i.reads at c.in_ok-height.ensures.asks) honest in
           omega (arith, more, own, one);
       all = grind (arith, common_steps);
@@ -55,24 +52,22 @@ loop-n-preserved-then-not-childless-n g c =
       ];
       finished = λ honest named marks kept childless are_named classes none first.
           let framed = c.frame-frame.ensures.framed.framed honest in
-          let sound = reached_sound f F c.args.marks.now c.requires.marks framed marks kept in
+          let sound = reached_sound _ _ c.args.marks.now c.requires.marks framed marks kept in
           let r = (marks n).0 c.if-marks-n.true in
-          let within = reach_within f F (numbered framed).top n r in
-          let keys = keys_known f F c.args.marks.now named c.args.table.now.classes.table.items n sound classes (are_named n r) within c.if-marks-n.true in
+          let within = reach_within _ _ (numbered framed).top n r in
+          let keys = keys_known _ _ c.args.marks.now named c.args.table.now.classes.table.items n sound classes (are_named n r) within c.if-marks-n.true in
           let new : IsNew c.loop-n.table.seen.items n = λ x e. elim (i.seen none x) [
             | inl zero ↦ absurd (omega (arith, zero, e))
             | inr above ↦ absurd (omega (arith, above, e, next))
           ] in
           let made = rw c.in-Some.is at ((rw (i.reads, i.same) at c.in_ok-height.ensures.exact) honest (sound.kept n c.if-marks-n.true) keys new) in
-          let before = subst (AreFinishedFrom f F c.args.marks.now c.args.childless.now c.loop-n.heights) (sym next) (i.finished honest named marks kept childless are_named classes none first) in
-          finished_more f F framed c.args.marks.now c.args.childless.now marks c.loop-n.heights n c.in-Some.height (omega (arith, within, i.all, c.requires.heights)) c.if-marks-n.true made.0 made.1 before;
+          let before = subst (AreFinishedFrom _ _ c.args.marks.now c.args.childless.now c.loop-n.heights) (sym next) (i.finished honest named marks kept childless are_named classes none first) in
+          finished_more _ _ framed c.args.marks.now c.args.childless.now marks c.loop-n.heights n c.in-Some.height (omega (arith, within, i.all, c.requires.heights)) c.if-marks-n.true made.0 made.1 before;
     }
 
 pub loop-n-preserved : goal.loop-n-preserved
 loop-n-preserved g c =
     let m = g.P.Source.means c.args.src.now in
-    let f = m.octets in
-    let F : Frame = frame_in m in
     let i = c.loop-n.invariant in
     let n : ℕ = c.loop-n.n - 1 in
     let next : n + 1 ≡ c.loop-n.n = omega (arith, c.loop-n-test.true) in
@@ -80,7 +75,7 @@ loop-n-preserved g c =
       reads = i.reads;
       asked = λ honest.
           let more = rw (← next) at (i.asked honest) in
-          let over = extents_more f F (is_marked c.args.marks.now) n in
+          let over = extents_more m.octets (frame_in m) (is_marked c.args.marks.now) n in
           omega (arith, more, over);
       all = i.all;
       room = i.room;
@@ -88,16 +83,16 @@ loop-n-preserved g c =
       seen = λ none x. elim (i.seen none x) [ inl zero ↦ inl zero | inr above ↦ inr (omega (arith, above, next)) ];
       finished = λ honest named marks kept childless are_named classes none first.
           let framed = c.frame-frame.ensures.framed.framed honest in
-          let before = subst (AreFinishedFrom f F c.args.marks.now c.args.childless.now c.loop-n.heights) (sym next) (i.finished honest named marks kept childless are_named classes none first) in
+          let before = subst (AreFinishedFrom _ _ c.args.marks.now c.args.childless.now c.loop-n.heights) (sym next) (i.finished honest named marks kept childless are_named classes none first) in
           elim c.else-marks-n.branch [
             | else-marks-n-via-then-marks-n+else-not-childless-n w ↦
-                let sound = reached_sound f F c.args.marks.now c.requires.marks framed marks kept in
-                let within = reach_within f F (numbered framed).top n ((marks n).0 w.if-marks-n.true) in
-                finished_over f F framed c.args.marks.now c.args.childless.now marks c.loop-n.heights n
-                (λ r. childless_keys f F n framed within (sound.kept n w.if-marks-n.true) (childless n w.if-not-childless-n.false).1)
+                let sound = reached_sound _ _ c.args.marks.now c.requires.marks framed marks kept in
+                let within = reach_within _ _ (numbered framed).top n ((marks n).0 w.if-marks-n.true) in
+                finished_over _ _ framed c.args.marks.now c.args.childless.now marks c.loop-n.heights n
+                (λ r. childless_keys _ _ n framed within (sound.kept n w.if-marks-n.true) (childless n w.if-not-childless-n.false).1)
                 (λ _. before.ones n w.if-not-childless-n.false) before
             | else-marks-n-via-else-marks-n w ↦
-                finished_over f F framed c.args.marks.now c.args.childless.now marks c.loop-n.heights n
+                finished_over _ _ framed c.args.marks.now c.args.childless.now marks c.loop-n.heights n
                 (λ r. absurd (false≢true (sym w.if-marks-n.false ∙ (marks n).1 r)))
                 (λ is. absurd (false≢true (sym w.if-marks-n.false ∙ is))) before
           ];

@@ -1,8 +1,8 @@
 use Rattle.std.proofs.Common.{◌≡◌, ◌∙◌, refl, subst, arith}
-use Rattle.std.proofs.lemmas.Result.{err_from_is_err_and}
 use Rattle.bplist_octets.specs.Meaning.{Meaning}
 use Rattle.bplist_objects.specs.Framed.{HonestlyIn}
 use Rattle.bplist_cert.specs.Refusals.{GivesRefusal}
+use Rattle.bplist_cert.proofs.CheckSteps.{on_err}
 use Rattle.bplist_lint.specs.FileFault.{IsFileFault, IsFileCircle}
 use Rattle.bplist_lint.proofs.Passes.{check_means, reached_room}
 use Rattle.bplist_lint.proofs.linter.certify_by_classes.Given.{Over}
@@ -27,9 +27,8 @@ pub returns-in_err-heights-clause-exact : goal.returns-in_err-heights-clause-exa
 returns-in_err-heights-clause-exact g c = λ honest.
     let m = g.P.Source.means c.args.src.now in
     let same : g.P.Source.means c.known_classes.new.src ≡ m = c.in_ok-classes.ensures.reads ∙ (freed g (goal.at.returns-in_err-heights-clause-exact g c).After-known_classes).0 in
-    let p = err_from_is_err_and c.from_residual-in_err-heights.result c.from_residual-in_err-heights.ensures.1 in
     let told = subst (λ (n : Meaning). HonestlyIn n (λ f F. GivesRefusal (IsFileFault f) c.in_err-heights.field-0.0)) same c.in_err-heights.ensures.exact honest in
-    rw (p.1, p.2) (check_means _ _ (IsFileCircle m.octets) c.in_err-heights.field-0.0 (λ fault h. h) told)
+    on_err _ _ _ _ c.from_residual-in_err-heights.ensures.1 (check_means _ _ (IsFileCircle m.octets) c.in_err-heights.field-0.0 (λ fault h. h) told)
 
 pub returns-in_err-classes-clause-asks : goal.returns-in_err-classes-clause-asks
 returns-in_err-classes-clause-asks g c = λ honest only.

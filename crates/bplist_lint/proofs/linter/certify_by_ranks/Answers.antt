@@ -1,9 +1,9 @@
 use Rattle.std.proofs.Common.{ℕ, ◌+◌, ◌*◌, ◌≤◌, List, None, length, subst, sym, arith}
-use Rattle.std.proofs.lemmas.Result.{err_from_is_err_and}
 use Rattle.bplist_objects.specs.declared.frame.Frame.{Frame}
 use Rattle.bplist_objects.specs.Answers.{Never}
 use Rattle.bplist_objects.specs.Framed.{HonestlyIn, frame_in}
 use Rattle.bplist_cert.specs.Lists.{lists}
+use Rattle.bplist_cert.proofs.CheckSteps.{on_err}
 use Rattle.bplist_lint.specs.FileFault.{IsFileCircle, IsFileFault}
 use Rattle.bplist_lint.specs.Linted.{IsLintedBy, lint_of}
 use Rattle.bplist_lint.specs.ReachWalk.{NamesMarked}
@@ -20,20 +20,16 @@ check_keys-requires-clause-known g c = rw c.in_ok-ranks.ensures.reads (λ honest
 
 pub returns-in_err-heights-clause-exact : goal.returns-in_err-heights-clause-exact
 returns-in_err-heights-clause-exact g c = λ honest.
-    let f = (g.P.Source.means c.args.src.now).octets in
-    let p = err_from_is_err_and c.from_residual-in_err-heights.result c.from_residual-in_err-heights.ensures.1 in
     let told = (rw c.in_ok-ranks.ensures.reads at c.in_err-heights.ensures.exact) honest in
-    rw (p.1, p.2) (check_means _ _ (IsFileCircle f) c.in_err-heights.field-0.0 (λ fault h. h) told)
+    on_err _ _ _ _ c.from_residual-in_err-heights.ensures.1 (check_means _ _ (IsFileCircle _) c.in_err-heights.field-0.0 (λ fault h. h) told)
 
 pub returns-in_err-list_by_ranks-clause-exact : goal.returns-in_err-list_by_ranks-clause-exact
 returns-in_err-list_by_ranks-clause-exact g c = λ honest.
-    let f = (g.P.Source.means c.args.src.now).octets in
     let known = c.requires.walked honest in
     let ranks = c.in_ok-ranks.ensures.exact honest in
     let linted = (rw (c.in_ok-heights.ensures.reads, c.in_ok-ranks.ensures.reads) at c.in_ok-heights-2.ensures.exact) honest in
     let never = (rw (c.in_ok-heights-2.ensures.reads, c.in_ok-heights.ensures.reads, c.in_ok-ranks.ensures.reads, c.in_ok-heights.ensures.same) at c.in_err-list_by_ranks.ensures.exact) honest linted.valid (_, ranks, λ n v. known.1 n (linted.least.only n v)) in
-    let p = err_from_is_err_and c.from_residual-in_err-list_by_ranks.result c.from_residual-in_err-list_by_ranks.ensures.1 in
-    rw (p.1, p.2) (check_means Never (IsFileFault f) (IsFileCircle f) c.in_err-list_by_ranks.field-0.0 (λ fault h. absurd h) never)
+    on_err _ _ _ _ c.from_residual-in_err-list_by_ranks.ensures.1 (check_means Never (IsFileFault _) (IsFileCircle _) c.in_err-list_by_ranks.field-0.0 (λ fault h. absurd h) never)
 
 pub returns-clause-exact : goal.returns-clause-exact
 returns-clause-exact g c = λ honest.

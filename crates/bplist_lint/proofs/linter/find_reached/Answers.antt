@@ -9,7 +9,6 @@ use Rattle.bplist_lint.proofs.linter.find_reached.Goals as goal
 
 pub returns-clause-exact : goal.returns-clause-exact
 returns-clause-exact g c = λ honest.
-    let f = (g.P.Source.means c.args.src.now).octets in
     let F : Frame = frame_in (g.P.Source.means c.args.src.now) in
     let walked = c.in_ok-known.ensures.reads in
     let framed = (rw walked at c.frame-frame.ensures.framed.framed) honest in
@@ -19,5 +18,5 @@ returns-clause-exact g c = λ honest.
     let named = c.in_ok-marks.ensures.named in
     let tallied = (rw (c.deref.ensures.value, c.in_ok-marks.ensures.reads, walked) at c.in_ok-tally.ensures.exact) honest marked in (
       record { marked = marked; childless = λ n is. absurd (false≢true (sym (unwritten F.objects n false) ∙ (rw childless at is))); tallied = tallied },
-      rw named (reached_named f F c.in_ok-marks.field-0.marks.items all framed marked tallied.kept),
+      rw named (reached_named _ F c.in_ok-marks.field-0.marks.items all framed marked tallied.kept),
     )

@@ -1,19 +1,16 @@
 use Rattle.std.proofs.Common.{◌≡◌, ◌∙◌, rules}
-use Rattle.std.proofs.lemmas.Result.{err_from_is_err_and}
+use Rattle.bplist_cert.proofs.CheckSteps.{on_err}
 use Rattle.bplist_lint.specs.FileFault.{IsFileCircle}
 use Rattle.bplist_lint.proofs.Passes.{check_means, fault_passed, file_asked, lint_asked}
 use Rattle.bplist_lint.proofs.linter.lint_file.Goals as goal
 
 pub returns-in_err-frame-clause-exact : goal.returns-in_err-frame-clause-exact
 returns-in_err-frame-clause-exact g c = λ honest.
-    let f = (g.S.Source.means c.args.src.now).octets in
-    let p = err_from_is_err_and c.from_residual.result c.from_residual.ensures.1 in
-    rw (p.1, p.2) (check_means _ _ (IsFileCircle f) c.in_err-frame.field-0.0 (λ fault h. h) (c.in_err-frame.ensures.exact honest))
+    on_err _ _ _ _ c.from_residual.ensures.1 (check_means _ _ (IsFileCircle _) c.in_err-frame.field-0.0 (λ fault h. h) (c.in_err-frame.ensures.exact honest))
 
 pub returns-in_err-certificate-clause-exact : goal.returns-in_err-certificate-clause-exact
 returns-in_err-certificate-clause-exact g c = λ honest.
-    let p = err_from_is_err_and c.from_residual-in_err-certificate.result c.from_residual-in_err-certificate.ensures.1 in
-    rw (p.1, p.2) (fault_passed _ _ (c.new-file.ensures.means ∙ c.in_ok-frame.ensures.reads) c.in_err-certificate.field-0.0 c.in_err-certificate.ensures.exact honest)
+    on_err _ _ _ _ c.from_residual-in_err-certificate.ensures.1 (fault_passed _ _ (c.new-file.ensures.means ∙ c.in_ok-frame.ensures.reads) c.in_err-certificate.field-0.0 c.in_err-certificate.ensures.exact honest)
 
 pub returns-in_err-certificate-clause-asks : goal.returns-in_err-certificate-clause-asks
 returns-in_err-certificate-clause-asks g c = λ honest.

@@ -50,10 +50,8 @@ loop-number-preserved g c =
 
 pub returns-clause-exact : goal.returns-clause-exact
 returns-clause-exact g c = λ honest known.
-    let f = (g.P.Source.means c.args.src.now).octets in
-    let F : Frame = frame_in (g.P.Source.means c.args.src.now) in
     let h = c.args.head.now in
     let i = c.loop-number.invariant in (
-      (λ _. all_good f F h c.frame-frame.ensures.framed.safe.safe.ref_low c.requires.head c.loop-number.good.words.items (i.good honest known) (λ k low. i.known _ (omega (arith, c.ref_numbers-first.ensures.first)) (omega (arith, low, c.loop-number-test.false, c.ref_numbers-first.ensures.first, c.ref_numbers-first.ensures.end)))),
+      (λ _. all_good _ _ h c.frame-frame.ensures.framed.safe.safe.ref_low c.requires.head c.loop-number.good.words.items (i.good honest known) (λ k low. i.known _ (omega (arith, c.ref_numbers-first.ensures.first)) (omega (arith, low, c.loop-number-test.false, c.ref_numbers-first.ensures.first, c.ref_numbers-first.ensures.end)))),
       (λ _. search rules),
     )

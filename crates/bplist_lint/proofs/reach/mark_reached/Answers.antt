@@ -9,8 +9,7 @@ use Rattle.bplist_lint.specs.declared.bit_set.BitSet.{BitSet}
 use Rattle.bplist_lint.proofs.ObjectReferences.{no_refs_shape, broken_count, refs_as_shape}
 use Rattle.bplist_lint.specs.BitSets.{count_in}
 use Rattle.bplist_lint.specs.ReachSearch.{index_count}
-use Rattle.bplist_lint.proofs.BitCounts.{count_few}
-use Rattle.bplist_lint.proofs.ReachSteps.{ready_popped, searching_step, searching_none, searching_end, size_small}
+use Rattle.bplist_lint.proofs.ReachSteps.{ready_popped, searching_step, searching_none, searching_end, places_few}
 use Rattle.bplist_lint.proofs.reach.mark_reached.Goals as goal
 
 pub loop-n-preserved-in_default-2 : goal.loop-n-preserved-in_default-2
@@ -82,35 +81,32 @@ returns-clause-exact g c = λ honest.
 
 pub returns-clause-asks : goal.returns-clause-asks
 returns-clause-asks g c =
-    let F : Frame = frame_in (g.P.Source.means c.args.src.now) in
-    omega (arith, c.loop-n.invariant.asked, count_few c.loop-n.search.good.words.items (index_count F), count_few c.loop-n.search.followed.words.items (index_count F), size_small F, c.frame.ensures.framed.safe.safe.ref_high)
+    omega (arith, c.loop-n.invariant.asked, places_few _ c.frame.ensures.framed.safe c.loop-n.search.good.words.items c.loop-n.search.followed.words.items)
 
 pub returns-in_err-head-clause-asks : goal.returns-in_err-head-clause-asks
 returns-in_err-head-clause-asks g c =
-    let F : Frame = frame_in (g.P.Source.means c.args.src.now) in
-    omega (arith, c.loop-n.invariant.asked, c.shape_there.ensures.asks, ap length c.in-Some.ensures.items, length_push c.pop.new.self.items c.in-Some.n, count_few c.loop-n.search.good.words.items (index_count F), count_few c.loop-n.search.followed.words.items (index_count F), size_small F, c.frame.ensures.framed.safe.safe.ref_high)
+    let few = places_few _ c.frame.ensures.framed.safe c.loop-n.search.good.words.items c.loop-n.search.followed.words.items in
+    omega (arith, c.loop-n.invariant.asked, c.shape_there.ensures.asks, ap length c.in-Some.ensures.items, length_push c.pop.new.self.items c.in-Some.n, few)
 
 pub returns-in_err-all-clause-asks : goal.returns-in_err-all-clause-asks
 returns-in_err-all-clause-asks g c =
-    let F : Frame = frame_in (g.P.Source.means c.args.src.now) in
     let i = c.loop-n.invariant in
     let good = rw i.ready.good_size at c.are_good.ensures.asks in
-    omega (arith, i.asked, c.in_ok-head.ensures.asks, good, ap length c.in-Some.ensures.items, length_push c.pop.new.self.items c.in-Some.n, count_few c.are_good.new.good.words.items (index_count F), count_few c.loop-n.search.followed.words.items (index_count F), size_small F, c.frame.ensures.framed.safe.safe.ref_high)
+    let few = places_few _ c.frame.ensures.framed.safe c.are_good.new.good.words.items c.loop-n.search.followed.words.items in
+    omega (arith, i.asked, c.in_ok-head.ensures.asks, good, ap length c.in-Some.ensures.items, length_push c.pop.new.self.items c.in-Some.n, few)
 
 pub returns-in_err-follow-clause-asks : goal.returns-in_err-follow-clause-asks
 returns-in_err-follow-clause-asks g c =
-    let F : Frame = frame_in (g.P.Source.means c.args.src.now) in
     let i = c.loop-n.invariant in
     let good = rw i.ready.good_size at c.are_good.ensures.asks in
     let followed = rw i.ready.followed_size at c.follow.ensures.asks in
-    omega (arith, i.asked, c.in_ok-head.ensures.asks, good, followed, ap length c.in-Some.ensures.items, length_push c.pop.new.self.items c.in-Some.n, count_few c.are_good.new.good.words.items (index_count F), count_few c.follow.new.search.followed.words.items (index_count F), size_small F, c.frame.ensures.framed.safe.safe.ref_high)
+    let few = places_few _ c.frame.ensures.framed.safe c.are_good.new.good.words.items c.follow.new.search.followed.words.items in
+    omega (arith, i.asked, c.in_ok-head.ensures.asks, good, followed, ap length c.in-Some.ensures.items, length_push c.pop.new.self.items c.in-Some.n, few)
 
 pub returns-in_err-named-clause-asks : goal.returns-in_err-named-clause-asks
 returns-in_err-named-clause-asks g c =
-    let F : Frame = frame_in (g.P.Source.means c.args.src.now) in
-    omega (arith, c.loop-n.invariant.asked, count_few c.loop-n.search.good.words.items (index_count F), count_few c.loop-n.search.followed.words.items (index_count F), size_small F, c.frame.ensures.framed.safe.safe.ref_high)
+    omega (arith, c.loop-n.invariant.asked, places_few _ c.frame.ensures.framed.safe c.loop-n.search.good.words.items c.loop-n.search.followed.words.items)
 
 pub returns-in_err-vec-clause-asks : goal.returns-in_err-vec-clause-asks
 returns-in_err-vec-clause-asks g c =
-    let F : Frame = frame_in (g.P.Source.means c.args.src.now) in
-    omega (arith, c.loop-n.invariant.asked, count_few c.loop-n.search.good.words.items (index_count F), count_few c.loop-n.search.followed.words.items (index_count F), size_small F, c.frame.ensures.framed.safe.safe.ref_high)
+    omega (arith, c.loop-n.invariant.asked, places_few _ c.frame.ensures.framed.safe c.loop-n.search.good.words.items c.loop-n.search.followed.words.items)

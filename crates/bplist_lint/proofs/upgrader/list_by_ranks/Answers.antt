@@ -1,10 +1,10 @@
 use Rattle.std.proofs.Common.{◌≡◌, ◌+◌, ◌≤◌, ◌<◌, ap, length, slice_index, replicate, arith, rules, ◌∙◌}
 use Rattle.std.proofs.lemmas.Grind.{common_steps}
 use Rattle.std.proofs.lemmas.List.{get_or_read}
-use Rattle.std.proofs.lemmas.Result.{err_from_is_err_and}
 use Rattle.bplist_objects.specs.declared.frame.Frame.{Frame}
 use Rattle.bplist_objects.specs.Framed.{frame_in}
 use Rattle.bplist_cert.specs.Valid.{IsVouchedBy}
+use Rattle.bplist_cert.proofs.CheckSteps.{on_err}
 use Rattle.bplist_lint.specs.ReachRules.{is_marked}
 use Rattle.bplist_lint.proofs.RangeSums.{extents_more, extents_on}
 use Rattle.bplist_lint.proofs.ListWrites.{nothing, unwritten}
@@ -15,12 +15,11 @@ use Rattle.bplist_lint.proofs.upgrader.list_by_ranks.Goals.{then-index-gt0+in_ok
 pub returns-in_err-starts-2-clause-exact : goal.returns-in_err-starts-2-clause-exact
 returns-in_err-starts-2-clause-exact g c = λ honest valid ranked.
     let v = c.loop-n.invariant in
-    let p = err_from_is_err_and c.from_residual-in_err-starts-2.result c.from_residual-in_err-starts-2.ensures.1 in
     let low = rw c.frame-frame.ensures.frame at c.loop-n-test.true in
     let room : c.loop-n.n < length c.loop-n.starts.items = omega (arith, v.all, c.loop-n.starts.ok.0, low) in
     let here : c.index.result.now ≡ slice_index c.args.heights.items c.loop-n.n = get_or_read c.args.heights.items c.loop-n.n c.index.result.now (omega (arith, low, c.requires)) c.index.ensures 0 in
     let vouched : IsVouchedBy c.args.heights.items c.loop-n.n = omega (arith, here, c.if-index-gt0.true) in
-    rw (p.1, p.2) ((rw v.reads at c.in_err-starts-2.ensures.exact) honest ranked.0 c.args.heights.items c.loop-n.starts.items (rw v.same ranked.1) (ranked.2 c.loop-n.n vouched) valid vouched room (v.exact honest valid ranked))
+    on_err _ _ _ _ c.from_residual-in_err-starts-2.ensures.1 ((rw v.reads at c.in_err-starts-2.ensures.exact) honest ranked.0 c.args.heights.items c.loop-n.starts.items (rw v.same ranked.1) (ranked.2 c.loop-n.n vouched) valid vouched room (v.exact honest valid ranked))
 
 pub loop-n-init : goal.loop-n-init
 loop-n-init g c =

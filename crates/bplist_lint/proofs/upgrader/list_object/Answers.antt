@@ -1,13 +1,11 @@
 use Rattle.std.proofs.Common.{◌≡◌, ◌≤◌, ◌+◌, ◌∙◌, sym, length, arith}
 use Rattle.std.proofs.lemmas.Bool.{false≢true}
 use Rattle.std.proofs.lemmas.Option.{same_Some}
-use Rattle.std.proofs.lemmas.Result.{err_from_is_err_and}
-use Rattle.bplist_objects.specs.declared.frame.Frame.{Frame}
 use Rattle.bplist_objects.specs.declared.head.Kind.TheVariants as kinds
-use Rattle.bplist_objects.specs.Framed.{HonestlyIn, frame_in}
+use Rattle.bplist_objects.specs.Framed.{HonestlyIn}
 use Rattle.bplist_objects.proofs.FirstFaults.{no_shape}
 use Rattle.bplist_objects.proofs.HeadTies.{announced_shape, shape_announced, shape_tie}
-use Rattle.bplist_cert.proofs.CheckSteps.{object_refused}
+use Rattle.bplist_cert.proofs.CheckSteps.{object_refused, on_err}
 use Rattle.bplist_objects.proofs.FrameTies.{numbered}
 use Rattle.bplist_lint.proofs.ExtentBytes.{keys_bytes}
 use Rattle.bplist_lint.proofs.KeyLists.{have_ranks}
@@ -25,60 +23,48 @@ returns-in_default-clause-exact g c = λ honest named heights starts ranked give
 
 pub returns-then-ne-clause-exact : goal.returns-then-ne-clause-exact
 returns-then-ne-clause-exact g c = λ honest named heights starts ranked given valid v room l.
-    let f = (g.P.Source.means c.args.src.now).octets in
-    let F : Frame = frame_in (g.P.Source.means c.args.src.now) in
     let s = (valid.vouched c.args.n v).spells in
     let kind = rw c.in-Some.is at (c.in_ok-kind.ensures.shape honest s.shape s.has) in
-    listed_other f F heights c.args.n starts c.args.lists.now.positions.items l v room s.shape s.has (λ dict.
+    listed_other _ _ heights c.args.n starts c.args.lists.now.positions.items l v room s.shape s.has (λ dict.
     let is : c.in-Some.kind ≡ kinds.Dict = same_Some _ _ kind ∙ dict in
     false≢true (sym (rw is at c.ne.ensures) ∙ c.if-ne.true))
 
 pub returns-in_err-head-clause-exact : goal.returns-in_err-head-clause-exact
 returns-in_err-head-clause-exact g c = λ honest named heights starts ranked given valid v room l.
-    let f = (g.P.Source.means c.args.src.now).octets in
-    let F : Frame = frame_in (g.P.Source.means c.args.src.now) in
     let s = (valid.vouched c.args.n v).spells in
-    let p = err_from_is_err_and c.from_residual-in_err-head.result c.from_residual-in_err-head.ensures.1 in
-    rw (p.1, p.2) (object_refused _ _ c.in_err-head.field-0.0 (λ fault h. absurd (no_shape f F c.args.n fault s.shape h s.has)) ((rw c.in_ok-kind.ensures.reads at c.in_err-head.ensures.rules) honest))
+    on_err _ _ _ _ c.from_residual-in_err-head.ensures.1 (object_refused _ _ c.in_err-head.field-0.0 (λ fault h. absurd (no_shape _ _ c.args.n fault s.shape h s.has)) ((rw c.in_ok-kind.ensures.reads at c.in_err-head.ensures.rules) honest))
 
 pub returns-then-head-start-clause-exact : goal.returns-then-head-start-clause-exact
 returns-then-head-start-clause-exact g c = λ honest named heights starts ranked given valid v room l.
-    let f = (g.P.Source.means c.args.src.now).octets in
-    let F : Frame = frame_in (g.P.Source.means c.args.src.now) in
     let n = c.args.n in
     let head = c.in_ok-head.head in
-    let shape = (shape_tie f F n valid.frame c.requires.within head).0 ((rw c.in_ok-kind.ensures.reads at c.in_ok-head.ensures.rules) honest) in
-    let has = shape_announced f F n head shape in
+    let shape = (shape_tie _ _ n valid.frame c.requires.within head).0 ((rw c.in_ok-kind.ensures.reads at c.in_ok-head.ensures.rules) honest) in
+    let has = shape_announced _ _ n head shape in
     let begin : c.len-start.result ≡ length c.args.lists.now.positions.items = omega (arith, c.args.lists.now.positions.ok.0, c.len-start.ensures) in
-    let fits = listed_room f F heights n starts c.args.lists.now.positions.items l v room head shape c.in-Dict.is (numbered valid.frame).ref_size.0 valid.room in
+    let fits = listed_room _ _ heights n starts c.args.lists.now.positions.items l v room head shape c.in-Dict.is (numbered valid.frame).ref_size.0 valid.room in
     omega (arith, fits, begin, (numbered valid.frame).table_late, (numbered valid.frame).large, c.if-head-start.true)
 
 pub returns-in_err-list-in-Dict-clause-exact : goal.returns-in_err-list-in-Dict-clause-exact
 returns-in_err-list-in-Dict-clause-exact g c = λ honest named heights starts ranked given valid v room l.
-    let f = (g.P.Source.means c.args.src.now).octets in
-    let F : Frame = frame_in (g.P.Source.means c.args.src.now) in
     let n = c.args.n in
     let head = c.in_ok-head.head in
-    let shape = (shape_tie f F n valid.frame c.requires.within head).0 ((rw c.in_ok-kind.ensures.reads at c.in_ok-head.ensures.rules) honest) in
-    let has = shape_announced f F n head shape in
-    let keys = vouched_keys f F heights valid n v head has c.in-Dict.is in
-    let have = have_ranks f F named c.args.lists.now.ranks.table.items ranked n given head has c.in-Dict.is keys.0 keys.1 in
-    let p = err_from_is_err_and c.from_residual-in_err-list-in-Dict.result c.from_residual-in_err-list-in-Dict.ensures.1 in
-    rw (p.1, p.2) ((rw (c.in_ok-head.ensures.reads, c.in_ok-kind.ensures.reads) at c.in_err-list-in-Dict.ensures.exact) honest have)
+    let shape = (shape_tie _ _ n valid.frame c.requires.within head).0 ((rw c.in_ok-kind.ensures.reads at c.in_ok-head.ensures.rules) honest) in
+    let has = shape_announced _ _ n head shape in
+    let keys = vouched_keys _ _ heights valid n v head has c.in-Dict.is in
+    let have = have_ranks _ _ named c.args.lists.now.ranks.table.items ranked n given head has c.in-Dict.is keys.0 keys.1 in
+    on_err _ _ _ _ c.from_residual-in_err-list-in-Dict.ensures.1 ((rw (c.in_ok-head.ensures.reads, c.in_ok-kind.ensures.reads) at c.in_err-list-in-Dict.ensures.exact) honest have)
 
 pub returns-in_ok-list-in-Dict-clause-exact : goal.returns-in_ok-list-in-Dict-clause-exact
 returns-in_ok-list-in-Dict-clause-exact g c = λ honest named heights starts ranked given valid v room l.
-    let f = (g.P.Source.means c.args.src.now).octets in
-    let F : Frame = frame_in (g.P.Source.means c.args.src.now) in
     let n = c.args.n in
     let head = c.in_ok-head.head in
-    let shape = (shape_tie f F n valid.frame c.requires.within head).0 ((rw c.in_ok-kind.ensures.reads at c.in_ok-head.ensures.rules) honest) in
-    let has = shape_announced f F n head shape in
-    let keys = vouched_keys f F heights valid n v head has c.in-Dict.is in
-    let have = have_ranks f F named c.args.lists.now.ranks.table.items ranked n given head has c.in-Dict.is keys.0 keys.1 in
+    let shape = (shape_tie _ _ n valid.frame c.requires.within head).0 ((rw c.in_ok-kind.ensures.reads at c.in_ok-head.ensures.rules) honest) in
+    let has = shape_announced _ _ n head shape in
+    let keys = vouched_keys _ _ heights valid n v head has c.in-Dict.is in
+    let have = have_ranks _ _ named c.args.lists.now.ranks.table.items ranked n given head has c.in-Dict.is keys.0 keys.1 in
     let begin : c.len-start.result ≡ length c.args.lists.now.positions.items = omega (arith, c.args.lists.now.positions.ok.0, c.len-start.ensures) in
     let listed = (rw (c.in_ok-head.ensures.reads, c.in_ok-kind.ensures.reads) at c.in_ok-list-in-Dict.ensures.exact) honest have in
-    rw begin (listed_dict f F heights n starts c.args.lists.now.positions.items l v room head shape c.in-Dict.is (numbered valid.frame).ref_size.0 c.list.new.self.positions.items listed)
+    rw begin (listed_dict _ _ heights n starts c.args.lists.now.positions.items l v room head shape c.in-Dict.is (numbered valid.frame).ref_size.0 c.list.new.self.positions.items listed)
 
 pub returns-in_default-kind : goal.returns-in_default-kind
 returns-in_default-kind g c = record {
@@ -87,26 +73,22 @@ returns-in_default-kind g c = record {
   same = cc;
   few = c.requires.few;
   exact = λ honest named heights starts ranked given valid v room l.
-      let f = (g.P.Source.means c.args.src.now).octets in
-      let F : Frame = frame_in (g.P.Source.means c.args.src.now) in
       let n = c.args.n in
       let head = c.in_ok-head.head in
-      let shape = (shape_tie f F n valid.frame c.requires.within head).0 ((rw c.in_ok-kind.ensures.reads at c.in_ok-head.ensures.rules) honest) in
-      let has = shape_announced f F n head shape in
-      listed_other f F heights n starts c.args.lists.now.positions.items l v room head shape c.in_default-kind.not-Dict;
+      let shape = (shape_tie _ _ n valid.frame c.requires.within head).0 ((rw c.in_ok-kind.ensures.reads at c.in_ok-head.ensures.rules) honest) in
+      let has = shape_announced _ _ n head shape in
+      listed_other _ _ heights n starts c.args.lists.now.positions.items l v room head shape c.in_default-kind.not-Dict;
 }
 
 -- what was asked for with the key list
 asked : (g : Over) (c : After-list g) → HonestlyIn (g.P.Source.means c.args.src.now) (λ f F. g.P.Source.asked c.list.new.src ≤ g.P.Source.asked c.args.src.now + (53 + extent f F c.args.n))
 asked g c honest =
-    let f = (g.P.Source.means c.args.src.now).octets in
-    let F : Frame = frame_in (g.P.Source.means c.args.src.now) in
     let framed = c.frame-frame.ensures.framed in
     let head = c.in_ok-head.head in
     let has = (rw c.in_ok-kind.ensures.reads at c.in_ok-head.ensures.rules) honest in
-    let shape = announced_shape f F c.args.n (framed.framed honest) c.requires.within head has.0 has.1 in
+    let shape = announced_shape _ _ c.args.n (framed.framed honest) c.requires.within head has.0 has.1 in
     let read = rw (c.in_ok-head.ensures.reads, c.in_ok-kind.ensures.reads) at c.list.ensures.asks in
-    omega (arith, c.in_ok-kind.ensures.asks, c.in_ok-head.ensures.asks, read, keys_bytes f F c.args.n head framed.safe.safe.ref_low c.in-Dict.is shape)
+    omega (arith, c.in_ok-kind.ensures.asks, c.in_ok-head.ensures.asks, read, keys_bytes _ _ c.args.n head framed.safe.safe.ref_low c.in-Dict.is shape)
 
 pub returns-in_err-list-in-Dict-clause-asks : goal.returns-in_err-list-in-Dict-clause-asks
 returns-in_err-list-in-Dict-clause-asks g c = asked g (goal.at.returns-in_err-list-in-Dict-clause-asks g c).After-list

@@ -1,7 +1,6 @@
 use Rattle.std.proofs.Common.{◌≡◌, ◌<◌, vec_len, arith, rules, false, length, replicate, sym, ◌∙◌}
 use Rattle.std.proofs.lemmas.Grind.{common_steps}
 use Rattle.std.proofs.lemmas.List.{get_or_read}
-use Rattle.bplist_objects.specs.declared.frame.Frame.{Frame}
 use Rattle.bplist_objects.specs.Framed.{frame_in}
 use Rattle.bplist_lint.proofs.Walks.{walking_start, walking_over}
 use Rattle.bplist_lint.proofs.MarkSteps.{none_marked}
@@ -22,9 +21,7 @@ loop-n-init g c =
       steady = search rules;
       empty = grind (arith, common_steps);
       walking = λ honest.
-          let f = (g.P.Source.means c.args.src.now).octets in
-          let F : Frame = frame_in (g.P.Source.means c.args.src.now) in
-          rw (marks_new, childless_new, c.new-2.ensures, c.frame-frame.ensures.frame) (walking_start f F c.frame-frame.ensures.framed.safe.top _);
+          rw (marks_new, childless_new, c.new-2.ensures, c.frame-frame.ensures.frame) (walking_start _ _ c.frame-frame.ensures.framed.safe.top _);
     }
 
 pub loop-n-preserved : goal.loop-n-preserved

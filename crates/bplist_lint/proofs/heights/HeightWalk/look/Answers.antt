@@ -27,7 +27,6 @@ pub loop-more-preserved : goal.loop-more-preserved
 loop-more-preserved g c =
     let i = c.loop-more.invariant in
     let states = c.args.self.now.states.items in
-    let heights = c.args.self.now.heights.items in
     let best : c.max-best.result ≡ max c.loop-more.best c.in-Founded.height = grind (arith, common_steps) in
     let long : length c.read.new.block ≡ c.loop-more.portion = grind (arith, common_steps) in
     let asked = rw i.same at c.in_ok-count.ensures.asks in
@@ -49,7 +48,7 @@ loop-more-preserved g c =
           let shows = c.in-Founded.ensures.shows refl in (
             omega (arith, o.0, part.0),
             part_all _ _ _ _ part (λ m. state_at states m ≡ Founded) o.1 shows.0,
-            best ∙ greatest_part heights _ _ _ _ _ _ o.0 part o.2 shows.1,
+            best ∙ greatest_part c.args.self.now.heights.items _ _ _ _ _ _ o.0 part o.2 shows.1,
             λ less. let other : c.in_ok-count.count ≢ c.loop-more.portion = eqb-false _ _ less in omega (arith, part.0, long, other),
           );
       passed = λ honest whole within.

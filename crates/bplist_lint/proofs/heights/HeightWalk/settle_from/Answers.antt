@@ -5,7 +5,7 @@ use Rattle.bplist_keys.specs.Marks.{IsMarked}
 use Rattle.bplist_lint.specs.HeightWalks.{state_at, AreClosed, Walks, left_of}
 use Rattle.bplist_lint.specs.declared.heights.State.TheVariants.{New, Open, Founded, Circular}
 use Rattle.bplist_lint.proofs.HeightCosts.{left_settle, left_opens, left_resumes, left_open}
-use Rattle.bplist_lint.proofs.HeightSteps.{work, stays_known, no_height, met_on, top_open, top_within, top_room, top_marked, standing_back, standing_open, standing_settle, work_settle, walking_slot, walking_open, walking_settle, not_founded, least_height, among_at}
+use Rattle.bplist_lint.proofs.HeightSteps.{stays_known, settles_more, no_height, met_on, top_open, top_within, top_room, top_marked, standing_back, standing_open, standing_settle, work_settle, walking_slot, walking_open, walking_settle, not_founded, least_height, among_at}
 use Rattle.bplist_lint.proofs.heights.HeightWalk.settle_from.Given.{Over}
 use Rattle.bplist_lint.proofs.heights.HeightWalk.settle_from.Goals.{After-look_on}
 use Rattle.bplist_lint.proofs.heights.HeightWalk.settle_from.Goals as goal
@@ -38,10 +38,7 @@ loop-m-preserved-in-Continue-branch-5 g c =
       reads = c.in_ok-i.ensures.reads ∙ i.reads;
       standing = rw (c.open-in-New-2.ensures.states, c.in_ok-open-in-New-2.ensures.stack, c.in_ok-push-in-New-2.ensures.items)
           (standing_open _ _ _ _ next (standing_back _ _ _ _ _ s heights' long others) new.0 new.1);
-      settles = record {
-        sees = rw c.open-in-New-2.ensures.states (stays_known states next Open within (λ e. cc e) c.args.n i.settles.sees);
-        keeps = λ k known. rw c.open-in-New-2.ensures.states (stays_known states next Open within (λ e. cc e) k (i.settles.keeps k known));
-      };
+      settles = settles_more _ _ _ _ next Open within (λ e. cc e) c.open-in-New-2.ensures.states i.settles;
       walking = λ honest marks closed marked w0.
           let b = i.walking honest marks closed marked w0 in
           let w = rw c.in-Some.ensures.items at b.0 in
@@ -72,9 +69,7 @@ settle-requires-clause-within g c =
 pub loop-m-smaller-in-Circular : goal.loop-m-smaller-in-Circular
 loop-m-smaller-in-Circular g c =
     let s = rw c.in-Some.ensures.items at c.loop-m.invariant.standing in
-    let less : work c.settle.new.self.states.items c.settle.new.self.stack.items < work c.loop-m.self.states.items c.loop-m.self.stack.items =
-    rw (c.settle.ensures.states, c.settle.ensures.stack, c.in-Some.ensures.items) (work_settle _ _ _ _ c.in-Some.m s Circular refl) in
-    less
+    rw (c.settle.ensures.states, c.settle.ensures.stack, c.in-Some.ensures.items) (work_settle _ _ _ _ c.in-Some.m s Circular refl)
 
 pub loop-m-preserved-in-Circular : goal.loop-m-preserved-in-Circular
 loop-m-preserved-in-Circular g c =
@@ -88,10 +83,7 @@ loop-m-preserved-in-Circular g c =
       reads = c.in_ok-i.ensures.reads ∙ i.reads;
       standing = rw (c.settle.ensures.states, c.settle.ensures.heights, c.settle.ensures.stack)
           (standing_settle _ _ _ _ m s Circular 0 (λ e. cc e) refl (λ e. cc e) (λ h. absurd (omega arith)));
-      settles = record {
-        sees = rw c.settle.ensures.states (stays_known states m Circular within (λ e. cc e) c.args.n i.settles.sees);
-        keeps = λ k known. rw c.settle.ensures.states (stays_known states m Circular within (λ e. cc e) k (i.settles.keeps k known));
-      };
+      settles = settles_more _ _ _ _ m Circular within (λ e. cc e) c.settle.ensures.states i.settles;
       walking = λ honest marks closed marked w0.
           let b = i.walking honest marks closed marked w0 in
           let w = rw c.in-Some.ensures.items at b.0 in
@@ -108,10 +100,8 @@ loop-m-preserved-in-Circular g c =
 
 pub overflow_add-best : goal.overflow_add-best
 overflow_add-best g c =
-    let i = c.loop-m.invariant in
-    let s = rw c.in-Some.ensures.items at i.standing in
-    let low = (rw c.in-Founded.is at c.in_ok-i.ensures.finds) _ s.low in
-    omega (arith, low, top_room _ _ _ _ _ s, c.requires.fits)
+    let s = rw c.in-Some.ensures.items at c.loop-m.invariant.standing in
+    omega (arith, (rw c.in-Founded.is at c.in_ok-i.ensures.finds) _ s.low, top_room _ _ _ _ _ s, c.requires.fits)
 
 pub settle-requires-in-Founded-clause-within : goal.settle-requires-in-Founded-clause-within
 settle-requires-in-Founded-clause-within g c =
@@ -120,9 +110,7 @@ settle-requires-in-Founded-clause-within g c =
 pub loop-m-smaller : goal.loop-m-smaller
 loop-m-smaller g c =
     let s = rw c.in-Some.ensures.items at c.loop-m.invariant.standing in
-    let less : work c.settle-in-Founded.new.self.states.items c.settle-in-Founded.new.self.stack.items < work c.loop-m.self.states.items c.loop-m.self.stack.items =
-    rw (c.settle-in-Founded.ensures.states, c.settle-in-Founded.ensures.stack, c.in-Some.ensures.items) (work_settle _ _ _ _ c.in-Some.m s Founded refl) in
-    less
+    rw (c.settle-in-Founded.ensures.states, c.settle-in-Founded.ensures.stack, c.in-Some.ensures.items) (work_settle _ _ _ _ c.in-Some.m s Founded refl)
 
 pub loop-m-preserved : goal.loop-m-preserved
 loop-m-preserved g c =
@@ -138,10 +126,7 @@ loop-m-preserved g c =
       reads = c.in_ok-i.ensures.reads ∙ i.reads;
       standing = rw (settled.states, settled.heights, settled.stack)
           (standing_settle _ _ _ _ m s Founded _ (λ e. cc e) refl (λ _. omega (arith, low)) (λ _. refl));
-      settles = record {
-        sees = rw settled.states (stays_known states m Founded within (λ e. cc e) c.args.n i.settles.sees);
-        keeps = λ k known. rw settled.states (stays_known states m Founded within (λ e. cc e) k (i.settles.keeps k known));
-      };
+      settles = settles_more _ _ _ _ m Founded within (λ e. cc e) settled.states i.settles;
       walking = λ honest marks closed marked w0.
           let b = i.walking honest marks closed marked w0 in
           let w = rw c.in-Some.ensures.items at b.0 in

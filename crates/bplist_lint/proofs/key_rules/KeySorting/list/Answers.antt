@@ -1,18 +1,14 @@
 use Rattle.std.proofs.Common.{◌∙◌}
 use Rattle.std.proofs.lemmas.List.{length-map}
-use Rattle.bplist_objects.specs.declared.frame.Frame.{Frame}
-use Rattle.bplist_objects.specs.Framed.{frame_in}
 use Rattle.bplist_lint.proofs.KeyLists.{sorting, above, in_order, listed}
 use Rattle.bplist_lint.proofs.key_rules.KeySorting.list.Goals as goal
 
 pub returns-clause-exact : goal.returns-clause-exact
 returns-clause-exact g c = λ honest have.
-    let f = (g.P.Source.means c.args.src.now).octets in
-    let F : Frame = frame_in (g.P.Source.means c.args.src.now) in
     let are = (rw c.deref.ensures.value at c.in_ok-rank_keys.ensures.ranked) honest in
     let all = c.in_ok-rank_keys.ensures.all in
     let s = sorting _ _ c.sort_unstable.ensures.permutation are.numbered c.sort_unstable.ensures.sorted in
-    let up = above f F c.args.head.now c.args.self.now.ranks.table.items have _ are all _ _ s in
-    let order = in_order f F c.args.head.now c.args.self.now.ranks.table.items have _ are all _ _ s in
-    listed f F c.args.head.now c.args.self.now.positions.items c.push_positions.new.positions.items _ c.push_positions.result
+    let up = above _ _ c.args.head.now c.args.self.now.ranks.table.items have _ are all _ _ s in
+    let order = in_order _ _ c.args.head.now c.args.self.now.ranks.table.items have _ are all _ _ s in
+    listed _ _ c.args.head.now c.args.self.now.positions.items c.push_positions.new.positions.items _ c.push_positions.result
     (s.count ∙ (length-map _ (λ key. key.rank) ∙ all)) order (rw c.deref-2.ensures.value at c.push_positions.ensures.pushed) ((rw c.deref-2.ensures.value at c.push_positions.ensures.exact) up)

@@ -7,10 +7,8 @@ use Rattle.bplist_lint.proofs.reach.ReachSearch.from_top.Goals as goal
 
 pub returns-clause-searching : goal.returns-clause-searching
 returns-clause-searching g c = λ honest.
-    let f = (g.P.Source.means c.args.src.now).octets in
-    let F : Frame = frame_in (g.P.Source.means c.args.src.now) in
     let marks_new : c.in_ok-marks.marks.items ≡ replicate c.frame-frame.result.objects false = search rules in
-    rw (marks_new, c.in_ok-push.ensures.items, c.in_ok-stack.ensures.items, c.frame-frame.ensures.frame) (searching_start f F _ _ c.frame-frame.ensures.framed.safe.top c.in_ok-new.ensures.empty c.in_ok-new-2.ensures.empty)
+    rw (marks_new, c.in_ok-push.ensures.items, c.in_ok-stack.ensures.items, c.frame-frame.ensures.frame) (searching_start _ _ _ _ c.frame-frame.ensures.framed.safe.top c.in_ok-new.ensures.empty c.in_ok-new-2.ensures.empty)
 
 pub returns-clause-work : goal.returns-clause-work
 returns-clause-work g c =
