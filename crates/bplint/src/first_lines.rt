@@ -54,7 +54,7 @@ impl<'a, W> FirstLines<'a, W> {
         let Some(last) = buf.last() else {
             return 0;
         };
-        let lines = buf.iter().filter(|octet| **octet == b'\n').count() as u64;
+        let lines = line_feeds_in(buf);
         if lines < self.lines && buf.len() as u64 <= self.bytes {
             self.lines -= lines;
             self.bytes -= buf.len() as u64;
@@ -85,6 +85,15 @@ impl<'a, W> FirstLines<'a, W> {
         }
         buf.len()
     }
+}
+
+/// The loop has no other exit, so that it takes several bytes at a time.
+fn line_feeds_in(buf: &[u8]) -> u64 {
+    let mut count = 0u64;
+    for octet in buf {
+        count = count.wrapping_add(u64::from(*octet == b'\n'));
+    }
+    count
 }
 
 impl<'a, W: Write> Write for FirstLines<'a, W> {
