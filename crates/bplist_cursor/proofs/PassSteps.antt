@@ -81,8 +81,6 @@ once_permuted n xs ys same once = record {
 -- ---- the bytes of objects
 -- the references of an object are among its bytes
 ref_size_kept : (r count : ℕ) (kind : Kind) → ref_count kind count * r ≤ count * item_size r kind
-ref_size_kept r count kinds.Array = omega arith
-ref_size_kept r count kinds.Set = omega arith
 ref_size_kept r count kinds.Dict =
     let twice : 2 * count * r ≡ count * (2 * r) = ap (λ n. n * r) (mul_comm 2 count) ∙ mul_assoc count 2 r in
     omega (arith, twice)
