@@ -10,10 +10,9 @@ use Rattle.bplist_keys.specs.Fronts.{AreNarrow, FitsFronts, IsFront, IsWideFront
 
 -- the first unit is smaller
 first_less : (us vs : List ℕ) → slice_index us 0 < slice_index vs 0 → compare_units us vs ≡ Less
-first_less [] [] l = absurd (omega (arith, l))
 first_less [] (v ∷ vs) l = refl
-first_less (u ∷ us) [] l = absurd (omega (arith, l))
 first_less (u ∷ us) (v ∷ vs) l = sym (ap (λ o. ordering_then o (compare_units us vs)) (nat_cmp_is u v Less l))
+first_less _ _ l = absurd (omega (arith, l))
 
 -- no text comes before the empty one
 none_before : (us : List ℕ) → compare_units us [] ≡ Less → ⊥
