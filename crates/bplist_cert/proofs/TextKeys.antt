@@ -23,10 +23,9 @@ use Rattle.bplist_cert.proofs.AllNumbers.{onto}
 
 -- ---- two lists, item by item
 pub zip_at : {A B : Type 0} (R : A → B → Type 0) (xs : List A) (ys : List B) (k : ℕ) (d : A) (e : B) → AllZip R xs ys → k < length xs → R (slice_index_or xs k d) (slice_index_or ys k e)
-zip_at R [] ys k d e z l = absurd (omega (arith, l))
-zip_at R (x ∷ xs) [] k d e z l = absurd z
 zip_at R (x ∷ xs) (y ∷ ys) zero d e z l = z.0
 zip_at R (x ∷ xs) (y ∷ ys) (suc k) d e z l = zip_at R xs ys k d e z.1 (omega (arith, l))
+zip_at R xs ys k d e z l = absurd (omega (arith, l, AllZip-long R xs ys z))
 
 -- ---- texts
 -- the content of a text's head is the text of its units
