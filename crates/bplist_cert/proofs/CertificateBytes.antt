@@ -140,13 +140,12 @@ length_behind h j =
 length_of : (h : List ℕ) (j : Option Keyed) → IsCertificate (lists h j) → Fits (is_some j) (num (part (octets_of (lists h j)) 8 8)) (length (octets_of (lists h j)))
 length_of h None p = omega (arith, height_count_is h None p, length_behind h None)
 length_of h (Some k) p =
-    let t = height_count_is h (Some k) p in
     let l = length_behind h (Some k) in
     let a = length-append (words k.starts) (words k.positions) in
     let b = length-words k.starts in
     let c = length-words k.positions in
     let s = p.starts in
-    (omega (arith, t, l, a, b, c, s), omega (arith, l, a, b, c, s))
+    (omega (arith, height_count_is h (Some k) p, l, a, b, c, s), omega (arith, l, a, b, c, s))
 
 magic_of : (h : List ℕ) (j : Option Keyed) → take 8 (octets_of (lists h j)) ≡ magic (is_some j)
 magic_of h None = refl

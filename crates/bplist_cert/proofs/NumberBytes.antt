@@ -101,8 +101,7 @@ part-low xs place n low k = elim (cases_lt k n) [
   | inl lt ↦ rw (get_or-take n (drop place xs) k 0 lt, get_or-drop place xs k 0) (low (place + k))
   | inr ge ↦
       let short : length (part xs place n) ≤ k = omega (arith, length-take n (drop place xs)) in
-      let none = get_or_past (part xs place n) k 0 short in
-      omega (arith, none)
+      omega (arith, get_or_past (part xs place n) k 0 short)
 ]
 
 -- one more number of 4 bytes

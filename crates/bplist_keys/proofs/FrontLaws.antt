@@ -113,11 +113,7 @@ module _ (us vs : List ℕ) (small : AreNarrow us) (small_2 : AreNarrow vs) wher
 -- four narrow units are together below this number
 low_half : (us : List ℕ) → AreNarrow us → narrow_half us 4 < 4294967296
 low_half us small =
-    let a = small 4 in
-    let b = small 5 in
-    let c = small 6 in
-    let d = small 7 in
-    omega (arith, a, b, c, d)
+    omega (arith, small 4, small 5, small 6, small 7)
 
 -- the rest of a narrow text is narrow
 pub small_rest : (n : ℕ) (us : List ℕ) → AreNarrow us → AreNarrow (drop n us)
