@@ -47,9 +47,7 @@ pub an_item_more : {X : Type 0} (bytes : X → ℕ) (xs : List X) (i start befor
     → before ≤ start + sum_by bytes (take i xs) → after ≤ before + bytes (slice_index_or xs i d)
     → (after ≤ start + sum_by bytes (take (i + 1) xs)) × (after ≤ start + sum_by bytes xs)
 an_item_more bytes xs i start before after d l a b =
-    let more = sum_by_more bytes xs i d l in
-    let all = sum_by_more_le bytes xs i d l in
-    (omega (arith, a, b, more), omega (arith, a, b, all))
+    (omega (arith, a, b, sum_by_more bytes xs i d l), omega (arith, a, b, sum_by_more_le bytes xs i d l))
 
 -- the bytes that finding a key with these units in a value asks for
 abbrev pub value_bytes : Option Keyed → Value → List ℕ → ℕ

@@ -61,9 +61,7 @@ module _ (f : List ℕ) (F : Frame) (counts : List ℕ) where
   members_counted : (vs : Values) (ms : List ℕ) → AllByRecursion (IsCounted f F counts) ms → HoldEach f F ms vs → cap (sum_by at ms) ≡ cap (nodes_of vs)
   members_counted no_values [] all h = refl
   members_counted (value v vs) (m ∷ ms) all h =
-      let first = all.0 v h.0 in
-      let rest = members_counted vs ms all.1 h.1 in
-      omega (arith, first, rest, sum_by-cons at m ms)
+      omega (arith, all.0 v h.0, members_counted vs ms all.1 h.1, sum_by-cons at m ms)
   members_counted _ _ _ h = absurd h
 
   pairs_counted : (ps : Pairs) (ks ms : List ℕ) → AllByRecursion (IsCounted f F counts) ks → AllByRecursion (IsCounted f F counts) ms → HoldPairs f F ks ms ps
@@ -71,9 +69,7 @@ module _ (f : List ℕ) (F : Frame) (counts : List ℕ) where
   pairs_counted no_pairs [] [] k m h = refl
   pairs_counted (pair u v ps) (k ∷ ks) (m ∷ ms) b a h =
       let key : at k ≡ 1 = b.0 (leaf (text u)) h.0 in
-      let first = a.0 v h.1 in
-      let rest = pairs_counted ps ks ms b.1 a.1 h.2 in
-      omega (arith, key, first, rest, sum_by-cons at k ks, sum_by-cons at m ms)
+      omega (arith, key, a.0 v h.1, pairs_counted ps ks ms b.1 a.1 h.2, sum_by-cons at k ks, sum_by-cons at m ms)
   pairs_counted ps ks ms b a h = absurd (let c = pair_counts f F ks ms ps h in omega (arith, c.0, c.1))
 
   -- one and the counts of the references of a head make the count of the value
@@ -125,8 +121,7 @@ module _ (f : List ℕ) (F : Frame) (heights : List ℕ) (valid : IsValid f F he
     pub refs_counted : (k : ℕ) (counts : List ℕ) → k < length order → AreCounted f F heights order k counts → (c : Content) → Spells f F (nth k) c
         → AllByRecursion (IsCounted f F counts) (refs c)
     refs_counted k counts l are c s = all_from (IsCounted f F counts) (refs c) (λ m among.
-        let above = above_at k l in
-        let lower = references_lower f F heights valid (nth k) m (omega (arith, above)) (c, s, among) in
+        let lower = references_lower f F heights valid (nth k) m (omega (arith, above_at k l)) (c, s, among) in
         elim (cases_eq (slice_index heights m) 1) [
           | inl low ↦ are.lowest m low
           | inr high ↦

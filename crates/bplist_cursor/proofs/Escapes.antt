@@ -64,9 +64,7 @@ loose_within (c ∷ cs) (suc k) loose = let h = loose_within cs k loose in omega
 written_not_loose : (cs : List ℕ) (k : ℕ) (tokens : List (List ℕ)) → IsLoose (drop k cs) → cs ≡ written tokens → ⊥
 written_not_loose cs k tokens loose is =
     let all : cs ≡ written tokens ++ [] = is ∙ sym (append-nil (written tokens)) in
-    let low = loose_within cs k loose in
-    let long = ap length all in
-    closed_written tokens [] closed-nil [] k (omega (arith, low, long))
+    closed_written tokens [] closed-nil [] k (omega (arith, loose_within cs k loose, ap length all))
     (subst (λ xs. IsLoose (drop k xs)) (all ∙ sym (append-nil (written tokens ++ []))) loose)
 
 -- a path text is not wrong

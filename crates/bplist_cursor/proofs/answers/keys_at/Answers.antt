@@ -37,13 +37,11 @@ returns-in_err-key_texts-in-Dict-clause-asks g c = λ honest v o.
     let checked = c.args.checked.now in
     let t = keys_told checked.source.octets checked.frame v c.args.node.object.0 c.in_ok-head.head o.1 (c.in_ok-head.ensures.exact honest o.0) c.in-Dict.is in
     let keys = (rw c.in_ok-head.ensures.reads at c.in_err-key_texts-in-Dict.ensures.asks) honest c.args.node.object.0 t.keys t.values t.spells t.means t.units t.texts in
-    let bytes = t.bytes in
-    omega (arith, keys, bytes, c.in_ok-head.ensures.asks)
+    omega (arith, keys, t.bytes, c.in_ok-head.ensures.asks)
 
 pub returns-in_ok-key_texts-in-Dict-clause-asks : goal.returns-in_ok-key_texts-in-Dict-clause-asks
 returns-in_ok-key_texts-in-Dict-clause-asks g c = λ honest v o.
     let checked = c.args.checked.now in
     let t = keys_told checked.source.octets checked.frame v c.args.node.object.0 c.in_ok-head.head o.1 (c.in_ok-head.ensures.exact honest o.0) c.in-Dict.is in
     let keys = (rw c.in_ok-head.ensures.reads at c.in_ok-key_texts-in-Dict.ensures.asks) honest c.args.node.object.0 t.keys t.values t.spells t.means t.units t.texts in
-    let bytes = t.bytes in
-    omega (arith, keys, bytes, c.in_ok-head.ensures.asks)
+    omega (arith, keys, t.bytes, c.in_ok-head.ensures.asks)

@@ -21,8 +21,7 @@ returns-then-height-eq0-clause-reference g c = λ honest n vouched content s sam
     let below = number_below c.args.checked.now.source.octets c.args.checked.now.frame head.kind head.count head.body content same c.in-Some.k c.in-Some.ensures.within in
     let there = vouched_reference c.args.checked.now c.frame-frame.ensures.checked honest n vouched content s c.in-Some.k below in
     let height = rw c.in_ok-object.ensures.reads at c.height.ensures in
-    let at = ap (slice_index c.args.checked.now.certificate.heights) is in
-    omega (arith, there, height, at)
+    omega (arith, there, height, ap (slice_index c.args.checked.now.certificate.heights) is)
 
 pub returns-clause-reference : goal.returns-clause-reference
 returns-clause-reference g c = λ honest n vouched content s same.

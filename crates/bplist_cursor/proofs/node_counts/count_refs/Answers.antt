@@ -37,9 +37,8 @@ returns-clause-exact g c = λ honest.
     let f = c.args.checked.now.source.octets in
     let F = c.args.checked.now.frame in
     let v = c.loop-refs.invariant in
-    let all = c.in_ok-read.ensures.end c.if-branch.false in
     all_counted f F c.args.head.now c.args.counts.now c.loop-refs.total (cap (1 + sum_by (slice_index c.args.counts.now) (refs (content_at f F c.args.head.now)))) c.loop-refs.refs.next
-    v.fits (omega (arith, all.1, v.of.same_bound)) (v.left honest)
+    v.fits (omega (arith, (c.in_ok-read.ensures.end c.if-branch.false).1, v.of.same_bound)) (v.left honest)
 
 pub returns-in_err-read-clause-asks : goal.returns-in_err-read-clause-asks
 returns-in_err-read-clause-asks g c =

@@ -35,9 +35,7 @@ pub loop-place-smaller : goal.loop-place-smaller
 loop-place-smaller c =
     let read = reads_char c.loop-place.chars c.next.new.self c.in-Some.c c.loop-place.invariant.read.after c.in-Some.ensures.steps.1 c.in-Some.ensures.steps.2 in
     let digit = c.in-Some-unescape.ensures in
-    let first = ap length read.read in
-    let then = ap length digit.1.read in
-    omega (arith, first, then, length-append digit.0 (left c.unescape.new.rest))
+    omega (arith, ap length read.read, ap length digit.1.read, length-append digit.0 (left c.unescape.new.rest))
 
 pub loop-place-preserved : goal.loop-place-preserved
 loop-place-preserved c =

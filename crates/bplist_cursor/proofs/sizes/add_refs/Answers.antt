@@ -47,9 +47,8 @@ loop-refs-preserved g c =
 pub returns-clause-exact : goal.returns-clause-exact
 returns-clause-exact g c = λ honest whole is.
     let v = c.loop-refs.invariant in
-    let all = c.in_ok-read.ensures.end c.if-branch.false in
     none_left c.args.checked.now.source.octets c.args.checked.now.frame c.args.head.now c.args.sizes.now c.loop-refs.total whole c.loop-refs.refs.next
-    (omega (arith, all.1, v.of.same_bound)) (v.left honest whole is)
+    (omega (arith, (c.in_ok-read.ensures.end c.if-branch.false).1, v.of.same_bound)) (v.left honest whole is)
 
 pub returns-in_err-read-clause-asks : goal.returns-in_err-read-clause-asks
 returns-in_err-read-clause-asks g c =
