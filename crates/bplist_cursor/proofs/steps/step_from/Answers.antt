@@ -1,5 +1,5 @@
 use Rattle.std.proofs.Common.{subst}
-use Rattle.std.proofs.lemmas.Result.{err_from_is_err_and}
+use Rattle.bplist_cert.proofs.CheckSteps.{on_err}
 use Rattle.bplist_cursor.specs.Steps.{IsStep}
 use Rattle.bplist_cursor.proofs.Causes.{unread_excused}
 use Rattle.bplist_cursor.proofs.FoundSteps.{one_step, no_step}
@@ -7,8 +7,7 @@ use Rattle.bplist_cursor.proofs.steps.step_from.Goals as goal
 
 pub returns-in_err-object-clause-exact : goal.returns-in_err-object-clause-exact
 returns-in_err-object-clause-exact g c = λ honest vouched v holds.
-    let p = err_from_is_err_and c.from_residual.result c.from_residual.ensures.1 in
-    rw (p.1, p.2) (unread_excused c.in_err-object.field-0.0 (c.in_err-object.ensures.exact honest vouched v holds))
+    on_err _ _ _ _ c.from_residual.ensures.1 (unread_excused c.in_err-object.field-0.0 (c.in_err-object.ensures.exact honest vouched v holds))
 
 pub returns-in-On-clause-exact : goal.returns-in-On-clause-exact
 returns-in-On-clause-exact g c = λ honest vouched v holds.
