@@ -1,7 +1,7 @@
 -- The key lists of a checked file.
 use Rattle.std.proofs.Common.{arith, ◌≡◌, ◌<◌, ◌≤◌, ◌+◌, ◌-◌, ℕ, zero, suc, length, List, [], ◌∷◌, slice_index, slice_index_or, Some, subst, Less, IsTrue}
 use Rattle.std.proofs.Props.{props}
-use Rattle.std.specs.List.{AllByRecursion, AllZip}
+use Rattle.std.proofs.lemmas.List.Elements.{All-from_recursion, All-get_or}
 use Rattle.std.proofs.Math.Logic.{∥∥₁_map, ∥∥₁_elim}
 use Rattle.bplist_octets.specs.Octets.{part}
 use Rattle.bplist_objects.specs.declared.frame.Frame.{Frame}
@@ -13,22 +13,15 @@ use Rattle.bplist_objects.proofs.UnitOrder.{compare_units-less_less}
 use Rattle.bplist_cert.specs.Lists.{Keyed, IsCompleteList, list_of}
 use Rattle.bplist_cert.specs.Valid.{IsVouchedBy, SpellsText}
 use Rattle.bplist_cert.specs.Sorted.{IsSorted}
+use Rattle.bplist_cert.proofs.TextKeys.{zip_at}
 use Rattle.bplist_cert.specs.CheckedFile.{CheckedFile, IsChecked}
 use Rattle.bplist_cursor.specs.KeySearch.{IsKeyList}
 
-all_below : (n : ℕ) (xs : List ℕ) (j : ℕ) → AllByRecursion (λ p. p < n) xs → j < length xs → slice_index xs j < n
-all_below n [] j a l = absurd (omega (arith, l))
-all_below n (x ∷ xs) zero a l = a.0
-all_below n (x ∷ xs) (suc j) a l = all_below n xs j a.1 (omega (arith, l))
-
 module _ (f : List ℕ) (F : Frame) where
-  pub text_there : (ks : List ℕ) (us : List (List ℕ)) (i : ℕ) → AllZip (SpellsText f F) ks us → i < length ks → Spells f F (slice_index ks i) (leaf (text (slice_index_or us i [])))
-  text_there [] us i a l = absurd (omega (arith, l))
-  text_there (k ∷ ks) [] i a l = absurd a
-  text_there (k ∷ ks) (u ∷ us) zero a l = a.0
-  text_there (k ∷ ks) (u ∷ us) (suc i) a l = text_there ks us i a.1 (omega (arith, l))
-
   module _ (ks list : List ℕ) (is : IsSorted f F ks list) where
+    inside : (j : ℕ) → j < length ks → slice_index list j < length ks
+    inside j l = All-get_or (λ p. p < length ks) list j 0 (omega (arith, l, is.count)) (All-from_recursion (λ p. p < length ks) list is.within)
+
     unit_list : ℕ → List ℕ
     unit_list j = slice_index_or is.units (slice_index list j) []
 
@@ -45,13 +38,12 @@ module _ (f : List ℕ) (F : Frame) where
     pub sorted_list : IsKeyList f F ks list
     unfolding unit_list
     sorted_list = record {
-      within = λ j l. all_below (length ks) list j is.within (omega (arith, l, is.count));
+      within = inside;
       ascend = λ i j before l us vs s t.
           let z : i + suc (j - suc i) ≡ j = omega (arith, before) in
           let less = subst (λ j. compare_units (unit_list i) (unit_list j) ≡ Less) z (far i (j - suc i) (omega (arith, z, l, is.count))) in
-          let inside = λ (j : ℕ) (l : j < length ks). all_below (length ks) list j is.within (omega (arith, l, is.count)) in
-          let eu : unit_list i ≡ us = cc (one_head f F _ _ _ (text_there ks is.units (slice_index list i) is.texts (inside i (omega (arith, before, l)))) s) in
-          let ev : unit_list j ≡ vs = cc (one_head f F _ _ _ (text_there ks is.units (slice_index list j) is.texts (inside j l)) t) in
+          let eu : unit_list i ≡ us = cc (one_head f F _ _ _ (zip_at (SpellsText f F) ks is.units (slice_index list i) 0 [] is.texts (inside i (omega (arith, before, l)))) s) in
+          let ev : unit_list j ≡ vs = cc (one_head f F _ _ _ (zip_at (SpellsText f F) ks is.units (slice_index list j) 0 [] is.texts (inside j l)) t) in
           cc (less, eu, ev);
     }
 
