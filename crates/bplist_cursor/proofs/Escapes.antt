@@ -3,7 +3,6 @@ use Rattle.std.proofs.Common.{◌≡◌, ◌≢◌, ◌⊎◌, inl, inr, ℕ, ze
 use Rattle.std.specs.Prelude.{encode_utf8_all, slice_get, Some, None}
 use Rattle.std.specs.Str.{chars}
 use Rattle.std.proofs.Math.Seq.{drop-append_seam, take-append_seam, drop-nil}
-use Rattle.std.proofs.lemmas.Bool.{cases_lt}
 use Rattle.std.proofs.lemmas.Bool.Decides.{nat_tests}
 use Rattle.bplist_cursor.specs.Path.{escaped, IsPathOf, IsLoose, IsWrong, IsNoPath}
 use Rattle.bplist_cursor.specs.Tokens.{IsClosed}
@@ -158,14 +157,3 @@ same_written (t ∷ ts) (u ∷ us) e =
     let p : t ≡ u = h.0 in
     let q : ts ≡ us = same_written ts us h.1 in
     cc
-
--- a text is wrong at one byte
-pub same_place : (text : List ℕ) (p q : ℕ) → IsNoPath text p → IsNoPath text q → p ≡ q
-same_place text p q f g = elim (order f.before g.before) [
-  | inl less ↦ absurd (g.first f.before less f.wrong)
-  | inr (inl is) ↦ f.counted ∙ ap (λ k. length (encode_utf8_all (take k (chars text)))) is ∙ sym g.counted
-  | inr (inr more) ↦ absurd (f.first g.before more g.wrong)
-]
-  where
-    order : (m n : ℕ) → (m < n) ⊎ ((m ≡ n) ⊎ (n < m))
-    order m n = elim (cases_lt m n) [ inl less ↦ inl less | inr more ↦ elim (cases_lt n m) [ inl less ↦ inr (inr less) | inr least ↦ inr (inl (omega (arith, more, least))) ] ]

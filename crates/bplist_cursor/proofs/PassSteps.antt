@@ -1,5 +1,5 @@
 -- What a pass over the objects of a file asks for: no object twice, so no byte before the table twice.
-use Rattle.std.proofs.Common.{arith, ◌≡◌, ◌≢◌, ℕ, zero, suc, ◌+◌, ◌*◌, ◌<◌, ◌≤◌, List, [], ◌∷◌, ◌++◌, length, take, slice_index, slice_index_or, Contains, ◌⊎◌, inl, inr, true, false, refl, sym, ap, ◌∙◌, subst}
+use Rattle.std.proofs.Common.{arith, ◌≡◌, ◌≢◌, ℕ, zero, suc, ◌+◌, ◌*◌, ◌<◌, ◌≤◌, List, [], ◌∷◌, ◌++◌, length, take, slice_index, slice_index_or, Contains, inl, inr, refl, ap, ◌∙◌, subst}
 use Rattle.std.proofs.Math.Dec.{eqb}
 use Rattle.std.proofs.Props.{props}
 use Rattle.std.specs.List.Sorted.{IsPermutation}

@@ -1,8 +1,8 @@
 -- What the value of an object says about its references, and about the steps that take none of them.
-use Rattle.std.proofs.Common.{arith, ◌≡◌, ◌<◌, ℕ, zero, suc, length, List, [], ◌∷◌, ◌++◌, slice_index, Option, Some, None, Ok, Err, ok_or, refl, sym, ap, ◌∙◌, subst, Contains}
+use Rattle.std.proofs.Common.{arith, ◌≡◌, ◌<◌, ℕ, zero, suc, length, List, ◌∷◌, ◌++◌, slice_index, Option, Some, None, Ok, Err, ok_or, refl, sym, ap, ◌∙◌, subst, Contains}
 use Rattle.std.proofs.lemmas.List.Elements.{Contains-append_left, Contains-append_right, Contains-get_or}
 use Rattle.bplist_objects.specs.declared.frame.Frame.{Frame}
-use Rattle.bplist_objects.specs.Value.{text, Value, leaf, array, set, dict, Pairs, no_pairs, pair}
+use Rattle.bplist_objects.specs.Value.{text, Value, leaf, array, set, dict, Pairs, pair}
 use Rattle.bplist_objects.specs.Heads.{Content, Spells, refs}
 use Rattle.bplist_objects.specs.Holds.{Holds, HoldPairs}
 use Rattle.bplist_objects.proofs.ProperLeaves.{refs_below}

@@ -5,9 +5,6 @@ use Rattle.bplist_cert.proofs.CheckSteps.{on_err}
 use Rattle.bplist_cursor.proofs.Keys.{dict_counts, ref}
 use Rattle.bplist_cursor.proofs.key_search.compare_listed.Goals as goal
 
-pub returns-in_default-clause-exact : goal.returns-in_default-clause-exact
-returns-in_default-clause-exact g c = λ honest n ks ms s e t keyed is room within. absurd (c.in_default.not-Some _ (c.position_of.ensures keyed is room))
-
 pub returns-then-i-head-clause-exact : goal.returns-then-i-head-clause-exact
 returns-then-i-head-clause-exact g c = λ honest n ks ms s e t keyed is room within.
     let position : c.in-Some.position ≡ slice_index keyed.positions c.args.at = cc (c.in-Some.is, c.position_of.ensures keyed is room) in

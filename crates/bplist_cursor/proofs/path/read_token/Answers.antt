@@ -2,11 +2,8 @@ use Rattle.std.proofs.Common.{[], ◌∷◌, ◌++◌, arith, sym, ap, subst, re
 use Rattle.bplist_cursor.specs.Path.{escaped}
 use Rattle.bplist_cursor.specs.Tokens.{Reads, IsClosed, left}
 use Rattle.bplist_cursor.proofs.Escapes.{closed-nil, closed_token}
-use Rattle.bplist_cursor.proofs.TokenSteps.{reads_char, reads_more, left_none, meets_now, meets_later, reading_starts, reading_more}
+use Rattle.bplist_cursor.proofs.TokenSteps.{reads_char, reads_more, left_none, meets_now, meets_later, reading_more}
 use Rattle.bplist_cursor.proofs.path.read_token.Goals as goal
-
-pub loop-place-init : goal.loop-place-init
-loop-place-init c = reading_starts _ _ c.requires
 
 pub returns-then-c-eq47-clause-read : goal.returns-then-c-eq47-clause-read
 returns-then-c-eq47-clause-read c =
