@@ -1,9 +1,9 @@
 -- Laws of the bytes of certificates.
-use Rattle.std.proofs.Common.{◌≡◌, inl, inr, Bool, true, false, is_some, ℕ, suc, ◌+◌, ◌*◌, ◌^◌, ◌<◌, ◌≤◌, min, List, [], ◌∷◌, ◌++◌, length, get_or, take, drop, Option, Some, None, IfSome, refl, sym, ap, ap₂, ◌∙◌, subst, arith, lit≤, append_assoc}
+use Rattle.std.proofs.Common.{◌≡◌, inl, inr, Bool, true, false, is_some, ℕ, suc, ◌+◌, ◌*◌, ◌^◌, ◌<◌, ◌≤◌, min, List, [], ◌∷◌, ◌++◌, length, get_or, take, drop, Option, Some, None, IfSome, refl, sym, ap, ap₂, ◌∙◌, subst, arith, lit≤, append_assoc, ◌-◌, ◌/◌, ◌%◌}
 use Rattle.std.specs.Int.{bytes_high_first}
 use Rattle.std.proofs.Math.Seq.{take-add}
 use Rattle.std.proofs.lemmas.Bool.{cases_lt}
-use Rattle.std.proofs.lemmas.List.{append_cancel_left, length-append, length-drop, length-take, length-take-le, take-append-drop, take_all, take-take, drop-take, drop-drop, take_at, drop_at}
+use Rattle.std.proofs.lemmas.List.{append_cancel_left, length-append, length-drop, length-take, length-take-le, take-append-drop, take_all, take-take, drop-take, drop-drop, take_at, drop_at, take_rest}
 use Rattle.std.proofs.lemmas.List.Concat.{flat_map-append}
 use Rattle.bplist_octets.specs.Octets.{part, num}
 use Rattle.bplist_objects.specs.Answers.{GivesFault, Never}
@@ -111,6 +111,16 @@ words_grown f xs ys place before here =
     ap (part f place) four ∙ take-add (4 * length xs) (4 * length ys) (drop place f)
     ∙ ap (λ rest. part f place (4 * length xs) ++ take (4 * length ys) rest) (drop-drop (4 * length xs) place f)
     ∙ ap₂ (λ front rest. front ++ rest) before here ∙ sym (flat_map-append (bytes_high_first 4) xs ys)
+
+-- starts and positions are all bytes from the starts on
+pub keyed_words : (f starts positions : List ℕ) (place count : ℕ) → place + 4 * count ≤ length f → (length f - (place + 4 * count)) % 4 ≡ 0
+    → part f place (4 * count) ≡ words starts → part f (place + 4 * count) (4 * ((length f - (place + 4 * count)) / 4)) ≡ words positions
+    → drop place f ≡ words starts ++ words positions
+keyed_words f starts positions place count fits whole s p =
+    let behind = place + 4 * count in
+    let all : 4 * ((length f - behind) / 4) ≡ length f - behind = omega arith in
+    drop-part f place (4 * count) ∙ ap (λ ys. ys ++ drop behind f) s
+    ∙ ap (λ ys. words starts ++ ys) (sym (take_rest f behind) ∙ ap (part f behind) (sym all) ∙ p)
 
 -- the parts of a certificate are its bytes
 pub whole : (f heights : List ℕ) (keys : Option Keyed) (count : ℕ) → take 16 f ≡ magic (is_some keys) ++ bytes_high_first 8 count

@@ -14,7 +14,7 @@ use Rattle.bplist_objects.specs.declared.head.Head.{Head}
 use Rattle.bplist_objects.specs.declared.head.Kind.TheVariants as kinds
 use Rattle.bplist_objects.specs.Frame.{off, IsFrame}
 use Rattle.bplist_objects.specs.Safe.{ref_count}
-use Rattle.bplist_objects.specs.Answers.{GivesFault, Never}
+use Rattle.bplist_objects.specs.Answers.{GivesFault, Never, Gives}
 use Rattle.bplist_objects.specs.Announced.{HasHead}
 use Rattle.bplist_objects.specs.FrameRules.{IsFrameFault}
 use Rattle.bplist_objects.specs.Rules.{KeepsAll, IsFirstFault, OfObject}
@@ -30,7 +30,7 @@ use Rattle.bplist_cert.specs.declared.refusal.Refusal.{Refusal}
 use Rattle.bplist_cert.specs.declared.refusal.Refusal.TheVariants as refusals
 use Rattle.bplist_cert.specs.Lists.{Keyed, Lists, lists}
 use Rattle.bplist_cert.specs.Valid.{IsVouchedBy}
-use Rattle.bplist_cert.specs.Heights.{AreMet, IsHeightFault}
+use Rattle.bplist_cert.specs.Heights.{AreMet, IsHeightFault, AreLower, IsUnmetFault}
 use Rattle.bplist_objects.specs.Claims.{FailsAt}
 use Rattle.bplist_cert.specs.DictKeys.{KeysAreTexts, KeysDiffer, IsKeylessFault}
 use Rattle.bplist_cert.specs.CheckRules.{Asks, KeepsRule, BreaksRule, KeepsCheck, IsCheckFault, check_rules, rules_before_keys, key_rules, KeepsLast}
@@ -268,3 +268,12 @@ on_err P Q (Err x) e is h = subst Q (sym is) h
 pub given_weaker : (P Q : Fault → Type 0) (e : ObjectFault) → ((x : Fault) → P x → Q x) → GivesFault P e → GivesFault Q e
 given_weaker P Q (errors.Fault fault) same h = same fault h
 given_weaker P Q (errors.Read r) same h = tt
+
+-- the references have heights, and this is the result of the check by rule 29
+pub heights_checked : (f : List ℕ) (F : Frame) (heights : List ℕ) (n : ℕ) (head : Head) (result : Result (Unit {0}) ObjectFault)
+    → AreMet f F heights head Vouched (ref_count head.kind head.count)
+    → Gives (λ _. AreMet f F heights head (Below (slice_index heights n)) (ref_count head.kind head.count)) (IsUnmetFault f F heights n head (Below (slice_index heights n))) result
+    → Gives (λ _. AreLower f F heights n head) (IsHeightFault f F heights n head) result
+heights_checked f F heights n head (Ok _) met h = (met, h)
+heights_checked f F heights n head (Err (errors.Fault fault)) met h = inr (met, h)
+heights_checked f F heights n head (Err (errors.Read r)) met h = tt

@@ -1,5 +1,5 @@
 -- How many bytes are asked for, from call to call.
-use Rattle.std.proofs.Common.{arith, ◌≡◌, ◌+◌, ◌*◌, ◌<◌, ◌≤◌, ℕ, suc, List, length, slice_index_or, take, Result, Ok, Err, refl, sym, ap, subst, ◌∙◌}
+use Rattle.std.proofs.Common.{arith, ◌≡◌, ◌+◌, ◌*◌, ◌<◌, ◌≤◌, ℕ, suc, List, length, slice_index_or, take, Result, Ok, Err, refl, sym, ap, subst, ◌∙◌, [], ◌∷◌}
 use Rattle.std.specs.Prelude.{Option}
 use Rattle.std.specs.List.{sum_by}
 use Rattle.std.proofs.Math.Nat.{add-mul, mul-le-mul_right}
@@ -21,9 +21,10 @@ use Rattle.bplist_cert.specs.CheckedFile.{CheckedFile, HonestlyChecked}
 use Rattle.bplist_cursor.specs.Kept.{IsSameFile}
 use Rattle.bplist_cursor.specs.Asked.{count_bytes, face_bytes, key_bytes, leaf_bytes, path_bytes, reply_bytes, told_bytes, tries}
 use Rattle.bplist_cursor.specs.declared.replies.Query.{Query}
-use Rattle.bplist_cursor.specs.Look.{look}
+use Rattle.bplist_cursor.specs.Look.{look, stepped}
 use Rattle.bplist_cursor.specs.Queries.{steps_in}
 use Rattle.bplist_cursor.proofs.Counts.{by_keys, keys_counted}
+use Rattle.bplist_cursor.specs.declared.node.Why.{Why}
 
 -- a turn more, of as many bytes as each turn
 pub a_turn_more : (start before after turns each : ℕ) → before ≤ start + turns * each → after ≤ before + each → after ≤ start + (turns + 1) * each
@@ -55,6 +56,14 @@ value_bytes lists v s = elim v [ dict ps ↦ tries lists (length (keys ps)) * (3
 -- what follows from a value, or from none
 abbrev pub on_either : {T E R : Type 0} → Result T E → (T → R) → (E → R) → R
 on_either r go stop = elim r [ Ok v ↦ go v | Err e ↦ stop e ]
+
+-- the last step
+pub last_bytes : (lists : Option Keyed) (v : Value) (s : List ℕ) → path_bytes lists v (s ∷ []) ≡ 36 + value_bytes lists v s
+last_bytes lists v s = either (stepped v s)
+  where
+    either : (r : Result Value Why) → 36 + value_bytes lists v s + on_either r (λ w. 0) (λ why. 0) ≡ 36 + value_bytes lists v s
+    either (Ok w) = omega arith
+    either (Err y) = omega arith
 
 -- a query whose path leads to a value
 pub reply_to : (lists : Option Keyed) (v w : Value) (query : Query) → look 0 v (steps_in query) ≡ Ok w
