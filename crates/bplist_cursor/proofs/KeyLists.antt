@@ -1,16 +1,13 @@
 -- The key lists of a checked file.
-use Rattle.std.proofs.Common.{arith, ◌≡◌, ◌<◌, ◌≤◌, ◌+◌, ◌-◌, ℕ, zero, suc, length, List, [], slice_index, slice_index_or, Some, subst, Less, IsTrue, sym, ap₂, ◌∙◌}
+use Rattle.std.proofs.Common.{arith, ◌≡◌, ◌≤◌, ◌+◌, ℕ, length, List, slice_index, Some, IsTrue, sym, ap₂, ◌∙◌}
 use Rattle.std.proofs.Props.{props}
-use Rattle.std.proofs.lemmas.List.Elements.{All-from_recursion, All-get_or}
 use Rattle.std.proofs.Math.Logic.{∥∥₁_map, ∥∥₁_elim}
 use Rattle.bplist_octets.specs.Octets.{part}
 use Rattle.bplist_objects.specs.declared.frame.Frame.{Frame}
 use Rattle.bplist_objects.specs.Heads.{Spells, dict}
 use Rattle.bplist_objects.specs.Units.{compare_units}
-use Rattle.bplist_objects.proofs.Fronts.{one_head}
-use Rattle.bplist_objects.proofs.UnitOrder.{compare_units-less_less}
 use Rattle.bplist_cert.specs.Lists.{Keyed, IsCompleteList, list_of}
-use Rattle.bplist_cert.specs.Valid.{IsVouchedBy, SpellsText}
+use Rattle.bplist_cert.specs.Valid.{IsVouchedBy}
 use Rattle.bplist_cert.specs.Sorted.{IsSorted}
 use Rattle.bplist_cert.proofs.OrderedLists.{ascend_far}
 use Rattle.bplist_cert.proofs.RepeatedKeys.{units_at, low, up, units_of_key}
