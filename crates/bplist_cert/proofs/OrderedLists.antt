@@ -26,6 +26,7 @@ module _ (u : ℕ → List ℕ) (count : ℕ) (up : (k : ℕ) → suc k < count 
       let there : suc (i + (j - suc i)) ≡ j = omega (arith, l) in
       subst (λ k. compare_units (u i) (u k) ≡ Less) there (far (j - suc i) i (omega (arith, there, m)))
 
+  -- so texts at two places differ
   pub ascend_apart : (i j : ℕ) → i < j → j < count → u i ≡ u j → ⊥
   ascend_apart i j l m same = compare_units-not_less (u i) (u j) same (ascend_far i j l m)
 

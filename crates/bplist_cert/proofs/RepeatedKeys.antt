@@ -21,6 +21,7 @@ module _ (f : List ℕ) (F : Frame) (ks positions : List ℕ) (s : IsSorted f F 
   pub low : (k : ℕ) → k < length ks → slice_index positions k < length ks
   low k l = All-get_or (λ p. p < length ks) positions k 0 (omega (arith, l, s.count)) (All-from_recursion (λ p. p < length ks) positions s.within)
 
+  -- the keys ascend one by one
   pub up : (k : ℕ) → suc k < length ks → compare_units (units_at k) (units_at (suc k)) ≡ Less
   up k within = s.ascend k (omega (arith, within, s.count))
 

@@ -87,6 +87,7 @@ module _ (f : List ℕ) (F : Frame) (counts : List ℕ) where
       let rest = pairs_counted ps h.0 h.1 (all_front (IsCounted f F counts) h.0 h.1 each) (all_behind (IsCounted f F counts) h.0 h.1 each) h.3 in
       ap (λ c. cap (1 + sum_by at (refs c))) (sym (is (Content.dict h.0 h.1) h.2)) ∙ omega (arith, rest, sum_by-append at h.0 h.1)
 
+-- without counts the sum is 0
 none_counted : (xs : List ℕ) → sum_by (slice_index []) xs ≡ 0
 none_counted [] = refl
 none_counted (x ∷ xs) = omega (arith, none_counted xs, sum_by-cons (slice_index []) x xs)

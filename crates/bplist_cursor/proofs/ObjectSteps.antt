@@ -43,6 +43,7 @@ module _ (f : List ℕ) (F : Frame) where
   no_leaf k c at l (inr (inl e)) is = let no : Content.leaf l ≡ content_of f F kinds.Set c at = is ∙ ap (λ x. content_of f F x c at) e in cc no
   no_leaf k c at l (inr (inr e)) is = let no : Content.leaf l ≡ content_of f F kinds.Dict c at = is ∙ ap (λ x. content_of f F x c at) e in cc no
 
+  -- any other kind is that of a leaf
   leaf_there : (k : Kind) (c at : ℕ) → (k ≡ kinds.Array → ⊥) → (k ≡ kinds.Set → ⊥) → (k ≡ kinds.Dict → ⊥) → (l : Leaf) × (content_of f F k c at ≡ Content.leaf l)
   leaf_there kinds.Array c at a s d = absurd (a refl)
   leaf_there kinds.Set c at a s d = absurd (s refl)
