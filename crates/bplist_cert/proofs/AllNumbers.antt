@@ -96,5 +96,4 @@ onto n g into apart i l = go (among n g i)
           | inl before ↦ apart a b k before (sym ea ∙ e ∙ front n g i b (cases_lt b n) before)
           | inr behind ↦ none a before_a (sym ea ∙ e ∙ last n g i b (cases_lt b n) behind)
         ] in
-        let many = pigeonhole (suc n) n h below differ in
-        absurd (omega (arith, many))
+        absurd (omega (arith, pigeonhole (suc n) n h below differ))

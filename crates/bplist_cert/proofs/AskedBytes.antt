@@ -28,10 +28,9 @@ module _ (f : List ℕ) (F : Frame) where
   -- the references to the keys of a dictionary are among its bytes
   pub keys_within : (n : ℕ) (head : Head) → 1 ≤ F.ref_size → head.kind ≡ Dict → HasHead f F n head → off f F n + head.count * F.ref_size ≤ head.«end»
   keys_within n head low dict has =
-      let fit = refs_fit F.ref_size head.count head.kind low in
       let two : ref_count head.kind head.count ≡ 2 * head.count = ap (λ kind. ref_count kind head.count) dict in
       let most : head.count * F.ref_size ≤ ref_count head.kind head.count * F.ref_size = mul-le-mul_right F.ref_size (omega (arith, two)) in
-      omega (arith, most, fit.0, has.body, has.ends)
+      omega (arith, most, (refs_fit F.ref_size head.count head.kind low).0, has.body, has.ends)
 
   -- an object that keeps the rules before those of keys has a head, and takes bytes
   pub head_taken : (heights : List ℕ) (n : ℕ) → IsFrame f F → n < F.objects → KeepsBeforeKeys f F heights n → (head : Head) × HasHead f F n head × Takes f F n (head.«end» - off f F n)

@@ -1,9 +1,9 @@
 -- Laws of the bytes of certificates.
-use Rattle.std.proofs.Common.{◌≡◌, inl, inr, Bool, true, false, is_some, ℕ, suc, ◌+◌, ◌-◌, ◌*◌, ◌/◌, ◌%◌, ◌^◌, ◌<◌, ◌≤◌, min, List, [], ◌∷◌, ◌++◌, length, get_or, take, drop, Option, Some, None, IfSome, refl, sym, ap, ap₂, ◌∙◌, subst, arith, lit≤, append_assoc}
+use Rattle.std.proofs.Common.{◌≡◌, inl, inr, Bool, true, false, is_some, ℕ, suc, ◌+◌, ◌*◌, ◌^◌, ◌<◌, ◌≤◌, min, List, [], ◌∷◌, ◌++◌, length, get_or, take, drop, Option, Some, None, IfSome, refl, sym, ap, ap₂, ◌∙◌, subst, arith, lit≤, append_assoc, ◌-◌, ◌/◌, ◌%◌}
 use Rattle.std.specs.Int.{bytes_high_first}
 use Rattle.std.proofs.Math.Seq.{take-add}
 use Rattle.std.proofs.lemmas.Bool.{cases_lt}
-use Rattle.std.proofs.lemmas.List.{append_cancel_left, length-append, length-drop, length-take, length-take-le, take-append-drop, take_all, take_rest, take-take, drop-take, drop-drop, take_at, drop_at}
+use Rattle.std.proofs.lemmas.List.{append_cancel_left, length-append, length-drop, length-take, length-take-le, take-append-drop, take_all, take-take, drop-take, drop-drop, take_at, drop_at, take_rest}
 use Rattle.std.proofs.lemmas.List.Concat.{flat_map-append}
 use Rattle.bplist_octets.specs.Octets.{part, num}
 use Rattle.bplist_objects.specs.Answers.{GivesFault, Never}
@@ -26,13 +26,12 @@ parts_same p q x y l e =
 -- numbers have one spelling
 words_once : (xs ys : List ℕ) → AreWords xs → AreWords ys → words xs ≡ words ys → xs ≡ ys
 words_once [] [] p q e = refl
-words_once [] (y ∷ ys) p q e = absurd (omega (arith, ap length e, length-words (y ∷ ys)))
-words_once (x ∷ xs) [] p q e = absurd (omega (arith, ap length e, length-words (x ∷ xs)))
 words_once (x ∷ xs) (y ∷ ys) p q e =
     let s = parts_same (bytes_high_first 4 x) (bytes_high_first 4 y) (words xs) (words ys) (length-bytes 4 x ∙ sym (length-bytes 4 y)) e in
     let first : x ≡ y = sym (num-bytes 4 x (p 0)) ∙ ap num s.0 ∙ num-bytes 4 y (q 0) in
     let rest = words_once xs ys (λ k. p (suc k)) (λ k. q (suc k)) s.1 in
     cc
+words_once xs ys p q e = absurd (omega (arith, ap length e, length-words xs, length-words ys))
 
 -- the bytes after the magic
 abbrev behind : Lists → List ℕ
@@ -57,12 +56,11 @@ once : (h i : List ℕ) (j k : Option Keyed) → IsCertificate (lists h j) → I
 once h i None None p q e =
     let r = heights_once (lists h None) (lists i None) p q (append_cancel_left (magic false) (behind (lists h None)) (behind (lists i None)) e) in
     ap (λ x. lists x None) r.0
-once h i None (Some k) p q e = absurd (omega (arith, ap (λ xs. get_or xs 7 0) e))
-once h i (Some j) None p q e = absurd (omega (arith, ap (λ xs. get_or xs 7 0) e))
 once h i (Some j) (Some k) p q e =
     let r = heights_once (lists h (Some j)) (lists i (Some k)) p q (append_cancel_left (magic true) (behind (lists h (Some j))) (behind (lists i (Some k))) e) in
     let l : length j.starts ≡ length k.starts = p.starts ∙ ap length r.0 ∙ sym q.starts in
     ap (λ x. lists x (Some j)) r.0 ∙ ap (λ x. lists i (Some x)) (keyed_once j k l p.keys q.keys r.1)
+once _ _ _ _ p q e = absurd (omega (arith, ap (λ xs. get_or xs 7 0) e))
 
 -- a certificate has one spelling
 pub octets_once : (a b : Lists) → IsCertificate a → IsCertificate b → octets_of a ≡ octets_of b → a ≡ b
@@ -146,25 +144,18 @@ height_count_is h (Some k) p = ap num (take_at (bytes_high_first 8 (length h)) (
 
 length_behind : (h : List ℕ) (j : Option Keyed) → length (behind (lists h j)) ≡ 8 + 4 * length h + length (key_words j)
 length_behind h j =
-    let a = length-append (bytes_high_first 8 (length h)) (words h ++ key_words j) in
-    let b = length-append (words h) (key_words j) in
-    let c = length-bytes 8 (length h) in
-    let d = length-words h in
-    omega (arith, a, b, c, d)
+    let all = length-append (bytes_high_first 8 (length h)) (words h ++ key_words j) in
+    omega (arith, all, length-append (words h) (key_words j), length-bytes 8 (length h), length-words h)
 
 length_of : (h : List ℕ) (j : Option Keyed) → IsCertificate (lists h j) → Fits (is_some j) (num (part (octets_of (lists h j)) 8 8)) (length (octets_of (lists h j)))
-length_of h None p =
-    let t = height_count_is h None p in
-    let l = length_behind h None in
-    omega (arith, t, l)
+length_of h None p = omega (arith, height_count_is h None p, length_behind h None)
 length_of h (Some k) p =
-    let t = height_count_is h (Some k) p in
     let l = length_behind h (Some k) in
     let a = length-append (words k.starts) (words k.positions) in
     let b = length-words k.starts in
     let c = length-words k.positions in
     let s = p.starts in
-    (omega (arith, t, l, a, b, c, s), omega (arith, l, a, b, c, s))
+    (omega (arith, height_count_is h (Some k) p, l, a, b, c, s), omega (arith, l, a, b, c, s))
 
 magic_of : (h : List ℕ) (j : Option Keyed) → take 8 (octets_of (lists h j)) ≡ magic (is_some j)
 magic_of h None = refl
@@ -173,8 +164,7 @@ magic_of h (Some k) = refl
 one_magic : (x y : Bool) → magic x ≡ magic y → x ≡ y
 one_magic false false e = refl
 one_magic true true e = refl
-one_magic false true e = absurd (omega (arith, ap (λ xs. get_or xs 7 0) e))
-one_magic true false e = absurd (omega (arith, ap (λ xs. get_or xs 7 0) e))
+one_magic _ _ e = absurd (omega (arith, ap (λ xs. get_or xs 7 0) e))
 
 -- the bytes of a certificate keep rules 24 and 25
 pub octets_kept : (octets : List ℕ) (c : Lists) (a : Fault) → IsCertificate c → octets ≡ octets_of c → IsOctetsFault octets a → ⊥

@@ -14,7 +14,7 @@ use Rattle.bplist_objects.specs.declared.head.Head.{Head}
 use Rattle.bplist_objects.specs.declared.head.Kind.TheVariants as kinds
 use Rattle.bplist_objects.specs.Frame.{off, IsFrame}
 use Rattle.bplist_objects.specs.Safe.{ref_count}
-use Rattle.bplist_objects.specs.Answers.{Gives, GivesFault, Never}
+use Rattle.bplist_objects.specs.Answers.{GivesFault, Never, Gives}
 use Rattle.bplist_objects.specs.Announced.{HasHead}
 use Rattle.bplist_objects.specs.FrameRules.{IsFrameFault}
 use Rattle.bplist_objects.specs.Rules.{KeepsAll, IsFirstFault, OfObject}
@@ -30,7 +30,7 @@ use Rattle.bplist_cert.specs.declared.refusal.Refusal.{Refusal}
 use Rattle.bplist_cert.specs.declared.refusal.Refusal.TheVariants as refusals
 use Rattle.bplist_cert.specs.Lists.{Keyed, Lists, lists}
 use Rattle.bplist_cert.specs.Valid.{IsVouchedBy}
-use Rattle.bplist_cert.specs.Heights.{AreMet, AreLower, IsHeightFault, IsUnmetFault}
+use Rattle.bplist_cert.specs.Heights.{AreMet, IsHeightFault, AreLower, IsUnmetFault}
 use Rattle.bplist_objects.specs.Claims.{FailsAt}
 use Rattle.bplist_cert.specs.DictKeys.{KeysAreTexts, KeysDiffer, IsKeylessFault}
 use Rattle.bplist_cert.specs.CheckRules.{Asks, KeepsRule, BreaksRule, KeepsCheck, IsCheckFault, check_rules, rules_before_keys, key_rules, KeepsLast}
@@ -257,8 +257,7 @@ never_refused Q e h = object_refused Never Q e (λ x never. absurd never) h
 -- a claim about a fault that is refused
 pub refused_weaker : (P Q : Fault → Type 0) (e : Refusal) → ((x : Fault) → P x → Q x) → GivesRefusal P e → GivesRefusal Q e
 refused_weaker P Q (refusals.Fault fault) same h = same fault h
-refused_weaker P Q (refusals.Read r) same h = tt
-refused_weaker P Q refusals.Memory same h = tt
+refused_weaker P Q _ same h = tt
 
 -- what the exit of a `?` returns, by its error
 pub on_err : {X E : Type 0} (P : X → Type 0) (Q : E → Type 0) (r : Result X E) (e : E) → IsErrAnd r (λ x. x ≡ e) → Q e → MatchResult r P Q

@@ -1,5 +1,5 @@
 -- Key lists by the markers and counts of the keys.
-use Rattle.std.proofs.Common.{◌≡◌, ℕ, zero, suc, ◌+◌, ◌*◌, ◌<◌, ◌≤◌, inl, inr, List, set, replicate, length, slice_index, Option, Some, None, sym, ap, ap₂, ◌∙◌, ◌-◌, subst, arith}
+use Rattle.std.proofs.Common.{◌≡◌, ℕ, suc, ◌+◌, ◌*◌, ◌<◌, ◌≤◌, inl, inr, List, set, replicate, length, slice_index, Option, Some, None, sym, ap, ap₂, ◌∙◌, subst, arith}
 use Rattle.std.proofs.lemmas.Bool.{cases_eq, cases_lt}
 use Rattle.std.proofs.lemmas.List.{get_or-replicate, length-replicate, get_or_past, get_or-set_same, get_or-set_other}
 use Rattle.std.specs.declared.cmp.Ordering.{Ordering}
@@ -10,7 +10,6 @@ use Rattle.bplist_objects.specs.Frame.{IsFrame}
 use Rattle.bplist_objects.specs.Heads.{HasShape}
 use Rattle.bplist_objects.specs.Units.{IsTextKind, compare_units}
 use Rattle.bplist_objects.proofs.HeadTies.{shape_announced}
-use Rattle.bplist_objects.proofs.UnitOrder.{compare_units-self, compare_units-less_less}
 use Rattle.bplist_objects.specs.Scan.{ref}
 use Rattle.bplist_keys.specs.LongRanks.{IsRankedAs}
 use Rattle.bplist_keys.specs.Texts.{HasTextShape, text_units}
@@ -25,17 +24,8 @@ use Rattle.bplist_cert.specs.declared.key_order.ReadKey.{ReadKey}
 use Rattle.bplist_cert.specs.KeyPairs.{Ascends, ArePairs, Follows, HaveTextShapes}
 use Rattle.bplist_cert.proofs.KeyRepeats.{seen_own, good_low, no_keys, keys_inside, sound_keys}
 use Rattle.bplist_cert.proofs.AllNumbers.{onto}
+use Rattle.bplist_cert.proofs.OrderedLists.{ascend_apart}
 use Rattle.bplist_cert.proofs.TextObjects.{text_there}
-
--- lists of units that ascend one by one ascend
-pub ascend_all : (u : ℕ → List ℕ) (count : ℕ) → ((k : ℕ) → suc k < count → compare_units (u k) (u (suc k)) ≡ Less) → (d i : ℕ) → suc (i + d) < count → compare_units (u i) (u (suc (i + d))) ≡ Less
-ascend_all u count up zero i l =
-    let e : i ≡ i + 0 = omega arith in
-    subst (λ k. compare_units (u i) (u (suc k)) ≡ Less) e (up i (omega (arith, l)))
-ascend_all u count up (suc d) i l =
-    let e : suc (i + d) ≡ i + suc d = omega arith in
-    subst (λ k. compare_units (u i) (u (suc k)) ≡ Less) e
-    (compare_units-less_less (u i) (u (suc (i + d))) (u (suc (suc (i + d)))) (ascend_all u count up d i (omega (arith, l))) (up (suc (i + d)) (omega (arith, l))))
 
 module _ (f : List ℕ) (F : Frame) where
   -- the order of ranks is that of the computed units
@@ -125,12 +115,7 @@ module _ (f : List ℕ) (F : Frame) where
 
     module _ (so : AscendTo head.count) where
       apart : (i j : ℕ) → i < j → j < head.count → slice_index list i ≡ slice_index list j → ⊥
-      apart i j l m e =
-          let d : ℕ = j - suc i in
-          let there : suc (i + d) ≡ j = omega (arith, l) in
-          let less = subst (λ k. compare_units (units_at i) (units_at k) ≡ Less) there (ascend_all units_at head.count so.up d i (omega (arith, there, m))) in
-          let same : units_at i ≡ units_at j = ap (λ p. text_units f F (ref f F head p)) e in
-          cc (sym less ∙ ap (compare_units (units_at i)) (sym same) ∙ compare_units-self (units_at i))
+      apart i j l m e = ascend_apart units_at head.count so.up i j l m (ap (λ p. text_units f F (ref f F head p)) e)
 
       -- each key is at one of the positions, if there are as many different ones as keys
       pub shapes_all : HaveTextShapes f F head

@@ -29,8 +29,6 @@ module _ (f : List ℕ) (F : Frame) where
 
   keys_of_kind : (kind : Kind) (count body : ℕ) → (kind ≡ kinds.Dict → HasKeys f F (content_of f F kinds.Dict count body)) → HasKeys f F (content_of f F kind count body)
   keys_of_kind kinds.Dict count body h = h refl
-  keys_of_kind kinds.Array count body h = tt
-  keys_of_kind kinds.Set count body h = tt
   keys_of_kind _ count body h = tt
 
   module _ (n : ℕ) (head : Head) (has : HasShape f F n head) (c : Content) (s : Spells f F n c) where

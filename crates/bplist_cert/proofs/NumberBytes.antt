@@ -58,8 +58,6 @@ num-bytes n x h = num-low_bytes n x ∙ mod-eq_of_lt h
 pub num-same : (xs ys : List ℕ) → length xs ≡ length ys → AreBytes xs → AreBytes ys → num xs ≡ num ys → xs ≡ ys
 unfolding num
 num-same [] [] l p q e = refl
-num-same [] (y ∷ ys) l p q e = absurd (omega arith)
-num-same (x ∷ xs) [] l p q e = absurd (omega arith)
 num-same (x ∷ xs) (y ∷ ys) l p q e =
     let m : length xs ≡ length ys = omega arith in
     let a = num-lt xs (λ k. p (suc k)) in
@@ -74,6 +72,7 @@ num-same (x ∷ xs) (y ∷ ys) l p q e =
     let rest : num xs ≡ num ys = sym x% ∙ ap (λ n. n % 256 ^ length xs) e' ∙ y% in
     let tail = num-same xs ys m (λ k. p (suc k)) (λ k. q (suc k)) rest in
     cc
+num-same xs ys l p q e = absurd (omega arith)
 
 byte_at-lt : (k n : ℕ) → byte_at k n < 256
 byte_at-lt zero n = mod-lt n (omega arith)
@@ -94,11 +93,7 @@ bytes-num n xs l p =
 -- as many numbers are as four times the bytes
 pub length-words : (xs : List ℕ) → length (words xs) ≡ 4 * length xs
 length-words [] = refl
-length-words (x ∷ xs) =
-    let e = length-words xs in
-    let a = length-append (bytes_high_first 4 x) (words xs) in
-    let b = length-bytes 4 x in
-    omega (arith, e, a, b)
+length-words (x ∷ xs) = omega (arith, length-words xs, length-append (bytes_high_first 4 x) (words xs), length-bytes 4 x)
 
 -- a part of bytes is of bytes
 pub part-low : (xs : List ℕ) (place n : ℕ) → AreBytes xs → AreBytes (part xs place n)
@@ -106,8 +101,7 @@ part-low xs place n low k = elim (cases_lt k n) [
   | inl lt ↦ rw (get_or-take n (drop place xs) k 0 lt, get_or-drop place xs k 0) (low (place + k))
   | inr ge ↦
       let short : length (part xs place n) ≤ k = omega (arith, length-take n (drop place xs)) in
-      let none = get_or_past (part xs place n) k 0 short in
-      omega (arith, none)
+      omega (arith, get_or_past (part xs place n) k 0 short)
 ]
 
 -- one more number of 4 bytes

@@ -1,6 +1,5 @@
 -- A dictionary with a repeated key has no sorted key list.
-use Rattle.std.proofs.Common.{◌≡◌, ℕ, suc, ◌+◌, ◌-◌, ◌<◌, inl, inr, List, [], length, slice_index, slice_index_or, sym, ap, ap₂, ◌∙◌, subst, arith}
-use Rattle.std.proofs.lemmas.Bool.{cases_order}
+use Rattle.std.proofs.Common.{◌≡◌, ℕ, suc, ◌<◌, List, [], length, slice_index, slice_index_or, sym, ap, ◌∙◌, arith}
 use Rattle.std.proofs.lemmas.List.Elements.{All-get_or, All-from_recursion}
 use Rattle.std.specs.declared.cmp.Ordering.TheVariants.{Less}
 use Rattle.bplist_objects.specs.declared.frame.Frame.{Frame}
@@ -8,34 +7,28 @@ use Rattle.bplist_objects.specs.Heads.{leaf}
 use Rattle.bplist_objects.specs.Value.{text}
 use Rattle.bplist_objects.specs.Units.{compare_units}
 use Rattle.bplist_objects.proofs.Fronts.{one_head}
-use Rattle.bplist_objects.proofs.UnitOrder.{compare_units-self}
 use Rattle.bplist_cert.specs.Valid.{SpellsText}
 use Rattle.bplist_cert.specs.Sorted.{IsSorted}
-use Rattle.bplist_cert.proofs.KeyPairs.{ascend_all}
+use Rattle.bplist_cert.proofs.OrderedLists.{ascend_apart, ascend_once}
 use Rattle.bplist_cert.proofs.AllNumbers.{onto}
 use Rattle.bplist_cert.proofs.TextKeys.{zip_at}
 
 module _ (f : List ℕ) (F : Frame) (ks positions : List ℕ) (s : IsSorted f F ks positions) where
   -- the units of the key at number k of the list
-  abbrev units_at : ℕ → List ℕ
+  abbrev pub units_at : ℕ → List ℕ
   units_at k = slice_index_or s.units (slice_index positions k) []
 
-  low : (k : ℕ) → k < length ks → slice_index positions k < length ks
+  pub low : (k : ℕ) → k < length ks → slice_index positions k < length ks
   low k l = All-get_or (λ p. p < length ks) positions k 0 (omega (arith, l, s.count)) (All-from_recursion (λ p. p < length ks) positions s.within)
 
-  far : (a b : ℕ) → a < b → b < length ks → compare_units (units_at a) (units_at b) ≡ Less
-  far a b l m =
-      let d : ℕ = b - suc a in
-      let there : suc (a + d) ≡ b = omega (arith, l) in
-      subst (λ k. compare_units (units_at a) (units_at k) ≡ Less) there
-      (ascend_all units_at (length ks) (λ k within. s.ascend k (omega (arith, within, s.count))) d a (omega (arith, there, m)))
+  -- the keys ascend one by one
+  pub up : (k : ℕ) → suc k < length ks → compare_units (units_at k) (units_at (suc k)) ≡ Less
+  up k within = s.ascend k (omega (arith, within, s.count))
 
   apart : (i j : ℕ) → i < j → j < length ks → slice_index positions i ≡ slice_index positions j → ⊥
-  apart i j l m e =
-      let same : units_at i ≡ units_at j = ap (λ p. slice_index_or s.units p []) e in
-      cc (sym (far i j l m) ∙ ap (compare_units (units_at i)) (sym same) ∙ compare_units-self (units_at i))
+  apart i j l m e = ascend_apart units_at (length ks) up i j l m (ap (λ p. slice_index_or s.units p []) e)
 
-  units_of_key : (k : ℕ) (us : List ℕ) → k < length ks → SpellsText f F (slice_index ks k) us → slice_index_or s.units k [] ≡ us
+  pub units_of_key : (k : ℕ) (us : List ℕ) → k < length ks → SpellsText f F (slice_index ks k) us → slice_index_or s.units k [] ≡ us
   units_of_key k us l spells =
       let same = one_head f F (slice_index ks k) (leaf (text (slice_index_or s.units k []))) (leaf (text us)) (zip_at (SpellsText f F) ks s.units k 0 [] s.texts l) spells in
       cc same
@@ -47,13 +40,8 @@ module _ (f : List ℕ) (F : Frame) (ks positions : List ℕ) (s : IsSorted f F 
       let b = onto (length ks) (slice_index positions) low apart j m in
       let first : units_at a.0 ≡ us = ap (λ p. slice_index_or s.units p []) a.2 ∙ units_of_key i us within x in
       let second : units_at b.0 ≡ us = ap (λ p. slice_index_or s.units p []) b.2 ∙ units_of_key j us m y in
-      elim (cases_order a.0 b.0) [
-        | inl same ↦ let e = ap (slice_index positions) same in omega (arith, e, a.2, b.2, l)
-        | inr other ↦ elim other [
-          | inl before ↦ cc (sym (far a.0 b.0 before b.1) ∙ ap₂ compare_units first second ∙ compare_units-self us)
-          | inr after ↦ cc (sym (far b.0 a.0 after a.1) ∙ ap₂ compare_units second first ∙ compare_units-self us)
-        ]
-      ]
+      let same = ascend_once units_at (length ks) up a.0 b.0 a.1 b.1 (first ∙ sym second) in
+      omega (arith, ap (slice_index positions) same, a.2, b.2, l)
 
 -- a key list does not have two keys with the same units
 pub repeated_unlisted : (f : List ℕ) (F : Frame) (ks positions : List ℕ) (i j : ℕ) (us : List ℕ) → i < j → j < length ks → SpellsText f F (slice_index ks i) us → SpellsText f F (slice_index ks j) us

@@ -1,7 +1,6 @@
 -- The keys of a dictionary by the definitions and by index.
-use Rattle.std.proofs.Common.{◌≡◌, ℕ, zero, suc, ◌+◌, ◌-◌, ◌*◌, ◌<◌, inl, inr, List, [], ◌∷◌, length, slice_index, slice_index_or, Less, refl, sym, ap, ◌∙◌, subst, arith}
+use Rattle.std.proofs.Common.{◌≡◌, ℕ, zero, suc, ◌+◌, ◌*◌, ◌<◌, List, [], ◌∷◌, length, slice_index, slice_index_or, Less, refl, sym, ap, ap₂, ◌∙◌, subst, arith}
 use Rattle.std.specs.List.{AllZip}
-use Rattle.std.proofs.lemmas.Bool.{cases_order}
 use Rattle.std.proofs.lemmas.List.{get_or_default}
 use Rattle.std.proofs.lemmas.Slice.Zip.{AllZip-long}
 use Rattle.bplist_objects.specs.declared.frame.Frame.{Frame}
@@ -14,19 +13,19 @@ use Rattle.bplist_objects.specs.Heads.{leaf, content_of, Spells}
 use Rattle.bplist_objects.specs.Holds.{AreDistinct}
 use Rattle.bplist_objects.specs.Units.{IsTextKind, units_at, units_of, compare_units}
 use Rattle.bplist_objects.proofs.References.{length-nums_at, nth-nums_at}
-use Rattle.bplist_objects.proofs.UnitOrder.{compare_units-less_less, compare_units-not_less}
+use Rattle.bplist_keys.specs.Texts.{text_units}
+use Rattle.bplist_keys.proofs.TextUnits.{text_units-head}
 use Rattle.bplist_objects.specs.Scan.{ref}
 use Rattle.bplist_cert.specs.Valid.{SpellsText}
 use Rattle.bplist_cert.specs.DictKeys.{IsText, KeysAreTexts, KeysDiffer, AreInOrder}
-use Rattle.bplist_cert.proofs.OrderedLists.{text_once}
+use Rattle.bplist_cert.proofs.OrderedLists.{ascend_apart, ascend_once, text_once}
 use Rattle.bplist_cert.proofs.AllNumbers.{onto}
 
 -- ---- two lists, item by item
 pub zip_at : {A B : Type 0} (R : A → B → Type 0) (xs : List A) (ys : List B) (k : ℕ) (d : A) (e : B) → AllZip R xs ys → k < length xs → R (slice_index_or xs k d) (slice_index_or ys k e)
-zip_at R [] ys k d e z l = absurd (omega (arith, l))
-zip_at R (x ∷ xs) [] k d e z l = absurd z
 zip_at R (x ∷ xs) (y ∷ ys) zero d e z l = z.0
 zip_at R (x ∷ xs) (y ∷ ys) (suc k) d e z l = zip_at R xs ys k d e z.1 (omega (arith, l))
+zip_at R xs ys k d e z l = absurd (omega (arith, l, AllZip-long R xs ys z))
 
 -- ---- texts
 -- the content of a text's head is the text of its units
@@ -113,39 +112,26 @@ module _ (f : List ℕ) (F : Frame) (head : Head) (list : List ℕ) (texts : Key
   abbrev position : ℕ → ℕ
   position j = slice_index list j
 
-  far : (i n : ℕ) (a b : Head) → suc (i + n) < head.count → IsText f F (ref f F head (position i)) a → IsText f F (ref f F head (position (suc (i + n)))) b → compare_units (units_of f a) (units_of f b) ≡ Less
-  far i zero a b l x y =
-      let e : suc (i + 0) ≡ suc i = omega arith in
-      (order (suc (i + 0)) l).1 i a b (sym e) x y
-  far i (suc n) a b l x y =
-      let e : suc (i + suc n) ≡ suc (suc (i + n)) = omega arith in
-      let y' = subst (λ j. IsText f F (ref f F head (position j)) b) e y in
-      let between = texts (position (suc (i + n))) ((order (suc (i + n)) (omega (arith, l))).0) in
-      let first = far i n a between.0 (omega (arith, l)) x between.1 in
-      let second = (order (suc (suc (i + n))) (omega (arith, l))).1 (suc (i + n)) between.0 b refl between.1 y' in
-      compare_units-less_less (units_of f a) (units_of f between.0) (units_of f b) first second
+  abbrev units : ℕ → List ℕ
+  units j = text_units f F (ref f F head (position j))
 
-  ascends : (i j : ℕ) (a b : Head) → i < j → j < head.count → IsText f F (ref f F head (position i)) a → IsText f F (ref f F head (position j)) b → compare_units (units_of f a) (units_of f b) ≡ Less
-  ascends i j a b lt l x y =
-      let e : suc (i + (j - suc i)) ≡ j = omega (arith, lt) in
-      far i (j - suc i) a b (omega (arith, e, l)) x (subst (λ k. IsText f F (ref f F head (position k)) b) (sym e) y)
+  units_are : (j : ℕ) (key : Head) → IsText f F (ref f F head (position j)) key → units j ≡ units_of f key
+  units_are j key is = text_units-head f F (ref f F head (position j)) key (is.is.0, is.kind)
+
+  up : (k : ℕ) → suc k < head.count → compare_units (units k) (units (suc k)) ≡ Less
+  up k l =
+      let a = texts (position k) (order k (omega (arith, l))).0 in
+      let b = texts (position (suc k)) (order (suc k) l).0 in
+      ap₂ compare_units (units_are k a.0 a.1) (units_are (suc k) b.0 b.1) ∙ (order (suc k) l).1 k a.0 b.0 refl a.1 b.1
 
   apart : (i j : ℕ) → i < j → j < head.count → position i ≡ position j → ⊥
-  apart i j lt l e =
-      let a = texts (position i) ((order i (omega (arith, lt, l))).0) in
-      let up = ascends i j a.0 a.0 lt l a.1 (subst (λ p. IsText f F (ref f F head p) a.0) e a.1) in
-      compare_units-not_less (units_of f a.0) (units_of f a.0) refl up
+  apart i j lt l e = ascend_apart units head.count up i j lt l (ap (λ p. text_units f F (ref f F head p)) e)
 
   pub ordered_differ : KeysDiffer f F head head.count
   ordered_differ i j lt l a b x y e =
       let p = onto head.count position (λ k m. (order k m).0) apart i (omega (arith, lt, l)) in
       let q = onto head.count position (λ k m. (order k m).0) apart j l in
-      let x' = subst (λ k. IsText f F (ref f F head k) a) (sym p.2) x in
-      let y' = subst (λ k. IsText f F (ref f F head k) b) (sym q.2) y in
-      elim (cases_order p.0 q.0) [
-        | inl same ↦ let z : i ≡ j = sym p.2 ∙ ap position same ∙ q.2 in omega (arith, lt, z)
-        | inr r ↦ elim r [
-          | inl before ↦ compare_units-not_less (units_of f a) (units_of f b) e (ascends p.0 q.0 a b before q.1 x' y')
-          | inr behind ↦ compare_units-not_less (units_of f b) (units_of f a) (sym e) (ascends q.0 p.0 b a behind p.1 y' x')
-        ]
-      ]
+      let first = units_are p.0 a (subst (λ k. IsText f F (ref f F head k) a) (sym p.2) x) in
+      let second = units_are q.0 b (subst (λ k. IsText f F (ref f F head k) b) (sym q.2) y) in
+      let same = ascend_once units head.count up p.0 q.0 p.1 q.1 (first ∙ e ∙ sym second) in
+      omega (arith, lt, sym p.2 ∙ ap position same ∙ q.2)

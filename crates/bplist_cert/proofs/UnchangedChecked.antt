@@ -23,12 +23,11 @@ key_numbers keys = option_map_or (λ (keyed : Keyed). (2 ∷ []) ∷ keyed.start
 
 keys_same : (j k : Option Keyed) (xs ys : List (List ℕ)) → key_numbers j ++ xs ≡ key_numbers k ++ ys → (j ≡ k) × (xs ≡ ys)
 keys_same None None xs ys e = (refl, ap (λ zs. drop 1 zs) e)
-keys_same None (Some k) xs ys e = absurd (omega (arith, ap (λ zs. slice_index (slice_index_or zs 0 []) 0) e))
-keys_same (Some j) None xs ys e = absurd (omega (arith, ap (λ zs. slice_index (slice_index_or zs 0 []) 0) e))
 keys_same (Some j) (Some k) xs ys e = (
   ap₂ (λ x y. Some (record { starts = x; positions = y })) (ap (λ zs. slice_index_or zs 1 []) e) (ap (λ zs. slice_index_or zs 2 []) e),
   ap (λ zs. drop 3 zs) e,
 )
+keys_same _ _ xs ys e = absurd (omega (arith, ap (λ zs. slice_index (slice_index_or zs 0 []) 0) e))
 
 extra_same : (old new : CheckedFile) → (meaning_of new).extra ≡ (meaning_of old).extra → (new.source.extra ≡ old.source.extra) × (new.frame ≡ old.frame) × (new.certificate ≡ old.certificate)
 extra_same old new e =

@@ -1,6 +1,7 @@
 -- What valid heights prove: each vouched object holds a value, and references from it go down.
 use Rattle.std.proofs.Common.{◌≡◌, ℕ, zero, suc, ◌<◌, ◌≤◌, ◌+◌, ◌*◌, List, [], ◌∷◌, length, slice_index, refl, sym, ap, ◌∙◌, subst, arith, Contains, All}
 use Rattle.std.specs.List.{AllByRecursion, AllZip}
+use Rattle.std.proofs.lemmas.Slice.Zip.{AllZip-long}
 use Rattle.bplist_objects.specs.Frame.{IsFrame}
 use Rattle.bplist_objects.specs.Numbers.{nums_at}
 use Rattle.bplist_objects.specs.declared.frame.Frame.{Frame}
@@ -41,13 +42,10 @@ module _ (f : List ℕ) (F : Frame) where
 
   pairs_held : (ks ms : List ℕ) (us : List (List ℕ)) → length ks ≡ length ms → AllZip (λ k u. Spells f F k (Content.leaf (text u))) ks us → AllByRecursion Held ms → (ps : Pairs) × HoldPairs f F ks ms ps × (keys ps ≡ us)
   pairs_held [] [] [] e z a = (no_pairs, tt, refl)
-  pairs_held [] [] (u ∷ us) e z a = absurd z
-  pairs_held [] (m ∷ ms) us e z a = absurd (omega arith)
-  pairs_held (k ∷ ks) [] us e z a = absurd (omega arith)
-  pairs_held (k ∷ ks) (m ∷ ms) [] e z a = absurd z
   pairs_held (k ∷ ks) (m ∷ ms) (u ∷ us) e z a =
       let r = pairs_held ks ms us (omega arith) z.1 a.1 in
       (pair u a.0.0 r.0, (z.0, a.0.1, r.1), ap (λ us. u ∷ us) r.2)
+  pairs_held ks ms us e z a = absurd (omega (arith, e, AllZip-long (λ k u. Spells f F k (Content.leaf (text u))) ks us z))
 
   pub from_content : (h : Content) (n : ℕ) → Spells f F n h → AllByRecursion Held (refs h) → HasKeys f F h → Held n
   from_content (Content.leaf l) n s a u = (leaf l, s)

@@ -1,8 +1,7 @@
 -- Adding up the sizes of references, block by block.
-use Rattle.std.proofs.Common.{◌≡◌, ℕ, suc, ◌+◌, ◌≤◌, ◌<◌, List, length, take, drop, slice_index, Option, Some, None, refl, sym, ap, ◌∙◌, arith}
+use Rattle.std.proofs.Common.{◌≡◌, ℕ, ◌+◌, ◌≤◌, ◌<◌, List, length, take, drop, slice_index, Option, Some, None, refl, sym, ap, ◌∙◌, arith}
 use Rattle.std.specs.Prelude.{option_and_then}
 use Rattle.std.proofs.lemmas.List.{take-append-drop, drop-drop, drop_all, ext_get_or}
-use Rattle.std.proofs.Math.Seq.{drop-cons}
 use Rattle.bplist_octets.specs.Octets.{part}
 use Rattle.bplist_objects.specs.declared.frame.Frame.{Frame}
 use Rattle.bplist_objects.specs.declared.head.Head.{Head}
@@ -13,26 +12,13 @@ use Rattle.bplist_objects.proofs.References.{length-refs, nth-refs}
 use Rattle.bplist_objects.proofs.Parts.{get_or-part}
 use Rattle.bplist_objects.proofs.Units.{length-part}
 use Rattle.bplist_cursor.specs.declared.sizes.Size.{Size}
-use Rattle.bplist_cursor.specs.Sizes.{Table, both, size_in, added}
+use Rattle.bplist_cursor.specs.Sizes.{Table, added}
 use Rattle.bplist_cursor.proofs.SizeSteps.{added-append}
 
 -- an option that is not Some is None
 pub none_of : {X : Type 0} (o : Option X) → ((x : X) → o ≡ Some x → ⊥) → o ≡ None
 none_of None h = refl
 none_of (Some x) h = absurd (h x refl)
-
--- one more object
-pub added_next : (sizes : Table) (total s : Size) (xs : List ℕ) (k : ℕ) → k < length xs → size_in sizes (slice_index xs k) ≡ Some s
-    → added sizes (both total s) (drop (k + 1) xs) ≡ added sizes total (drop k xs)
-added_next sizes total s xs k l is =
-    let more : k + 1 ≡ suc k = omega arith in
-    ap (λ n. added sizes (both total s) (drop n xs)) more
-    ∙ sym (ap (added sizes total) (drop-cons xs k 0 l) ∙ ap (option_and_then (λ s. added sizes (both total s) (drop (suc k) xs))) is)
-
--- an object that the table does not have
-pub added_not : (sizes : Table) (total : Size) (xs : List ℕ) (k : ℕ) → k < length xs → size_in sizes (slice_index xs k) ≡ None → added sizes total (drop k xs) ≡ None
-added_not sizes total xs k l is =
-    ap (added sizes total) (drop-cons xs k 0 l) ∙ ap (option_and_then (λ s. added sizes (both total s) (drop (suc k) xs))) is
 
 -- a block and the references after it
 block_front : (sizes : Table) (total : Size) (xs block : List ℕ) (from n : ℕ) → block ≡ part xs from n

@@ -1,5 +1,5 @@
 -- How many bytes are asked for, from call to call.
-use Rattle.std.proofs.Common.{arith, ◌≡◌, ◌+◌, ◌*◌, ◌<◌, ◌≤◌, ℕ, suc, List, [], ◌∷◌, length, slice_index_or, take, Result, Ok, Err, refl, sym, ap, subst, ◌∙◌}
+use Rattle.std.proofs.Common.{arith, ◌≡◌, ◌+◌, ◌*◌, ◌<◌, ◌≤◌, ℕ, suc, List, length, slice_index_or, take, Result, Ok, Err, refl, sym, ap, subst, ◌∙◌, [], ◌∷◌}
 use Rattle.std.specs.Prelude.{Option}
 use Rattle.std.specs.List.{sum_by}
 use Rattle.std.proofs.Math.Nat.{add-mul, mul-le-mul_right}
@@ -8,13 +8,13 @@ use Rattle.bplist_objects.specs.declared.frame.Frame.{Frame}
 use Rattle.bplist_objects.specs.declared.head.Head.{Head}
 use Rattle.bplist_objects.specs.declared.head.Kind.{Kind}
 use Rattle.bplist_objects.specs.declared.head.Kind.TheVariants as kinds
-use Rattle.bplist_objects.specs.Value.{Leaf, Value, leaf, array, set, dict, keys}
+use Rattle.bplist_objects.specs.Value.{Value, leaf, array, set, dict, keys}
 use Rattle.bplist_objects.specs.Heads as H
 use Rattle.bplist_objects.specs.Heads.{Spells}
 use Rattle.bplist_objects.specs.Holds.{Holds}
 use Rattle.bplist_objects.specs.Announced.{item_size}
 use Rattle.bplist_objects.specs.Safe.{IsSafeBody}
-use Rattle.bplist_objects.proofs.References.{as_many, dict_parts, length-nums_at}
+use Rattle.bplist_objects.proofs.References.{length-nums_at}
 use Rattle.bplist_objects.proofs.Units.{length-part}
 use Rattle.bplist_cert.specs.Lists.{Keyed}
 use Rattle.bplist_cert.specs.CheckedFile.{CheckedFile, HonestlyChecked}
@@ -23,8 +23,8 @@ use Rattle.bplist_cursor.specs.Asked.{count_bytes, face_bytes, key_bytes, leaf_b
 use Rattle.bplist_cursor.specs.declared.replies.Query.{Query}
 use Rattle.bplist_cursor.specs.Look.{look, stepped}
 use Rattle.bplist_cursor.specs.Queries.{steps_in}
+use Rattle.bplist_cursor.proofs.Counts.{by_keys, keys_counted}
 use Rattle.bplist_cursor.specs.declared.node.Why.{Why}
-use Rattle.bplist_cursor.proofs.Counts.{pair_counts}
 
 -- a turn more, of as many bytes as each turn
 pub a_turn_more : (start before after turns each : ℕ) → before ≤ start + turns * each → after ≤ before + each → after ≤ start + (turns + 1) * each
@@ -47,9 +47,7 @@ pub an_item_more : {X : Type 0} (bytes : X → ℕ) (xs : List X) (i start befor
     → before ≤ start + sum_by bytes (take i xs) → after ≤ before + bytes (slice_index_or xs i d)
     → (after ≤ start + sum_by bytes (take (i + 1) xs)) × (after ≤ start + sum_by bytes xs)
 an_item_more bytes xs i start before after d l a b =
-    let more = sum_by_more bytes xs i d l in
-    let all = sum_by_more_le bytes xs i d l in
-    (omega (arith, a, b, more), omega (arith, a, b, all))
+    (omega (arith, a, b, sum_by_more bytes xs i d l), omega (arith, a, b, sum_by_more_le bytes xs i d l))
 
 -- the bytes that finding a key with these units in a value asks for
 abbrev pub value_bytes : Option Keyed → Value → List ℕ → ℕ
@@ -73,30 +71,17 @@ pub reply_to : (lists : Option Keyed) (v w : Value) (query : Query) → look 0 v
 reply_to lists v w query e = ap (λ r. path_bytes lists v (steps_in query) + on_either r (λ x. told_bytes x query) (λ missing. 0)) e
 
 module _ (f : List ℕ) (F : Frame) (lists : Option Keyed) (s : List ℕ) where
+  abbrev bytes : ℕ → ℕ
+  bytes count = tries lists count * (36 + 2 * length s)
+
   -- they are the same for the value and for the head
   pub same_bytes : (v : Value) (n : ℕ) (head : Head) → Holds f F n v → ((content : H.Content) → Spells f F n content → content ≡ H.content_at f F head)
       → key_bytes lists head.kind head.count s ≡ value_bytes lists v s
-  same_bytes (leaf l) n head o e = of_leaf head.kind head.count head.body l (e _ o)
+  same_bytes v n head o e = of_kind head.kind head.count head.body ∙ keys_counted f F bytes v n head o e
     where
-      of_leaf : (kind : Kind) (c at : ℕ) (l : Leaf) → H.Content.leaf l ≡ H.content_of f F kind c at → key_bytes lists kind c s ≡ 0
-      of_leaf kinds.Dict c at l e = cc e
-      of_leaf _ c at l e = refl
-  same_bytes (array vs) n head o e = of_array head.kind head.count head.body o.0 (e _ o.1)
-    where
-      of_array : (kind : Kind) (c at : ℕ) (ms : List ℕ) → H.Content.array ms ≡ H.content_of f F kind c at → key_bytes lists kind c s ≡ 0
-      of_array kinds.Dict c at ms e = cc e
-      of_array _ c at ms e = refl
-  same_bytes (set vs) n head o e = of_set head.kind head.count head.body o.0 (e _ o.1)
-    where
-      of_set : (kind : Kind) (c at : ℕ) (ms : List ℕ) → H.Content.set ms ≡ H.content_of f F kind c at → key_bytes lists kind c s ≡ 0
-      of_set kinds.Dict c at ms e = cc e
-      of_set _ c at ms e = refl
-  same_bytes (dict ps) n head o e =
-      let is = e _ o.2 in
-      let parts = dict_parts f F head.kind head.count head.body o.0 o.1 is in
-      let counts = as_many f F head.kind head.count head.body o.0 o.1 is in
-      let many = (pair_counts f F o.0 o.1 ps o.3).0 in
-      ap (λ kind. key_bytes lists kind head.count s) parts.0 ∙ ap (λ count. tries lists count * (36 + 2 * length s)) (sym counts.0 ∙ many)
+      of_kind : (kind : Kind) (c at : ℕ) → key_bytes lists kind c s ≡ by_keys bytes (H.content_of f F kind c at)
+      of_kind kinds.Dict c at = ap bytes (sym (length-nums_at f at F.ref_size c))
+      of_kind _ c at = refl
 
 -- the bytes of a leaf that is spelled
 abbrev pub spelled_bytes : H.Content → ℕ

@@ -4,7 +4,7 @@ use Rattle.std.specs.List.{AllByRecursion}
 use Rattle.std.proofs.Props.{props}
 use Rattle.std.proofs.lemmas.Bool.{cases_eq}
 use Rattle.std.proofs.lemmas.List.{drop_all, drop-drop, get_or-replicate, get_or-set_other, get_or-set_same, take-append-drop}
-use Rattle.std.proofs.lemmas.List.Elements.{Contains-append_left, Contains-get_or}
+use Rattle.std.proofs.lemmas.List.Elements.{Contains-get_or}
 use Rattle.std.proofs.lemmas.List.Sums.{sum_by-append, sum_by-cons}
 use Rattle.bplist_octets.specs.Octets.{part}
 use Rattle.bplist_objects.specs.declared.frame.Frame.{Frame}
@@ -14,6 +14,7 @@ use Rattle.bplist_objects.specs.Heads.{Content, Spells, content_at, refs}
 use Rattle.bplist_objects.specs.Holds.{Holds, HoldEach, HoldPairs}
 use Rattle.bplist_objects.specs.Safe.{ref_count}
 use Rattle.bplist_objects.proofs.Lists.{all_behind, all_from, all_front}
+use Rattle.bplist_objects.proofs.Fronts.{one_head}
 use Rattle.bplist_objects.proofs.References.{length-refs}
 use Rattle.bplist_cert.specs.Valid.{IsVouchedBy, IsValid}
 use Rattle.bplist_cert.proofs.VouchedObjects.{object_holds, references_lower}
@@ -22,6 +23,7 @@ use Rattle.bplist_cursor.specs.declared.faults.Unread.{Unread}
 use Rattle.bplist_cursor.specs.NodeCounts.{AreCounted, IsCounted}
 use Rattle.bplist_cursor.specs.Nodes.{cap, nodes, nodes_of, nodes_of_pairs}
 use Rattle.bplist_cursor.specs.ObjectSizes.{IsOrder}
+use Rattle.bplist_cursor.proofs.Counts.{pair_counts}
 use Rattle.bplist_cursor.proofs.HeightOrder.{inside_of, lower_before, not_last, order_inside, place_in}
 
 -- what follows from what was read follows, and a fault is the same
@@ -58,27 +60,17 @@ module _ (f : List ℕ) (F : Frame) (counts : List ℕ) where
 
   members_counted : (vs : Values) (ms : List ℕ) → AllByRecursion (IsCounted f F counts) ms → HoldEach f F ms vs → cap (sum_by at ms) ≡ cap (nodes_of vs)
   members_counted no_values [] all h = refl
-  members_counted no_values (m ∷ ms) all h = absurd h
-  members_counted (value v vs) [] all h = absurd h
   members_counted (value v vs) (m ∷ ms) all h =
-      let first = all.0 v h.0 in
-      let rest = members_counted vs ms all.1 h.1 in
-      omega (arith, first, rest, sum_by-cons at m ms)
+      omega (arith, all.0 v h.0, members_counted vs ms all.1 h.1, sum_by-cons at m ms)
+  members_counted _ _ _ h = absurd h
 
   pairs_counted : (ps : Pairs) (ks ms : List ℕ) → AllByRecursion (IsCounted f F counts) ks → AllByRecursion (IsCounted f F counts) ms → HoldPairs f F ks ms ps
       → cap (sum_by at ks + sum_by at ms) ≡ cap (nodes_of_pairs ps)
   pairs_counted no_pairs [] [] k m h = refl
-  pairs_counted no_pairs [] (m ∷ ms) k a h = absurd h
-  pairs_counted no_pairs (k ∷ ks) [] b a h = absurd h
-  pairs_counted no_pairs (k ∷ ks) (m ∷ ms) b a h = absurd h
-  pairs_counted (pair u v ps) [] [] b a h = absurd h
-  pairs_counted (pair u v ps) [] (m ∷ ms) b a h = absurd h
-  pairs_counted (pair u v ps) (k ∷ ks) [] b a h = absurd h
   pairs_counted (pair u v ps) (k ∷ ks) (m ∷ ms) b a h =
       let key : at k ≡ 1 = b.0 (leaf (text u)) h.0 in
-      let first = a.0 v h.1 in
-      let rest = pairs_counted ps ks ms b.1 a.1 h.2 in
-      omega (arith, key, first, rest, sum_by-cons at k ks, sum_by-cons at m ms)
+      omega (arith, key, a.0 v h.1, pairs_counted ps ks ms b.1 a.1 h.2, sum_by-cons at k ks, sum_by-cons at m ms)
+  pairs_counted ps ks ms b a h = absurd (let c = pair_counts f F ks ms ps h in omega (arith, c.0, c.1))
 
   -- one and the counts of the references of a head make the count of the value
   pub value_counted : (v : Value) (n : ℕ) (head : Head) → Holds f F n v → ((c : Content) → Spells f F n c → c ≡ content_at f F head)
@@ -95,17 +87,10 @@ module _ (f : List ℕ) (F : Frame) (counts : List ℕ) where
       let rest = pairs_counted ps h.0 h.1 (all_front (IsCounted f F counts) h.0 h.1 each) (all_behind (IsCounted f F counts) h.0 h.1 each) h.3 in
       ap (λ c. cap (1 + sum_by at (refs c))) (sym (is (Content.dict h.0 h.1) h.2)) ∙ omega (arith, rest, sum_by-append at h.0 h.1)
 
--- ---- objects without references
-no_members : (f : List ℕ) (F : Frame) (vs : Values) (ms : List ℕ) → HoldEach f F ms vs → ((m : ℕ) → Contains ms m → ⊥) → nodes_of vs ≡ 0
-no_members f F no_values ms h none = refl
-no_members f F (value v vs) [] h none = absurd h
-no_members f F (value v vs) (m ∷ ms) h none = absurd (none m (0, omega arith, refl))
-
-no_pairs_in : (f : List ℕ) (F : Frame) (ps : Pairs) (ks ms : List ℕ) → HoldPairs f F ks ms ps → ((k : ℕ) → Contains ks k → ⊥) → nodes_of_pairs ps ≡ 0
-no_pairs_in f F no_pairs ks ms h none = refl
-no_pairs_in f F (pair u v ps) [] [] h none = absurd h
-no_pairs_in f F (pair u v ps) [] (m ∷ ms) h none = absurd h
-no_pairs_in f F (pair u v ps) (k ∷ ks) ms h none = absurd (none k (0, omega arith, refl))
+-- without counts the sum is 0
+none_counted : (xs : List ℕ) → sum_by (slice_index []) xs ≡ 0
+none_counted [] = refl
+none_counted (x ∷ xs) = omega (arith, none_counted xs, sum_by-cons (slice_index []) x xs)
 
 module _ (f : List ℕ) (F : Frame) (heights : List ℕ) (valid : IsValid f F heights) where
   -- an object of height 1 refers to none
@@ -114,14 +99,13 @@ module _ (f : List ℕ) (F : Frame) (heights : List ℕ) (valid : IsValid f F he
       let lower = references_lower f F heights valid n m (omega (arith, low)) (c, s, among) in
       omega (arith, lower.0, lower.1, low)
 
-  -- its value is one node
-  lowest_one : (v : Value) (n : ℕ) → slice_index heights n ≡ 1 → Holds f F n v → nodes v ≡ 1
-  lowest_one (leaf l) n low h = refl
-  lowest_one (array vs) n low h = let none = no_members f F vs h.0 h.2 (lowest_alone n (Content.array h.0) low h.1) in omega (arith, none)
-  lowest_one (set vs) n low h = let none = no_members f F vs h.0 h.2 (lowest_alone n (Content.set h.0) low h.1) in omega (arith, none)
-  lowest_one (dict ps) n low h =
-      let none = no_pairs_in f F ps h.0 h.1 h.3 (λ k among. lowest_alone n (Content.dict h.0 h.1) low h.2 k (Contains-append_left h.0 h.1 k among)) in
-      omega (arith, none)
+  -- its value is one node, whatever the counts of others are
+  lowest_one : (v : Value) (n : ℕ) → slice_index heights n ≡ 1 → Holds f F n v → cap (nodes v) ≡ 1
+  lowest_one v n low h =
+      let known = (valid.vouched n (omega (arith, low))).spells in
+      let one = value_counted f F [] v n known.shape h (λ c s. one_head f F n c _ s known ∙ known.means)
+      (λ c s. all_from (IsCounted f F []) (refs c) (λ m among. absurd (lowest_alone n c low s m among))) in
+      omega (arith, one, none_counted (refs (content_at f F known.shape)))
 
   module _ (order : List ℕ) (is : IsOrder heights 1 order) where
     abbrev pub nth : ℕ → ℕ
@@ -138,8 +122,7 @@ module _ (f : List ℕ) (F : Frame) (heights : List ℕ) (valid : IsValid f F he
     pub refs_counted : (k : ℕ) (counts : List ℕ) → k < length order → AreCounted f F heights order k counts → (c : Content) → Spells f F (nth k) c
         → AllByRecursion (IsCounted f F counts) (refs c)
     refs_counted k counts l are c s = all_from (IsCounted f F counts) (refs c) (λ m among.
-        let above = above_at k l in
-        let lower = references_lower f F heights valid (nth k) m (omega (arith, above)) (c, s, among) in
+        let lower = references_lower f F heights valid (nth k) m (omega (arith, above_at k l)) (c, s, among) in
         elim (cases_eq (slice_index heights m) 1) [
           | inl low ↦ are.lowest m low
           | inr high ↦
@@ -165,7 +148,7 @@ module _ (f : List ℕ) (F : Frame) (heights : List ℕ) (valid : IsValid f F he
     counted_none counts ones = record {
       lowest = λ n low v h.
           let there : n < F.objects = omega (arith, inside_of heights 0 n (omega (arith, low)), valid.count) in
-          ap (λ c. slice_index c n) ones ∙ get_or-replicate F.objects n 1 0 there ∙ (let one = lowest_one v n low h in omega (arith, one));
+          ap (λ c. slice_index c n) ones ∙ get_or-replicate F.objects n 1 0 there ∙ sym (lowest_one v n low h);
       done = λ j below. absurd (omega (arith, below));
     }
 

@@ -53,9 +53,8 @@ no_other n i units h e l o =
 pub not_so_large : (n i count x y : ℕ) (units : List ℕ) → n < 2 ^ 64 → decimal n ≡ units → IsReading units count i x → i < length units → y ≡ x * 10 + (get_or units i 0 - 48) → count ≤ y → n < count → ⊥
 not_so_large n i count x y units h e r l ey b c =
     let v : read_on 0 units ≡ n = subst (λ us. read_on 0 us ≡ n) e (digits_value-decimal own n h) in
-    let w = sym (read_at x i units l) ∙ r.whole ∙ v in
     let m = read_more (x * 10 + (get_or units i 0 - 48)) (drop (suc i) units) in
-    omega (arith, w, m, ey, b, c)
+    omega (arith, sym (read_at x i units l) ∙ r.whole ∙ v, m, ey, b, c)
 
 pub read_whole : (units : List ℕ) (count x : ℕ) → count < 2 ^ 64 → IsReading units count (length units) x → 0 < length units → (get_or units 0 0 ≡ 48 → length units ≡ 1) → (x < count) × (decimal x ≡ units)
 read_whole units count x small r l z =

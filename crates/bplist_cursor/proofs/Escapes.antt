@@ -3,7 +3,6 @@ use Rattle.std.proofs.Common.{◌≡◌, ◌≢◌, ◌⊎◌, inl, inr, ℕ, ze
 use Rattle.std.specs.Prelude.{encode_utf8_all, slice_get, Some, None}
 use Rattle.std.specs.Str.{chars}
 use Rattle.std.proofs.Math.Seq.{drop-append_seam, take-append_seam, drop-nil}
-use Rattle.std.proofs.lemmas.Bool.{cases_lt}
 use Rattle.std.proofs.lemmas.Bool.Decides.{nat_tests}
 use Rattle.bplist_cursor.specs.Path.{escaped, IsPathOf, IsLoose, IsWrong, IsNoPath}
 use Rattle.bplist_cursor.specs.Tokens.{IsClosed}
@@ -38,11 +37,11 @@ closed_by true b c xs other closed = closed_pair 0x30 xs (inl refl) closed
 closed_by false true c xs other closed = closed_pair 0x31 xs (inr refl) closed
 closed_by false false c xs other closed = closed-cons c xs (other refl) closed
 
-not_tilde : (c : ℕ) → (c == 0x7E) ≡ false → c ≢ 0x7E
-not_tilde c e is = let h : (c == 0x7E) ≡ true = ap (λ x. x == 0x7E) is in cc
+not_by : (c d : ℕ) → (c == d) ≡ false → c ≢ d
+not_by c d e is = grind (arith, nat_tests)
 
 pub closed_escaped : (c : ℕ) (xs : List ℕ) → IsClosed xs → IsClosed (escaped c ++ xs)
-closed_escaped c xs closed = closed_by (c == 0x7E) (c == 0x2F) c xs (not_tilde c) closed
+closed_escaped c xs closed = closed_by (c == 0x7E) (c == 0x2F) c xs (not_by c 0x7E) closed
 
 pub closed_token : (token : List ℕ) (xs : List ℕ) → IsClosed xs → IsClosed (flat_map escaped token ++ xs)
 closed_token [] xs closed = closed
@@ -64,9 +63,7 @@ loose_within (c ∷ cs) (suc k) loose = let h = loose_within cs k loose in omega
 written_not_loose : (cs : List ℕ) (k : ℕ) (tokens : List (List ℕ)) → IsLoose (drop k cs) → cs ≡ written tokens → ⊥
 written_not_loose cs k tokens loose is =
     let all : cs ≡ written tokens ++ [] = is ∙ sym (append-nil (written tokens)) in
-    let low = loose_within cs k loose in
-    let long = ap length all in
-    closed_written tokens [] closed-nil [] k (omega (arith, low, long))
+    closed_written tokens [] closed-nil [] k (omega (arith, loose_within cs k loose, ap length all))
     (subst (λ xs. IsLoose (drop k xs)) (all ∙ sym (append-nil (written tokens ++ []))) loose)
 
 -- a path text is not wrong
@@ -108,41 +105,34 @@ same_by : (a b a' b' : Bool) (c d : ℕ) (xs ys : List ℕ) → (a ≡ true → 
     → (c ≡ d) × (xs ≡ ys)
 same_by true b true b' c d xs ys p q p' q' n n' e = (p refl ∙ sym (p' refl), same_rest 0x30 0x30 xs ys (same_rest 0x7E 0x7E _ _ e))
 same_by true b false true c d xs ys p q p' q' n n' e = absurd (not_same 0x30 0x31 xs ys (λ h. omega (arith, h)) (same_rest 0x7E 0x7E _ _ e))
-same_by true b false false c d xs ys p q p' q' n n' e = absurd (n' refl (sym (same_first 0x7E d _ ys e)))
 same_by false true true b' c d xs ys p q p' q' n n' e = absurd (not_same 0x31 0x30 xs ys (λ h. omega (arith, h)) (same_rest 0x7E 0x7E _ _ e))
 same_by false true false true c d xs ys p q p' q' n n' e = (q refl ∙ sym (q' refl), same_rest 0x31 0x31 xs ys (same_rest 0x7E 0x7E _ _ e))
-same_by false true false false c d xs ys p q p' q' n n' e = absurd (n' refl (sym (same_first 0x7E d _ ys e)))
-same_by false false true b' c d xs ys p q p' q' n n' e = absurd (n refl (same_first c 0x7E xs _ e))
-same_by false false false true c d xs ys p q p' q' n n' e = absurd (n refl (same_first c 0x7E xs _ e))
 same_by false false false false c d xs ys p q p' q' n n' e = (same_first c d xs ys e, same_rest c d xs ys e)
+same_by false false _ _ c d xs ys p q p' q' n n' e = absurd (n refl (same_first c 0x7E xs _ e))
+same_by _ _ _ _ c d xs ys p q p' q' n n' e = absurd (n' refl (sym (same_first 0x7E d _ ys e)))
 
 is_by : (c d : ℕ) → (c == d) ≡ true → c ≡ d
 is_by c d e = grind (arith, nat_tests)
 
 same_escaped : (c d : ℕ) (xs ys : List ℕ) → escaped c ++ xs ≡ escaped d ++ ys → (c ≡ d) × (xs ≡ ys)
 same_escaped c d xs ys e =
-    same_by (c == 0x7E) (c == 0x2F) (d == 0x7E) (d == 0x2F) c d xs ys (is_by c 0x7E) (is_by c 0x2F) (is_by d 0x7E) (is_by d 0x2F) (not_tilde c) (not_tilde d) e
+    same_by (c == 0x7E) (c == 0x2F) (d == 0x7E) (d == 0x2F) c d xs ys (is_by c 0x7E) (is_by c 0x2F) (is_by d 0x7E) (is_by d 0x2F) (not_by c 0x7E) (not_by d 0x7E) e
 
 -- no escape begins with `/`
 not_slash_by : (a b : Bool) (c : ℕ) (xs ys : List ℕ) → (b ≡ false → c ≢ 0x2F) → cond a (0x7E ∷ 0x30 ∷ []) (cond b (0x7E ∷ 0x31 ∷ []) (c ∷ [])) ++ xs ≡ 0x2F ∷ ys → ⊥
-not_slash_by true b c xs ys n e = not_same 0x7E 0x2F _ ys (λ h. omega (arith, h)) e
-not_slash_by false true c xs ys n e = not_same 0x7E 0x2F _ ys (λ h. omega (arith, h)) e
 not_slash_by false false c xs ys n e = n refl (same_first c 0x2F xs ys e)
+not_slash_by _ _ c xs ys n e = not_same 0x7E 0x2F _ ys (λ h. omega (arith, h)) e
 
 pub not_empty : (c : ℕ) (xs : List ℕ) → c ∷ xs ≡ [] → ⊥
 not_empty c xs e = cc
 
 not_empty_by : (a b : Bool) (c : ℕ) (xs : List ℕ) → cond a (0x7E ∷ 0x30 ∷ []) (cond b (0x7E ∷ 0x31 ∷ []) (c ∷ [])) ++ xs ≡ [] → ⊥
-not_empty_by true b c xs e = not_empty _ _ e
-not_empty_by false true c xs e = not_empty _ _ e
 not_empty_by false false c xs e = not_empty _ _ e
-
-not_slash : (c : ℕ) → (c == 0x2F) ≡ false → c ≢ 0x2F
-not_slash c e is = let h : (c == 0x2F) ≡ true = ap (λ x. x == 0x2F) is in cc
+not_empty_by _ _ c xs e = not_empty _ _ e
 
 not_written : (c : ℕ) (xs : List ℕ) (tokens : List (List ℕ)) → escaped c ++ xs ≡ written tokens → ⊥
 not_written c xs [] e = not_empty_by (c == 0x7E) (c == 0x2F) c xs e
-not_written c xs (t ∷ ts) e = not_slash_by (c == 0x7E) (c == 0x2F) c xs (flat_map escaped t ++ written ts) (not_slash c) e
+not_written c xs (t ∷ ts) e = not_slash_by (c == 0x7E) (c == 0x2F) c xs (flat_map escaped t ++ written ts) (not_by c 0x2F) e
 
 same_token : (t u : List ℕ) (ts us : List (List ℕ)) → flat_map escaped t ++ written ts ≡ flat_map escaped u ++ written us → (t ≡ u) × (written ts ≡ written us)
 same_token [] [] ts us e = (refl, e)
@@ -167,14 +157,3 @@ same_written (t ∷ ts) (u ∷ us) e =
     let p : t ≡ u = h.0 in
     let q : ts ≡ us = same_written ts us h.1 in
     cc
-
--- a text is wrong at one byte
-pub same_place : (text : List ℕ) (p q : ℕ) → IsNoPath text p → IsNoPath text q → p ≡ q
-same_place text p q f g = elim (order f.before g.before) [
-  | inl less ↦ absurd (g.first f.before less f.wrong)
-  | inr (inl is) ↦ f.counted ∙ ap (λ k. length (encode_utf8_all (take k (chars text)))) is ∙ sym g.counted
-  | inr (inr more) ↦ absurd (f.first g.before more g.wrong)
-]
-  where
-    order : (m n : ℕ) → (m < n) ⊎ ((m ≡ n) ⊎ (n < m))
-    order m n = elim (cases_lt m n) [ inl less ↦ inl less | inr more ↦ elim (cases_lt n m) [ inl less ↦ inr (inr less) | inr least ↦ inr (inl (omega (arith, more, least))) ] ]

@@ -11,6 +11,7 @@ use Rattle.bplist_objects.proofs.ObjectValues.{OneHead}
 use Rattle.bplist_objects.proofs.Lists.{all_front, all_behind}
 use Rattle.bplist_cursor.specs.declared.sizes.Form.{Form}
 use Rattle.bplist_cursor.specs.declared.sizes.Form.TheVariants.{Length}
+use Rattle.bplist_cursor.proofs.Counts.{pair_counts}
 use Rattle.bplist_cursor.specs.Nodes.{cap}
 use Rattle.bplist_cursor.specs.Texts.{text_of_units}
 use Rattle.bplist_cursor.specs.OldStyle.{comma, value_text, members_text, pairs_text}
@@ -37,9 +38,8 @@ key_texts (Some t) (Some r) key = ap Length (omega (arith, length-append key (0x
 
 comma_long : (f : List ℕ) (F : Frame) (vs : Values) (ms : List ℕ) → HoldEach f F ms vs → length (comma vs) ≡ comma_length ms
 comma_long f F no_values [] h = refl
-comma_long f F no_values (m ∷ ms) h = absurd h
-comma_long f F (value v vs) [] h = absurd h
 comma_long f F (value v vs) (m ∷ ms) h = refl
+comma_long _ _ _ _ h = absurd h
 
 module _ (f : List ℕ) (F : Frame) (one : OneHead f F) (T : List Form) (S : ℕ → Type 0) (each : (n : ℕ) → S n → Formed f F T n)
     (closed : (n : ℕ) (c : Content) → S n → Spells f F n c → AllByRecursion S (refs c)) where
@@ -62,24 +62,18 @@ module _ (f : List ℕ) (F : Frame) (one : OneHead f F) (T : List Form) (S : ℕ
 
     members_at : (vs : Values) (ms : List ℕ) → AllByRecursion S ms → HoldEach f F ms vs → members_form T ms ≡ form_of_text (members_text vs)
     members_at no_values [] s h = refl
-    members_at no_values (m ∷ ms) s h = absurd h
-    members_at (value v vs) [] s h = absurd h
     members_at (value v vs) (m ∷ ms) s h =
         ap (λ a. joined a (joined (Length (comma_length ms)) (members_form T ms))) (forms_at v m s.0 h.0)
         ∙ ap (λ a. joined (form_of v) (joined (Length (comma_length ms)) a)) (members_at vs ms s.1 h.1)
         ∙ two_texts (value_text v) (members_text vs) (comma vs) (comma_length ms) (comma_long f F vs ms h.1)
+    members_at _ _ _ h = absurd h
 
     pairs_at : (ps : Pairs) (ks ms : List ℕ) → AllByRecursion S ks → AllByRecursion S ms → HoldPairs f F ks ms ps → pairs_form T ks ms ≡ form_of_text (pairs_text ps)
     pairs_at no_pairs [] [] s t h = refl
-    pairs_at no_pairs [] (m ∷ ms) s t h = absurd h
-    pairs_at no_pairs (k ∷ ks) [] s t h = absurd h
-    pairs_at no_pairs (k ∷ ks) (m ∷ ms) s t h = absurd h
-    pairs_at (pair u v ps) [] [] s t h = absurd h
-    pairs_at (pair u v ps) [] (m ∷ ms) s t h = absurd h
-    pairs_at (pair u v ps) (k ∷ ks) [] s t h = absurd h
     pairs_at (pair u v ps) (k ∷ ks) (m ∷ ms) s t h =
         let key = (at_content k (Content.leaf (text u)) s.0 h.0).0 in
         ap (λ a. joined a (joined (form_at T m) (joined (Length 2) (pairs_form T ks ms)))) key
         ∙ ap (λ a. joined (Length (cap (length (text_of_units u)))) (joined a (joined (Length 2) (pairs_form T ks ms)))) (forms_at v m t.0 h.1)
         ∙ ap (λ a. joined (Length (cap (length (text_of_units u)))) (joined (form_of v) (joined (Length 2) a))) (pairs_at ps ks ms s.1 t.1 h.2)
         ∙ key_texts (value_text v) (pairs_text ps) (text_of_units u)
+    pairs_at ps ks ms s t h = absurd (let c = pair_counts f F ks ms ps h in omega (arith, c.0, c.1))

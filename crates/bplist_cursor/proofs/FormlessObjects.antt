@@ -1,10 +1,11 @@
 -- The object that keeps a value from having a text.
-use Rattle.std.proofs.Common.{◌≡◌, ℕ, List, [], ◌∷◌, ◌++◌, Option, Some, None, refl, sym, ap, ◌∙◌, subst}
+use Rattle.std.proofs.Common.{◌≡◌, ℕ, List, [], ◌∷◌, ◌++◌, Option, Some, None, refl, sym, ap, ◌∙◌, subst, arith}
 use Rattle.std.specs.Prelude.{option_map, option_and_then, MatchOption}
 use Rattle.bplist_objects.specs.declared.frame.Frame.{Frame}
 use Rattle.bplist_objects.specs.Value.{Value, leaf, array, set, dict, Values, no_values, value, Pairs, no_pairs, pair}
 use Rattle.bplist_objects.specs.Holds.{Holds, HoldEach, HoldPairs}
 use Rattle.bplist_objects.proofs.Fronts.{one_head}
+use Rattle.bplist_cursor.proofs.Counts.{pair_counts}
 use Rattle.bplist_cursor.specs.Texts.{text_of_units}
 use Rattle.bplist_cursor.specs.OldStyle.{comma, value_text, members_text, pairs_text}
 use Rattle.bplist_cursor.specs.Formless.{IsFormless, IsFirstFormless, IsFirstFormlessOf}
@@ -13,14 +14,26 @@ map_none : {X Y : Type 0} (g : X → Y) (o : Option X) → option_map g o ≡ No
 map_none g None e = refl
 map_none g (Some x) e = cc
 
--- a claim by two cases, if it is known which case it is
-at_none : (A : Type 0) (B : List ℕ → Type 0) (o : Option (List ℕ)) → o ≡ None → A → MatchOption o A B
-at_none A B None e a = a
-at_none A B (Some t) e a = cc
+-- a text that goes on with another, which there is none of
+then_none : (A B : Type 0) (on : List ℕ → List ℕ → List ℕ) (o p : Option (List ℕ)) → (B → p ≡ None) → MatchOption o A (λ t. B)
+    → option_and_then (λ t. option_map (on t) p) o ≡ None
+then_none A B on None p later h = refl
+then_none A B on (Some t) p later h = ap (option_map (on t)) (later h)
 
-at_some : (A : Type 0) (B : List ℕ → Type 0) (o : Option (List ℕ)) (t : List ℕ) → o ≡ Some t → B t → MatchOption o A B
-at_some A B None t e b = cc
-at_some A B (Some s) t e b = let is : s ≡ t = cc in subst B (sym is) b
+-- what follows from both cases
+one_of : (A B C D X : Type 0) (o : Option (List ℕ)) → (A → B → X) → (C → D → X) → MatchOption o A (λ t. C) → MatchOption o B (λ t. D) → X
+one_of A B C D X None here later p q = here p q
+one_of A B C D X (Some t) here later p q = later p q
+
+-- the first of two texts that there is none of
+first_none : (A B : ℕ → Type 0) (on : List ℕ → List ℕ → List ℕ) (o p : Option (List ℕ)) → (o ≡ None → (x : ℕ) × A x) → (p ≡ None → (x : ℕ) × B x)
+    → option_and_then (λ t. option_map (on t) p) o ≡ None → (x : ℕ) × MatchOption o (A x) (λ t. B x)
+first_none A B on None p here later e = here refl
+first_none A B on (Some t) p here later e = later (map_none _ _ e)
+
+-- the text of a pair with this key, by the text of its value and that of the pairs after it
+abbrev pair_text : List ℕ → List ℕ → List ℕ → List ℕ
+pair_text u t r = text_of_units u ++ (0x3D ∷ (t ++ (0x3B ∷ r)))
 
 module _ (f : List ℕ) (F : Frame) where
   mutual
@@ -32,26 +45,16 @@ module _ (f : List ℕ) (F : Frame) where
     formless_none (dict ps) n x h = ap (option_map (λ t. 0x7B ∷ (t ++ 0x7D ∷ []))) (pairs_none ps h.1 x h.3)
 
     members_none : (vs : Values) (ms : List ℕ) (x : ℕ) → IsFirstFormless f F ms vs x → members_text vs ≡ None
-    members_none no_values [] x h = absurd h
+    members_none (value v vs) (m ∷ ms) x h =
+        then_none (IsFormless f F m v x) (IsFirstFormless f F ms vs x) (λ t r. t ++ (comma vs ++ r)) (value_text v) (members_text vs) (members_none vs ms x) h
     members_none no_values (m ∷ ms) x h = absurd h
-    members_none (value v vs) [] x h = absurd h
-    members_none (value v vs) (m ∷ ms) x h = go (value_text v) (λ a. formless_none v m x a) (members_none vs ms x) h
-      where
-        go : (o : Option (List ℕ)) → (IsFormless f F m v x → value_text v ≡ None) → (IsFirstFormless f F ms vs x → members_text vs ≡ None)
-            → MatchOption o (IsFormless f F m v x) (λ t. IsFirstFormless f F ms vs x) → option_and_then (λ t. option_map (λ r. t ++ (comma vs ++ r)) (members_text vs)) o ≡ None
-        go None here later h = refl
-        go (Some t) here later h = ap (option_map (λ r. t ++ (comma vs ++ r))) (later h)
+    members_none _ _ _ h = absurd h
 
     pairs_none : (ps : Pairs) (ms : List ℕ) (x : ℕ) → IsFirstFormlessOf f F ms ps x → pairs_text ps ≡ None
-    pairs_none no_pairs [] x h = absurd h
+    pairs_none (pair u v ps) (m ∷ ms) x h =
+        then_none (IsFormless f F m v x) (IsFirstFormlessOf f F ms ps x) (pair_text u) (value_text v) (pairs_text ps) (pairs_none ps ms x) h
     pairs_none no_pairs (m ∷ ms) x h = absurd h
-    pairs_none (pair u v ps) [] x h = absurd h
-    pairs_none (pair u v ps) (m ∷ ms) x h = go (value_text v) (pairs_none ps ms x) h
-      where
-        go : (o : Option (List ℕ)) → (IsFirstFormlessOf f F ms ps x → pairs_text ps ≡ None)
-            → MatchOption o (IsFormless f F m v x) (λ t. IsFirstFormlessOf f F ms ps x) → option_and_then (λ t. option_map (λ r. text_of_units u ++ (0x3D ∷ (t ++ (0x3B ∷ r)))) (pairs_text ps)) o ≡ None
-        go None later h = refl
-        go (Some t) later h = ap (option_map (λ r. text_of_units u ++ (0x3D ∷ (t ++ (0x3B ∷ r))))) (later h)
+    pairs_none _ _ _ h = absurd h
 
   mutual
     -- there is at most one
@@ -66,26 +69,14 @@ module _ (f : List ℕ) (F : Frame) where
         one_pair ps q.1 x y (subst (λ ms. IsFirstFormlessOf f F ms ps x) is p.3) q.3
 
     one_member : (vs : Values) (ms : List ℕ) (x y : ℕ) → IsFirstFormless f F ms vs x → IsFirstFormless f F ms vs y → x ≡ y
-    one_member no_values [] x y p q = absurd p
+    one_member (value v vs) (m ∷ ms) x y p q = one_of _ _ _ _ _ (value_text v) (one_formless v m x y) (one_member vs ms x y) p q
     one_member no_values (m ∷ ms) x y p q = absurd p
-    one_member (value v vs) [] x y p q = absurd p
-    one_member (value v vs) (m ∷ ms) x y p q = go (value_text v) (one_formless v m x y) (one_member vs ms x y) p q
-      where
-        go : (o : Option (List ℕ)) → (IsFormless f F m v x → IsFormless f F m v y → x ≡ y) → (IsFirstFormless f F ms vs x → IsFirstFormless f F ms vs y → x ≡ y)
-            → MatchOption o (IsFormless f F m v x) (λ t. IsFirstFormless f F ms vs x) → MatchOption o (IsFormless f F m v y) (λ t. IsFirstFormless f F ms vs y) → x ≡ y
-        go None here later p q = here p q
-        go (Some t) here later p q = later p q
+    one_member _ _ _ _ p _ = absurd p
 
     one_pair : (ps : Pairs) (ms : List ℕ) (x y : ℕ) → IsFirstFormlessOf f F ms ps x → IsFirstFormlessOf f F ms ps y → x ≡ y
-    one_pair no_pairs [] x y p q = absurd p
+    one_pair (pair u v ps) (m ∷ ms) x y p q = one_of _ _ _ _ _ (value_text v) (one_formless v m x y) (one_pair ps ms x y) p q
     one_pair no_pairs (m ∷ ms) x y p q = absurd p
-    one_pair (pair u v ps) [] x y p q = absurd p
-    one_pair (pair u v ps) (m ∷ ms) x y p q = go (value_text v) (one_formless v m x y) (one_pair ps ms x y) p q
-      where
-        go : (o : Option (List ℕ)) → (IsFormless f F m v x → IsFormless f F m v y → x ≡ y) → (IsFirstFormlessOf f F ms ps x → IsFirstFormlessOf f F ms ps y → x ≡ y)
-            → MatchOption o (IsFormless f F m v x) (λ t. IsFirstFormlessOf f F ms ps x) → MatchOption o (IsFormless f F m v y) (λ t. IsFirstFormlessOf f F ms ps y) → x ≡ y
-        go None here later p q = here p q
-        go (Some t) here later p q = later p q
+    one_pair _ _ _ _ p _ = absurd p
 
   mutual
     -- if a held value has no text, there is such an object
@@ -98,21 +89,12 @@ module _ (f : List ℕ) (F : Frame) where
     some_member : (vs : Values) (ms : List ℕ) → HoldEach f F ms vs → members_text vs ≡ None → (x : ℕ) × IsFirstFormless f F ms vs x
     some_member no_values ms h e = cc
     some_member (value v vs) [] h e = absurd h
-    some_member (value v vs) (m ∷ ms) h e = go (value_text v) refl (some_formless v m h.0) (some_member vs ms h.1) e
-      where
-        go : (o : Option (List ℕ)) → value_text v ≡ o → (value_text v ≡ None → (x : ℕ) × IsFormless f F m v x) → (members_text vs ≡ None → (x : ℕ) × IsFirstFormless f F ms vs x)
-            → option_and_then (λ t. option_map (λ r. t ++ (comma vs ++ r)) (members_text vs)) o ≡ None → (x : ℕ) × IsFirstFormless f F (m ∷ ms) (value v vs) x
-        go None is here later e = let r = here is in (r.0, at_none _ (λ t. IsFirstFormless f F ms vs r.0) (value_text v) is r.1)
-        go (Some t) is here later e = let r = later (map_none _ _ e) in (r.0, at_some (IsFormless f F m v r.0) (λ t. IsFirstFormless f F ms vs r.0) (value_text v) t is r.1)
+    some_member (value v vs) (m ∷ ms) h e =
+        first_none (IsFormless f F m v) (IsFirstFormless f F ms vs) (λ t r. t ++ (comma vs ++ r)) (value_text v) (members_text vs)
+        (some_formless v m h.0) (some_member vs ms h.1) e
 
     some_pair : (ps : Pairs) (ks ms : List ℕ) → HoldPairs f F ks ms ps → pairs_text ps ≡ None → (x : ℕ) × IsFirstFormlessOf f F ms ps x
     some_pair no_pairs ks ms h e = cc
-    some_pair (pair u v ps) [] [] h e = absurd h
-    some_pair (pair u v ps) [] (m ∷ ms) h e = absurd h
-    some_pair (pair u v ps) (k ∷ ks) [] h e = absurd h
-    some_pair (pair u v ps) (k ∷ ks) (m ∷ ms) h e = go (value_text v) refl (some_formless v m h.1) (some_pair ps ks ms h.2) e
-      where
-        go : (o : Option (List ℕ)) → value_text v ≡ o → (value_text v ≡ None → (x : ℕ) × IsFormless f F m v x) → (pairs_text ps ≡ None → (x : ℕ) × IsFirstFormlessOf f F ms ps x)
-            → option_and_then (λ t. option_map (λ r. text_of_units u ++ (0x3D ∷ (t ++ (0x3B ∷ r)))) (pairs_text ps)) o ≡ None → (x : ℕ) × IsFirstFormlessOf f F (m ∷ ms) (pair u v ps) x
-        go None is here later e = let r = here is in (r.0, at_none _ (λ t. IsFirstFormlessOf f F ms ps r.0) (value_text v) is r.1)
-        go (Some t) is here later e = let r = later (map_none _ _ e) in (r.0, at_some (IsFormless f F m v r.0) (λ t. IsFirstFormlessOf f F ms ps r.0) (value_text v) t is r.1)
+    some_pair (pair u v ps) (k ∷ ks) (m ∷ ms) h e =
+        first_none (IsFormless f F m v) (IsFirstFormlessOf f F ms ps) (pair_text u) (value_text v) (pairs_text ps) (some_formless v m h.1) (some_pair ps ks ms h.2) e
+    some_pair ps ks ms h e = absurd (let c = pair_counts f F ks ms ps h in omega (arith, c.0, c.1))

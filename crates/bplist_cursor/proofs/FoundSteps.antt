@@ -115,11 +115,9 @@ module _ (checked : CheckedFile) (is : IsChecked checked) (honest : IsTrue check
           holds = (subst (IsVouchedBy heights) b.4 (lower_vouched n b.1 b.0 a.holds.0 b.2 there), q.2);
           leads = λ j l. a.leads j (subst (λ d. LeadTo f F n d j) (sym e) (b.0, b.1, b.2, b.3, subst (λ i. LeadTo f F b.1 (drop i steps) j) (sym z) (subst (λ x. LeadTo f F x (drop (k + 1) steps) j) (sym b.4) l)));
           spent = λ keyed has.
-              let old = a.spent keyed has in
-              let rise = rises keyed has in
               let here = ap (λ x. halvings_here a.value + on_either x (λ w. 0) (λ why. 0)) q.1 in
               let sum = ap (λ d. halvings a.value d) e ∙ ap (λ x. halvings_here a.value + on_either x (λ w. halvings w (drop (suc k) steps)) (λ why. 0)) q.1 ∙ ap (λ j. halvings_here a.value + halvings q.0 (drop j steps)) z in
-              omega (arith, old, rise, here, sum);
+              omega (arith, a.spent keyed has, rises keyed has, here, sum);
           asked =
               (let old = a.asked in
               let here = ap (λ x. 36 + value_bytes lists a.value s + on_either x (λ w. 0) (λ why. 0)) q.1 in
@@ -130,21 +128,17 @@ module _ (checked : CheckedFile) (is : IsChecked checked) (honest : IsTrue check
     -- wherever the walk stops, no more has been asked for than all the steps ask for
     pub asked_off : after ≤ now + path_bytes lists a.value (s ∷ []) → after ≤ start + path_bytes lists v steps
     asked_off asks =
-        let old = a.asked in
-        let first = first_bytes a.value s (drop (suc k) steps) in
         let sum = ap (λ d. path_bytes lists a.value d) e in
-        omega (arith, old, asks, first, sum)
+        omega (arith, a.asked, asks, first_bytes a.value s (drop (suc k) steps), sum)
 
     pub off : (y : Why) → stepped a.value s ≡ Err y → look 0 v steps ≡ Err (k, y)
     off y x = sym a.led ∙ ap (λ d. look k a.value d) e ∙ ap (λ x. on_either x (λ w. look (k + 1) w (drop (suc k) steps)) (λ why. Err (k, why))) x
 
     pub spent_off : (y : Why) → stepped a.value s ≡ Err y → RisesAtMost checked comparisons more (halvings a.value (s ∷ [])) → RisesAtMost checked before more (halvings v steps)
     spent_off y x rises keyed has =
-        let old = a.spent keyed has in
-        let rise = rises keyed has in
         let here = ap (λ x. halvings_here a.value + on_either x (λ w. 0) (λ why. 0)) x in
         let sum = ap (λ d. halvings a.value d) e ∙ ap (λ x. halvings_here a.value + on_either x (λ w. halvings w (drop (suc k) steps)) (λ why. 0)) x in
-        omega (arith, old, rise, here, sum)
+        omega (arith, a.spent keyed has, rises keyed has, here, sum)
 
   module _ (v : Value) (steps : List (List ℕ)) (k n before comparisons start now : ℕ) (e : drop k steps ≡ []) (a : Along checked v steps k n before comparisons start now) where
     pub done : LeadTo f F F.top.0 steps n × IsVouchedBy heights n × ((w : Value) × (look 0 v steps ≡ Ok w) × Holds f F n w)

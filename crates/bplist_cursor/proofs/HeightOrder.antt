@@ -63,9 +63,7 @@ lower_before heights order height k m is above lower =
     elim (cases_lt place.0 k) [
       | inl before ↦ (place.0, before, place.2)
       | inr behind ↦
-          let rises = is.ascends k place.0 0 behind place.1 in
-          let same = ap (slice_index heights) place.2 in
-          absurd (omega (arith, rises, same, lower))
+          absurd (omega (arith, is.ascends k place.0 0 behind place.1, ap (slice_index heights) place.2, lower))
     ]
 
 -- an object before the last place whose number is not the one there comes before it

@@ -1,59 +1,29 @@
 -- The key lists of a checked file.
-use Rattle.std.proofs.Common.{arith, ◌≡◌, ◌<◌, ◌≤◌, ◌+◌, ◌-◌, ℕ, zero, suc, length, List, [], ◌∷◌, slice_index, slice_index_or, Some, subst, Less, IsTrue}
+use Rattle.std.proofs.Common.{arith, ◌≡◌, ◌≤◌, ◌+◌, ℕ, length, List, slice_index, Some, IsTrue, sym, ap₂, ◌∙◌}
 use Rattle.std.proofs.Props.{props}
-use Rattle.std.specs.List.{AllByRecursion, AllZip}
 use Rattle.std.proofs.Math.Logic.{∥∥₁_map, ∥∥₁_elim}
 use Rattle.bplist_octets.specs.Octets.{part}
 use Rattle.bplist_objects.specs.declared.frame.Frame.{Frame}
-use Rattle.bplist_objects.specs.Value.{text}
-use Rattle.bplist_objects.specs.Heads.{Spells, leaf, dict}
+use Rattle.bplist_objects.specs.Heads.{Spells, dict}
 use Rattle.bplist_objects.specs.Units.{compare_units}
-use Rattle.bplist_objects.proofs.Fronts.{one_head}
-use Rattle.bplist_objects.proofs.UnitOrder.{compare_units-less_less}
 use Rattle.bplist_cert.specs.Lists.{Keyed, IsCompleteList, list_of}
-use Rattle.bplist_cert.specs.Valid.{IsVouchedBy, SpellsText}
+use Rattle.bplist_cert.specs.Valid.{IsVouchedBy}
 use Rattle.bplist_cert.specs.Sorted.{IsSorted}
+use Rattle.bplist_cert.proofs.OrderedLists.{ascend_far}
+use Rattle.bplist_cert.proofs.RepeatedKeys.{units_at, low, up, units_of_key}
 use Rattle.bplist_cert.specs.CheckedFile.{CheckedFile, IsChecked}
 use Rattle.bplist_cursor.specs.KeySearch.{IsKeyList}
 
-all_below : (n : ℕ) (xs : List ℕ) (j : ℕ) → AllByRecursion (λ p. p < n) xs → j < length xs → slice_index xs j < n
-all_below n [] j a l = absurd (omega (arith, l))
-all_below n (x ∷ xs) zero a l = a.0
-all_below n (x ∷ xs) (suc j) a l = all_below n xs j a.1 (omega (arith, l))
-
-module _ (f : List ℕ) (F : Frame) where
-  pub text_there : (ks : List ℕ) (us : List (List ℕ)) (i : ℕ) → AllZip (SpellsText f F) ks us → i < length ks → Spells f F (slice_index ks i) (leaf (text (slice_index_or us i [])))
-  text_there [] us i a l = absurd (omega (arith, l))
-  text_there (k ∷ ks) [] i a l = absurd a
-  text_there (k ∷ ks) (u ∷ us) zero a l = a.0
-  text_there (k ∷ ks) (u ∷ us) (suc i) a l = text_there ks us i a.1 (omega (arith, l))
-
-  module _ (ks list : List ℕ) (is : IsSorted f F ks list) where
-    unit_list : ℕ → List ℕ
-    unit_list j = slice_index_or is.units (slice_index list j) []
-
-    -- keys ascend over any distance
-    far : (i d : ℕ) → i + suc d < length list → compare_units (unit_list i) (unit_list (i + suc d)) ≡ Less
-    unfolding unit_list
-    far i zero l = let z : suc i ≡ i + 1 = omega arith in subst (λ j. compare_units (unit_list i) (unit_list j) ≡ Less) z (is.ascend i (omega (arith, l)))
-    far i (suc d) l =
-        let z : suc (i + suc d) ≡ i + suc (suc d) = omega arith in
-        let next = is.ascend (i + suc d) (omega (arith, l)) in
-        compare_units-less_less (unit_list i) (unit_list (i + suc d)) (unit_list (i + suc (suc d))) (far i d (omega (arith, l)))
-        (subst (λ j. compare_units (unit_list (i + suc d)) (unit_list j) ≡ Less) z next)
-
-    pub sorted_list : IsKeyList f F ks list
-    unfolding unit_list
-    sorted_list = record {
-      within = λ j l. all_below (length ks) list j is.within (omega (arith, l, is.count));
-      ascend = λ i j before l us vs s t.
-          let z : i + suc (j - suc i) ≡ j = omega (arith, before) in
-          let less = subst (λ j. compare_units (unit_list i) (unit_list j) ≡ Less) z (far i (j - suc i) (omega (arith, z, l, is.count))) in
-          let inside = λ (j : ℕ) (l : j < length ks). all_below (length ks) list j is.within (omega (arith, l, is.count)) in
-          let eu : unit_list i ≡ us = cc (one_head f F _ _ _ (text_there ks is.units (slice_index list i) is.texts (inside i (omega (arith, before, l)))) s) in
-          let ev : unit_list j ≡ vs = cc (one_head f F _ _ _ (text_there ks is.units (slice_index list j) is.texts (inside j l)) t) in
-          cc (less, eu, ev);
-    }
+-- a sorted list is a key list
+module _ (f : List ℕ) (F : Frame) (ks list : List ℕ) (is : IsSorted f F ks list) where
+  pub sorted_list : IsKeyList f F ks list
+  sorted_list = record {
+    within = low f F ks list is;
+    ascend = λ i j before l us vs s t.
+        let first = units_of_key f F ks list is (slice_index list i) us (low f F ks list is i (omega (arith, before, l))) s in
+        let second = units_of_key f F ks list is (slice_index list j) vs (low f F ks list is j l) t in
+        ap₂ compare_units (sym first) (sym second) ∙ ascend_far (units_at f F ks list is) (length ks) (up f F ks list is) i j before l;
+  }
 
 -- the key list of a dictionary that a checked file's certificate vouches for
 module _ (checked : CheckedFile) (is : IsChecked checked) (honest : IsTrue checked.source.honest) (n : ℕ) (ks ms : List ℕ)

@@ -115,9 +115,12 @@ module _ (f : List ℕ) (F : Frame) where
     position_below = subst (λ i. i < length ks) (list_at positions start (length ks) middle within) (list.within middle within)
 
     -- what the comparison with the middle key shows
-    pub compared_text : (units : List ℕ) (found : ℕ × Ordering) → SpellTexts f F ks → IsCompared f F ks (slice_index positions (start + middle)) units found
+    pub compared_text : (units : List ℕ) (found : ℕ × Ordering) → SpellTexts f F ks
+        → (slice_index positions (start + middle) < length ks → IsCompared f F ks (slice_index positions (start + middle)) units found)
         → (us : List ℕ) × Spells f F (slice_index ks (slice_index (part positions start (length ks)) middle)) (leaf (text us)) × (found.1 ≡ compare_units us units)
-    compared_text units found texts told =
+        × (slice_index (part positions start (length ks)) middle ≡ found.0)
+    compared_text units found texts comparison =
+        let told = comparison position_below in
         let x = texts (slice_index (part positions start (length ks)) middle) (list.within middle within) in
         let at = list_at positions start (length ks) middle within in
-        (x.0, x.1, told.1 x.0 (subst (λ i. Spells f F (slice_index ks i) (leaf (text x.0))) at x.1))
+        (x.0, x.1, told.1 x.0 (subst (λ i. Spells f F (slice_index ks i) (leaf (text x.0))) at x.1), at ∙ sym told.0)

@@ -27,30 +27,20 @@ halves i = elim (cases_lt (i % 2) 1) [
 
 -- an even number names a key
 key_in_turn : (ks ms : List ℕ) (i j : ℕ) → length ks ≡ length ms → i ≡ 2 * j → j < length ks → member_reference (Content.dict ks ms) i ≡ Some (slice_index ks j)
-key_in_turn [] ms i j same e l = absurd (omega (arith, l))
-key_in_turn (k ∷ ks) [] i j same e l = absurd (omega (arith, same))
 key_in_turn (k ∷ ks) (m ∷ ms) zero zero same e l = refl
-key_in_turn (k ∷ ks) (m ∷ ms) (suc i) zero same e l = absurd (omega (arith, e))
-key_in_turn (k ∷ ks) (m ∷ ms) zero (suc j) same e l = absurd (omega (arith, e))
-key_in_turn (k ∷ ks) (m ∷ ms) (suc zero) (suc j) same e l = absurd (omega (arith, e))
 key_in_turn (k ∷ ks) (m ∷ ms) (suc (suc i)) (suc j) same e l = key_in_turn ks ms i j (omega (arith, same)) (omega (arith, e)) (omega (arith, l))
+key_in_turn ks ms i j same e l = absurd (omega (arith, same, e, l))
 
 -- an odd number names a value
 value_in_turn : (ks ms : List ℕ) (i j : ℕ) → length ks ≡ length ms → i ≡ 2 * j + 1 → j < length ms → member_reference (Content.dict ks ms) i ≡ Some (slice_index ms j)
-value_in_turn [] ms i j same e l = absurd (omega (arith, l, same))
-value_in_turn (k ∷ ks) [] i j same e l = absurd (omega (arith, l))
-value_in_turn (k ∷ ks) (m ∷ ms) zero j same e l = absurd (omega (arith, e))
 value_in_turn (k ∷ ks) (m ∷ ms) (suc zero) zero same e l = refl
-value_in_turn (k ∷ ks) (m ∷ ms) (suc (suc i)) zero same e l = absurd (omega (arith, e))
-value_in_turn (k ∷ ks) (m ∷ ms) (suc zero) (suc j) same e l = absurd (omega (arith, e))
 value_in_turn (k ∷ ks) (m ∷ ms) (suc (suc i)) (suc j) same e l = value_in_turn ks ms i j (omega (arith, same)) (omega (arith, e)) (omega (arith, l))
+value_in_turn ks ms i j same e l = absurd (omega (arith, same, e, l))
 
 none_in_turn : (ks ms : List ℕ) (i : ℕ) → length ks ≡ length ms → length ks + length ms ≤ i → member_reference (Content.dict ks ms) i ≡ None
-none_in_turn [] ms i same l = refl
-none_in_turn (k ∷ ks) [] i same l = refl
-none_in_turn (k ∷ ks) (m ∷ ms) zero same l = absurd (omega (arith, l))
-none_in_turn (k ∷ ks) (m ∷ ms) (suc zero) same l = absurd (omega (arith, l))
 none_in_turn (k ∷ ks) (m ∷ ms) (suc (suc i)) same l = none_in_turn ks ms i (omega (arith, same)) (omega (arith, l))
+none_in_turn (k ∷ ks) (m ∷ ms) _ same l = absurd (omega (arith, l))
+none_in_turn _ _ i same l = refl
 
 module _ (f : List ℕ) (F : Frame) where
   -- the number of a member in an array or a set
@@ -129,20 +119,16 @@ module _ (f : List ℕ) (F : Frame) where
 
   hold_each : (ms : List ℕ) (vs : Values) (i : ℕ) → HoldEach f F ms vs → HoldsMember f F (slice_get (members vs) i) (named (slice_get ms i))
   hold_each [] no_values i h = refl
-  hold_each [] (value v vs) i h = absurd h
-  hold_each (m ∷ ms) no_values i h = absurd h
   hold_each (m ∷ ms) (value v vs) zero h = h.0
   hold_each (m ∷ ms) (value v vs) (suc i) h = hold_each ms vs i h.1
+  hold_each _ _ _ h = absurd h
 
   hold_pairs : (ks ms : List ℕ) (ps : Pairs) (i : ℕ) → HoldPairs f F ks ms ps → HoldsMember f F (slice_get (in_turn ps) i) (named (member_reference (Content.dict ks ms) i))
   hold_pairs [] [] no_pairs i h = refl
-  hold_pairs [] [] (pair u v ps) i h = absurd h
-  hold_pairs [] (m ∷ ms) ps i h = absurd h
-  hold_pairs (k ∷ ks) [] ps i h = absurd h
-  hold_pairs (k ∷ ks) (m ∷ ms) no_pairs i h = absurd h
   hold_pairs (k ∷ ks) (m ∷ ms) (pair u v ps) zero h = h.0
   hold_pairs (k ∷ ks) (m ∷ ms) (pair u v ps) (suc zero) h = h.1
   hold_pairs (k ∷ ks) (m ∷ ms) (pair u v ps) (suc (suc i)) h = hold_pairs ks ms ps i h.2
+  hold_pairs _ _ _ _ h = absurd h
 
   -- the objects that the references name hold the members of the value
   pub held_members : (v : Value) (n : ℕ) → Holds f F n v

@@ -43,17 +43,12 @@ module _ (f : List ℕ) (F : Frame) where
   no_leaf k c at l (inr (inl e)) is = let no : Content.leaf l ≡ content_of f F kinds.Set c at = is ∙ ap (λ x. content_of f F x c at) e in cc no
   no_leaf k c at l (inr (inr e)) is = let no : Content.leaf l ≡ content_of f F kinds.Dict c at = is ∙ ap (λ x. content_of f F x c at) e in cc no
 
-  no_array : (k : Kind) (c at : ℕ) (ms : List ℕ) → (k ≡ kinds.Array → ⊥) → Content.array ms ≡ content_of f F k c at → ⊥
-  no_array kinds.Array c at ms not e = not refl
-  no_array _ c at ms not e = cc e
-
-  no_set : (k : Kind) (c at : ℕ) (ms : List ℕ) → (k ≡ kinds.Set → ⊥) → Content.set ms ≡ content_of f F k c at → ⊥
-  no_set kinds.Set c at ms not e = not refl
-  no_set _ c at ms not e = cc e
-
-  no_dict : (k : Kind) (c at : ℕ) (ks ms : List ℕ) → (k ≡ kinds.Dict → ⊥) → Content.dict ks ms ≡ content_of f F k c at → ⊥
-  no_dict kinds.Dict c at ks ms not e = not refl
-  no_dict _ c at ks ms not e = cc e
+  -- any other kind is that of a leaf
+  leaf_there : (k : Kind) (c at : ℕ) → (k ≡ kinds.Array → ⊥) → (k ≡ kinds.Set → ⊥) → (k ≡ kinds.Dict → ⊥) → (l : Leaf) × (content_of f F k c at ≡ Content.leaf l)
+  leaf_there kinds.Array c at a s d = absurd (a refl)
+  leaf_there kinds.Set c at a s d = absurd (s refl)
+  leaf_there kinds.Dict c at a s d = absurd (d refl)
+  leaf_there _ c at a s d = (_, refl)
 
   module _ (sizes : Table) where
     array_total : (k : Kind) (c at : ℕ) (vs : Values) (ms : List ℕ) → AllByRecursion (IsSized f F sizes) ms → HoldEach f F ms vs → Content.array ms ≡ content_of f F k c at
@@ -102,6 +97,6 @@ module _ (f : List ℕ) (F : Frame) where
       → ((x : Content) → Spells f F n x → x ≡ content_of f F k c at) → ((l : Leaf) → Content.leaf l ≡ content_of f F k c at → form ≡ form_of_text (leaf_text l))
       → record { nodes = 1; form = form } ≡ size_of v
   leaf_total k c at n (leaf l) form a s d h is has = ap (λ x. record { nodes = 1; form = x }) (has l (is (Content.leaf l) h))
-  leaf_total k c at n (array vs) form a s d h is has = absurd (no_array k c at h.0 a (is (Content.array h.0) h.1))
-  leaf_total k c at n (set vs) form a s d h is has = absurd (no_set k c at h.0 s (is (Content.set h.0) h.1))
-  leaf_total k c at n (dict ps) form a s d h is has = absurd (no_dict k c at h.0 h.1 d (is (Content.dict h.0 h.1) h.2))
+  leaf_total k c at n (array vs) form a s d h is has = cc (is (Content.array h.0) h.1 ∙ (leaf_there k c at a s d).1)
+  leaf_total k c at n (set vs) form a s d h is has = cc (is (Content.set h.0) h.1 ∙ (leaf_there k c at a s d).1)
+  leaf_total k c at n (dict ps) form a s d h is has = cc (is (Content.dict h.0 h.1) h.2 ∙ (leaf_there k c at a s d).1)

@@ -1,10 +1,10 @@
 -- What a pass over the objects of a file asks for: no object twice, so no byte before the table twice.
-use Rattle.std.proofs.Common.{arith, ◌≡◌, ◌≢◌, ℕ, zero, suc, ◌+◌, ◌*◌, ◌<◌, ◌≤◌, List, [], ◌∷◌, ◌++◌, length, take, slice_index, slice_index_or, Contains, ◌⊎◌, inl, inr, true, false, refl, sym, ap, ◌∙◌, subst}
+use Rattle.std.proofs.Common.{arith, ◌≡◌, ◌≢◌, ℕ, zero, suc, ◌+◌, ◌*◌, ◌<◌, ◌≤◌, List, [], ◌∷◌, ◌++◌, length, take, slice_index, slice_index_or, Contains, inl, inr, refl, ap, ◌∙◌, subst}
 use Rattle.std.proofs.Math.Dec.{eqb}
 use Rattle.std.proofs.Props.{props}
 use Rattle.std.specs.List.Sorted.{IsPermutation}
 use Rattle.std.proofs.Math.Nat.{mul_assoc, mul_comm}
-use Rattle.std.proofs.lemmas.Bool.Decides.{Decides-eqb, eqb_tells}
+use Rattle.std.proofs.lemmas.Bool.Decides.{Decides-eqb, nat_tests}
 use Rattle.std.proofs.lemmas.List.{length-append}
 use Rattle.std.proofs.lemmas.List.Elements.{Contains-get_or, Contains-push_cases}
 use Rattle.std.proofs.lemmas.List.Quantifiers.{all_pairs_push}
@@ -63,13 +63,7 @@ rising_same n order r = record {
 }
 
 eqb_flips : (x y : ℕ) → eqb x y ≡ eqb y x
-eqb_flips x y = go (eqb_tells x y) (eqb_tells y x)
-  where
-    go : ((eqb x y ≡ true) × (x ≡ y)) ⊎ ((eqb x y ≡ false) × (x ≢ y)) → ((eqb y x ≡ true) × (y ≡ x)) ⊎ ((eqb y x ≡ false) × (y ≢ x)) → eqb x y ≡ eqb y x
-    go (inl p) (inl q) = p.0 ∙ sym q.0
-    go (inl p) (inr q) = absurd (q.1 (sym p.1))
-    go (inr p) (inl q) = absurd (p.1 (sym q.1))
-    go (inr p) (inr q) = p.0 ∙ sym q.0
+eqb_flips x y = grind (arith, nat_tests)
 
 -- they stay so where they change places
 pub once_permuted : (n : ℕ) (xs ys : List ℕ) → IsPermutation xs ys → AreOnce n xs → AreOnce n ys
@@ -81,8 +75,6 @@ once_permuted n xs ys same once = record {
 -- ---- the bytes of objects
 -- the references of an object are among its bytes
 ref_size_kept : (r count : ℕ) (kind : Kind) → ref_count kind count * r ≤ count * item_size r kind
-ref_size_kept r count kinds.Array = omega arith
-ref_size_kept r count kinds.Set = omega arith
 ref_size_kept r count kinds.Dict =
     let twice : 2 * count * r ≡ count * (2 * r) = ap (λ n. n * r) (mul_comm 2 count) ∙ mul_assoc count 2 r in
     omega (arith, twice)

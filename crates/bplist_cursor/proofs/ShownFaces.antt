@@ -46,9 +46,8 @@ module _ (f : List ℕ) (F : Frame) where
 
   count_each : (ms : List ℕ) (vs : Values) → HoldEach f F ms vs → length ms ≡ length (members vs)
   count_each [] no_values h = refl
-  count_each [] (value v vs) h = absurd h
-  count_each (m ∷ ms) no_values h = absurd h
   count_each (m ∷ ms) (value v vs) h = let e = count_each ms vs h.1 in omega (arith, e)
+  count_each _ _ h = absurd h
 
   -- what an object that holds a value spells has the face of the value
   pub held_face : (v : Value) (n : ℕ) → Holds f F n v → (c : Content) × Spells f F n c × (content_face c ≡ face v)

@@ -19,10 +19,8 @@ use Rattle.bplist_cursor.specs.Sizes.{size_of, both, size_in, added, no_size, si
 
 -- forms are joined in any grouping
 joined-assoc : (a b c : Form) → joined (joined a b) c ≡ joined a (joined b c)
-joined-assoc NoForm b c = refl
-joined-assoc (Length a) NoForm c = refl
-joined-assoc (Length a) (Length b) NoForm = refl
 joined-assoc (Length a) (Length b) (Length c) = ap Length (omega arith)
+joined-assoc _ _ _ = refl
 
 -- a form whose length is no more than its limit
 abbrev pub IsCapped : Form → Type 0
@@ -34,9 +32,8 @@ abbrev pub IsFit : Size → Type 0
 IsFit s = (s.nodes ≤ 18446744073709551615) × IsCapped s.form
 
 joined_fits : (a b : Form) → IsCapped (joined a b)
-joined_fits NoForm b = tt
-joined_fits (Length a) NoForm = tt
 joined_fits (Length a) (Length b) = omega arith
+joined_fits _ _ = tt
 
 joined_nothing : (a : Form) → IsCapped a → joined a (Length 0) ≡ a
 joined_nothing NoForm c = refl
@@ -69,42 +66,31 @@ module _ (f : List ℕ) (F : Frame) (sizes : List (Option Size)) where
   pub added_members : (vs : Values) (ms : List ℕ) (total : Size) → IsFit total → AllByRecursion (IsSized f F sizes) ms → HoldEach f F ms vs
       → added sizes total ms ≡ Some (both total (size_of_members vs))
   added_members no_values [] total fit all h = ap Some (sym (both_nothing total fit))
-  added_members no_values (m ∷ ms) total fit all h = absurd h
-  added_members (value v vs) [] total fit all h = absurd h
   added_members (value v vs) (m ∷ ms) total fit all h =
       ap (λ o. option_and_then (λ s. added sizes (both total s) ms) o) (all.0 v h.0)
       ∙ added_members vs ms (both total (size_of v)) (both_fits total (size_of v)) all.1 h.1
       ∙ ap Some (both-assoc total (size_of v) (size_of_members vs))
+  added_members _ _ _ _ _ h = absurd h
 
   -- the sizes of keys
   pub added_keys : (ps : Pairs) (ks ms : List ℕ) (total : Size) → IsFit total → AllByRecursion (IsSized f F sizes) ks → HoldPairs f F ks ms ps
       → added sizes total ks ≡ Some (both total (size_of_keys ps))
   added_keys no_pairs [] [] total fit all h = ap Some (sym (both_nothing total fit))
-  added_keys no_pairs [] (m ∷ ms) total fit all h = absurd h
-  added_keys no_pairs (k ∷ ks) [] total fit all h = absurd h
-  added_keys no_pairs (k ∷ ks) (m ∷ ms) total fit all h = absurd h
-  added_keys (pair u v ps) [] [] total fit all h = absurd h
-  added_keys (pair u v ps) [] (m ∷ ms) total fit all h = absurd h
-  added_keys (pair u v ps) (k ∷ ks) [] total fit all h = absurd h
   added_keys (pair u v ps) (k ∷ ks) (m ∷ ms) total fit all h =
       ap (λ o. option_and_then (λ s. added sizes (both total s) ks) o) (all.0 (leaf (text u)) h.0)
       ∙ added_keys ps ks ms (both total (size_of (leaf (text u)))) (both_fits total (size_of (leaf (text u)))) all.1 h.2
       ∙ ap Some (both-assoc total (size_of (leaf (text u))) (size_of_keys ps))
+  added_keys ps ks ms total fit all h = absurd (let c = pair_counts f F ks ms ps h in omega (arith, c.0, c.1))
 
   -- the sizes of the values of pairs
   pub added_values : (ps : Pairs) (ks ms : List ℕ) (total : Size) → IsFit total → AllByRecursion (IsSized f F sizes) ms → HoldPairs f F ks ms ps
       → added sizes total ms ≡ Some (both total (size_of_values ps))
   added_values no_pairs [] [] total fit all h = ap Some (sym (both_nothing total fit))
-  added_values no_pairs [] (m ∷ ms) total fit all h = absurd h
-  added_values no_pairs (k ∷ ks) [] total fit all h = absurd h
-  added_values no_pairs (k ∷ ks) (m ∷ ms) total fit all h = absurd h
-  added_values (pair u v ps) [] [] total fit all h = absurd h
-  added_values (pair u v ps) [] (m ∷ ms) total fit all h = absurd h
-  added_values (pair u v ps) (k ∷ ks) [] total fit all h = absurd h
   added_values (pair u v ps) (k ∷ ks) (m ∷ ms) total fit all h =
       ap (λ o. option_and_then (λ s. added sizes (both total s) ms) o) (all.0 v h.1)
       ∙ added_values ps ks ms (both total (size_of v)) (both_fits total (size_of v)) all.1 h.2
       ∙ ap Some (both-assoc total (size_of v) (size_of_values ps))
+  added_values ps ks ms total fit all h = absurd (let c = pair_counts f F ks ms ps h in omega (arith, c.0, c.1))
 
   -- the sizes of keys and values
   pub added_pairs : (ps : Pairs) (ks ms : List ℕ) (total : Size) → IsFit total → AllByRecursion (IsSized f F sizes) (ks ++ ms) → HoldPairs f F ks ms ps
@@ -128,11 +114,10 @@ text_step : (o p : Option (List ℕ)) (x : Form) (mid : List ℕ) (n : ℕ) → 
     → form_of_text (option_and_then (λ t. option_map (λ r. t ++ (mid ++ r)) p) o) ≡ joined (Length (cap (length mid + n))) (joined (form_of_text o) x)
 text_step None p x mid n e = refl
 text_step (Some t) None NoForm mid n e = refl
-text_step (Some t) None (Length x) mid n e = cc e
-text_step (Some t) (Some r) NoForm mid n e = cc e
 text_step (Some t) (Some r) (Length x) mid n e =
     let is : cap (length r) ≡ cap (cap n + x) = cc e in
     ap Length (omega (arith, is, length-append t (mid ++ r), length-append mid r))
+text_step _ _ _ _ _ e = cc e
 
 members_form : (vs : Values) → form_of_text (members_text vs) ≡ joined (Length (cap (commas vs))) (size_of_members vs).form
 members_form no_values = refl
@@ -140,25 +125,19 @@ members_form (value v vs) = text_step (value_text v) (members_text vs) (size_of_
 
 commas_of : (f : List ℕ) (F : Frame) (vs : Values) (ms : List ℕ) → HoldEach f F ms vs → commas vs + 1 ≡ max (length ms) 1
 commas_of f F no_values [] h = refl
-commas_of f F no_values (m ∷ ms) h = absurd h
-commas_of f F (value v vs) [] h = absurd h
-commas_of f F (value v vs) (m ∷ ms) h = go vs ms h.1 (commas_of f F vs ms h.1)
-  where
-    go : (vs : Values) (ms : List ℕ) → HoldEach f F ms vs → commas vs + 1 ≡ max (length ms) 1 → (length (comma vs) + commas vs) + 1 ≡ max (length (m ∷ ms)) 1
-    go no_values [] h e = omega (arith, e)
-    go no_values (n ∷ ms) h e = absurd h
-    go (value w vs) [] h e = absurd h
-    go (value w vs) (n ∷ ms) h e = omega (arith, e)
+commas_of f F (value v no_values) (m ∷ []) h = refl
+commas_of f F (value v (value w vs)) (m ∷ n ∷ ms) h = let e = commas_of f F (value w vs) (n ∷ ms) h.1 in omega (arith, e)
+commas_of _ _ (value _ _) (_ ∷ _) h = absurd h.1
+commas_of _ _ _ _ h = absurd h
 
 -- a text between two bytes
 enclosed : (front back : ℕ) (o : Option (List ℕ)) (x : Form) (n : ℕ) → form_of_text o ≡ joined (Length (cap n)) x
     → joined (Length (cap (n + 2))) x ≡ form_of_text (option_map (λ t. front ∷ (t ++ back ∷ [])) o)
 enclosed front back None NoForm n e = refl
-enclosed front back None (Length x) n e = cc e
-enclosed front back (Some t) NoForm n e = cc e
 enclosed front back (Some t) (Length x) n e =
     let is : cap (length t) ≡ cap (cap n + x) = cc e in
     ap Length (omega (arith, is, length-append t (back ∷ [])))
+enclosed _ _ _ _ _ e = cc e
 
 -- the size of an array with these members
 pub array_size : (f : List ℕ) (F : Frame) (vs : Values) (ms : List ℕ) → HoldEach f F ms vs
@@ -184,12 +163,10 @@ pair_step None p NoForm y key n e = refl
 pair_step None p (Length x) y key n e = refl
 pair_step (Some t) None NoForm y key n e = refl
 pair_step (Some t) None (Length x) NoForm key n e = refl
-pair_step (Some t) None (Length x) (Length y) key n e = cc e
-pair_step (Some t) (Some r) NoForm y key n e = cc e
-pair_step (Some t) (Some r) (Length x) NoForm key n e = cc e
 pair_step (Some t) (Some r) (Length x) (Length y) key n e =
     let is : cap (length r) ≡ cap (cap (cap n + x) + y) = cc e in
     ap Length (omega (arith, is, length-append key (0x3D ∷ (t ++ (0x3B ∷ r))), length-append t (0x3B ∷ r)))
+pair_step _ _ _ _ _ _ e = cc e
 
 pairs_form : (ps : Pairs) → form_of_text (pairs_text ps) ≡ joined (joined (Length (cap (2 * length (keys ps)))) (size_of_keys ps).form) (size_of_values ps).form
 pairs_form no_pairs = refl

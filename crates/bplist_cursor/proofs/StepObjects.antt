@@ -17,6 +17,7 @@ use Rattle.bplist_cursor.specs.declared.node.Why.{Why}
 use Rattle.bplist_cursor.specs.declared.node.Why.TheVariants as why
 use Rattle.bplist_cursor.specs.Leads.{IsTaken, LeadTo}
 use Rattle.bplist_objects.proofs.ObjectValues.{OneHead}
+use Rattle.bplist_cursor.proofs.Counts.{pair_counts}
 
 -- a test that is not true is false
 pub not_true : (b : Bool) → (b ≡ true → ⊥) → b ≡ false
@@ -50,28 +51,15 @@ module _ (f : List ℕ) (F : Frame) (one : OneHead f F) where
   Gives o m = (w : Value) × (o ≡ Some w) × Holds f F m w
 
   key_there : (ps : Pairs) (ks ms : List ℕ) (s : List ℕ) → HoldPairs f F ks ms ps → (i : ℕ) → i < length ks → Spells f F (slice_index ks i) (Content.leaf (text s)) → Contains (keys ps) s
-  key_there no_pairs [] [] s h i l sp = absurd (omega arith)
-  key_there no_pairs [] (m ∷ ms) s h i l sp = absurd h
-  key_there no_pairs (k ∷ ks) [] s h i l sp = absurd h
-  key_there no_pairs (k ∷ ks) (m ∷ ms) s h i l sp = absurd h
-  key_there (pair u v ps) [] [] s h i l sp = absurd h
-  key_there (pair u v ps) [] (m ∷ ms) s h i l sp = absurd h
-  key_there (pair u v ps) (k ∷ ks) [] s h i l sp = absurd h
   key_there (pair u v ps) (k ∷ ks) (m ∷ ms) s h zero l sp = let e : u ≡ s = cc (one k _ _ h.0 sp) in (0, omega arith, e)
   key_there (pair u v ps) (k ∷ ks) (m ∷ ms) s h (suc i) l sp =
       let c = key_there ps ks ms s h.2 i (omega arith) sp in
       (suc c.0, omega (arith, c.1), c.2)
+  key_there ps ks ms s h i l sp = absurd (let c = pair_counts f F ks ms ps h in omega (arith, c.0, c.1, l))
 
   -- the value of a key whose object spells the step
   by_key : (ps : Pairs) (ks ms : List ℕ) (s : List ℕ) → HoldPairs f F ks ms ps → AreDistinct (keys ps) → (i : ℕ) → i < length ks → Spells f F (slice_index ks i) (Content.leaf (text s))
       → Gives (value_at s ps) (slice_index ms i)
-  by_key no_pairs [] [] s h d i l sp = absurd (omega arith)
-  by_key no_pairs [] (m ∷ ms) s h d i l sp = absurd h
-  by_key no_pairs (k ∷ ks) [] s h d i l sp = absurd h
-  by_key no_pairs (k ∷ ks) (m ∷ ms) s h d i l sp = absurd h
-  by_key (pair u v ps) [] [] s h d i l sp = absurd h
-  by_key (pair u v ps) [] (m ∷ ms) s h d i l sp = absurd h
-  by_key (pair u v ps) (k ∷ ks) [] s h d i l sp = absurd h
   by_key (pair u v ps) (k ∷ ks) (m ∷ ms) s h d zero l sp =
       let e : u ≡ s = cc (one k _ _ h.0 sp) in
       (v, ap (value_by u v s ps) (same_is u s e), h.1)
@@ -80,12 +68,11 @@ module _ (f : List ℕ) (F : Frame) (one : OneHead f F) where
       let c = key_there ps ks ms s h.2 i (omega arith) sp in
       let ne : u ≢ s = λ e. d 0 (suc c.0) s (omega arith) (omega (arith, c.1)) (e ∙ sym c.2) in
       (r.0, ap (value_by u v s ps) (other_is u s ne) ∙ r.1, r.2)
+  by_key ps ks ms s h d i l sp = absurd (let c = pair_counts f F ks ms ps h in omega (arith, c.0, c.1, l))
 
   -- the member whose place the step spells; j is the place of the first
   by_place : (vs : Values) (ms : List ℕ) (s : List ℕ) (j : ℕ) → HoldEach f F ms vs → j + length ms < 2 ^ 64 → (i : ℕ) → i < length ms → decimal (j + i) ≡ s → Gives (member_at s j vs) (slice_index ms i)
   by_place no_values [] s j h b i l e = absurd (omega arith)
-  by_place no_values (m ∷ ms) s j h b i l e = absurd h
-  by_place (value v vs) [] s j h b i l e = absurd h
   by_place (value v vs) (m ∷ ms) s j h b zero l e =
       let z : j ≡ j + 0 = omega arith in
       (v, ap (member_by j v s vs) (same_is (decimal j) s (ap decimal z ∙ e)), h.0)
@@ -94,6 +81,7 @@ module _ (f : List ℕ) (F : Frame) (one : OneHead f F) where
       let r = by_place vs ms s (j + 1) h.1 (omega arith) i (omega arith) (ap decimal z ∙ e) in
       let ne : decimal j ≢ s = λ d. let q = decimal_injective j (j + suc i) (omega arith) (omega arith) (d ∙ sym e) in omega arith in
       (r.0, ap (member_by j v s vs) (other_is (decimal j) s ne) ∙ r.1, r.2)
+  by_place _ _ _ _ h _ _ _ _ = absurd h
 
   -- the object of the reference taken for a step holds what the step leads to
   pub leads_held : (v : Value) (n : ℕ) (s : List ℕ) (m : ℕ) → Holds f F n v → ((h : Content) → Spells f F n h → length (refs h) < 2 ^ 64) → LeadTo f F n (s ∷ []) m → (w : Value) × (stepped v s ≡ Ok w) × Holds f F m w
@@ -112,9 +100,6 @@ module _ (f : List ℕ) (F : Frame) (one : OneHead f F) where
   -- ---- the other way round: if a step goes on, it takes a reference
   from_key : (ps : Pairs) (ks ms : List ℕ) (s : List ℕ) (w : Value) → HoldPairs f F ks ms ps → value_at s ps ≡ Some w → (i : ℕ) × (i < length ks) × Spells f F (slice_index ks i) (Content.leaf (text s)) × Holds f F (slice_index ms i) w
   from_key no_pairs ks ms s w h e = cc e
-  from_key (pair u v ps) [] [] s w h e = absurd h
-  from_key (pair u v ps) [] (m ∷ ms) s w h e = absurd h
-  from_key (pair u v ps) (k ∷ ks) [] s w h e = absurd h
   from_key (pair u v ps) (k ∷ ks) (m ∷ ms) s w h e = go (from_key ps ks ms s w h.2) (bytes_eq u s) refl
     where
       go : (value_at s ps ≡ Some w → (i : ℕ) × (i < length ks) × Spells f F (slice_index ks i) (Content.leaf (text s)) × Holds f F (slice_index ms i) w) → (b : Bool) → bytes_eq u s ≡ b → (i : ℕ) × (i < length (k ∷ ks)) × Spells f F (slice_index (k ∷ ks) i) (Content.leaf (text s)) × Holds f F (slice_index (m ∷ ms) i) w
@@ -125,6 +110,7 @@ module _ (f : List ℕ) (F : Frame) (one : OneHead f F) where
       go again false t =
           let r = again (ap (value_by u v s ps) (sym t) ∙ e) in
           (suc r.0, omega (arith, r.1), r.2, r.3)
+  from_key ps ks ms s w h e = absurd (let c = pair_counts f F ks ms ps h in omega (arith, c.0, c.1))
 
   from_place : (vs : Values) (ms : List ℕ) (s : List ℕ) (j : ℕ) (w : Value) → HoldEach f F ms vs → member_at s j vs ≡ Some w → (i : ℕ) × (i < length ms) × (decimal (j + i) ≡ s) × Holds f F (slice_index ms i) w
   from_place no_values ms s j w h e = cc e

@@ -1,8 +1,8 @@
 -- What the value of an object says about its references, and about the steps that take none of them.
-use Rattle.std.proofs.Common.{arith, ◌≡◌, ◌<◌, ℕ, zero, suc, length, List, [], ◌∷◌, ◌++◌, slice_index, Option, Some, None, Ok, Err, ok_or, refl, sym, ap, ◌∙◌, subst, Contains}
+use Rattle.std.proofs.Common.{arith, ◌≡◌, ◌<◌, ℕ, zero, suc, length, List, ◌∷◌, ◌++◌, slice_index, Option, Some, None, Ok, Err, ok_or, refl, sym, ap, ◌∙◌, subst, Contains}
 use Rattle.std.proofs.lemmas.List.Elements.{Contains-append_left, Contains-append_right, Contains-get_or}
 use Rattle.bplist_objects.specs.declared.frame.Frame.{Frame}
-use Rattle.bplist_objects.specs.Value.{text, Value, leaf, array, set, dict, Pairs, no_pairs, pair}
+use Rattle.bplist_objects.specs.Value.{text, Value, leaf, array, set, dict, Pairs, pair}
 use Rattle.bplist_objects.specs.Heads.{Content, Spells, refs}
 use Rattle.bplist_objects.specs.Holds.{Holds, HoldPairs}
 use Rattle.bplist_objects.proofs.ProperLeaves.{refs_below}
@@ -21,13 +21,9 @@ not_some (Some w) y h = absurd (h w refl)
 
 module _ (f : List ℕ) (F : Frame) where
   text_at : (ps : Pairs) (ks ms : List ℕ) (i : ℕ) → HoldPairs f F ks ms ps → i < length ks → (u : List ℕ) × Spells f F (slice_index ks i) (Content.leaf (text u))
-  text_at no_pairs [] ms i h l = absurd (omega arith)
-  text_at no_pairs (k ∷ ks) [] i h l = absurd h
-  text_at no_pairs (k ∷ ks) (m ∷ ms) i h l = absurd h
-  text_at (pair u v ps) [] ms i h l = absurd (omega arith)
-  text_at (pair u v ps) (k ∷ ks) [] i h l = absurd h
   text_at (pair u v ps) (k ∷ ks) (m ∷ ms) zero h l = (u, h.0)
   text_at (pair u v ps) (k ∷ ks) (m ∷ ms) (suc i) h l = text_at ps ks ms i h.2 (omega arith)
+  text_at ps ks ms i h l = absurd (let c = pair_counts f F ks ms ps h in omega (arith, c.0, c.1, l))
 
   -- an object that holds a value spells something, and the keys of a dictionary are texts
   pub content_of_value : (v : Value) (n : ℕ) → Holds f F n v → (c : Content) × Spells f F n c × HasTextKeys f F c

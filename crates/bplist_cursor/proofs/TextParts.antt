@@ -1,7 +1,7 @@
 -- The text of a value in two parts: whether there is one, and the text.
 use Rattle.std.proofs.Common.{◌≡◌, ℕ, List, [], ◌∷◌, ◌++◌, Option, Some, None, refl, ap, ◌∙◌}
 use Rattle.std.specs.Prelude.{option_map, option_and_then}
-use Rattle.bplist_objects.specs.Value.{Leaf, null, boolean, int, real, date, bytes, text, uid, Value, leaf, array, set, dict, Values, no_values, value, Pairs, no_pairs, pair}
+use Rattle.bplist_objects.specs.Value.{Leaf, bytes, text, Value, leaf, array, set, dict, Values, no_values, value, Pairs, no_pairs, pair}
 use Rattle.bplist_cursor.specs.Texts.{text_of_units}
 use Rattle.bplist_cursor.specs.OldStyle.{leaf_text, comma, value_text, members_text, pairs_text, IsFormedLeaf, IsFormed, AreFormed, ArePairsFormed, plain_leaf, plain, plain_members, plain_pairs}
 
@@ -15,24 +15,14 @@ then_some g (Some x) y e = (x, refl, e)
 
 -- a leaf that has a form
 formed_leaf : (l : Leaf) → IsFormedLeaf l → leaf_text l ≡ Some (plain_leaf l)
-formed_leaf null h = absurd h
-formed_leaf (boolean b) h = absurd h
-formed_leaf (int i) h = absurd h
-formed_leaf (real l) h = absurd h
-formed_leaf (date l) h = absurd h
 formed_leaf (bytes l) h = refl
 formed_leaf (text u) h = refl
-formed_leaf (uid x) h = absurd h
+formed_leaf _ h = absurd h
 
 leaf_formed : (l : Leaf) (t : List ℕ) → leaf_text l ≡ Some t → IsFormedLeaf l × (plain_leaf l ≡ t)
-leaf_formed null t e = cc
-leaf_formed (boolean b) t e = cc
-leaf_formed (int i) t e = cc
-leaf_formed (real l) t e = cc
-leaf_formed (date l) t e = cc
 leaf_formed (bytes l) t e = (tt, cc)
 leaf_formed (text u) t e = (tt, cc)
-leaf_formed (uid x) t e = cc
+leaf_formed _ t e = cc
 
 mutual
   -- a value that is formed has its plain text

@@ -27,12 +27,13 @@ reads_char s t c r spelled counted = record {
   counted = counted ∙ ap (λ xs. char_indices_offset s + length xs) (sym (append-nil (encode_utf8 c)));
   after = record {
     utf8 = IsUtf8-past_char (char_indices_rest s) (char_indices_rest t) c r.utf8 spelled;
-    fits =
-        let fits = r.fits in
-        let long = ap length spelled in
-        omega (arith, fits, long, counted, length-append (encode_utf8 c) (char_indices_rest t));
+    fits = omega (arith, r.fits, ap length spelled, counted, length-append (encode_utf8 c) (char_indices_rest t));
   };
 }
+
+-- the bytes of two texts, one after the other
+length-encoded : (xs ys : List ℕ) → length (encode_utf8_all (xs ++ ys)) ≡ length (encode_utf8_all xs) + length (encode_utf8_all ys)
+length-encoded xs ys = ap length (encodes-append xs ys) ∙ length-append (encode_utf8_all xs) (encode_utf8_all ys)
 
 pub reads_nothing : (s : CharIndices) → IsReadable s → Reads s s []
 reads_nothing s r = record { read = refl; counted = omega arith; after = r }
@@ -40,12 +41,7 @@ reads_nothing s r = record { read = refl; counted = omega arith; after = r }
 pub reads_more : (s t u : CharIndices) (xs ys : List ℕ) → Reads s t xs → Reads t u ys → Reads s u (xs ++ ys)
 reads_more s t u xs ys p q = record {
   read = p.read ∙ ap (λ l. xs ++ l) q.read ∙ sym (append_assoc xs ys (left u));
-  counted =
-      let a = p.counted in
-      let b = q.counted in
-      let long : length (encode_utf8_all (xs ++ ys)) ≡ length (encode_utf8_all xs) + length (encode_utf8_all ys) =
-      ap length (encodes-append xs ys) ∙ length-append (encode_utf8_all xs) (encode_utf8_all ys) in
-      omega (arith, a, b, long);
+  counted = omega (arith, p.counted, q.counted, length-encoded xs ys);
   after = q.after;
 }
 
@@ -65,12 +61,7 @@ meets_later s t front place p closed m = record {
   read = p.read ∙ ap (λ l. front ++ l) m.read ∙ sym (append_assoc front m.front m.tail);
   closed = closed-append front m.front closed m.closed;
   loose = m.loose;
-  counted =
-      let a = p.counted in
-      let b = m.counted in
-      let long : length (encode_utf8_all (front ++ m.front)) ≡ length (encode_utf8_all front) + length (encode_utf8_all m.front) =
-      ap length (encodes-append front m.front) ∙ length-append (encode_utf8_all front) (encode_utf8_all m.front) in
-      omega (arith, a, b, long);
+  counted = omega (arith, p.counted, m.counted, length-encoded front m.front);
 }
 
 -- a `~` at the end
@@ -125,7 +116,7 @@ pub parsing_starts : (s t : CharIndices) (text : List ℕ) → char_indices_rest
 parsing_starts s t text is at p = record {
   tokens = [];
   read = ap chars (sym is) ∙ p.read;
-  counted = let a = p.counted in omega (arith, a, at);
+  counted = omega (arith, p.counted, at);
   readable = p.after;
   ended = inl refl;
   steps_are = refl;
@@ -145,12 +136,8 @@ parsing_more text s t on steps steps' token p r ended is =
       read = p.read ∙ ap (λ l. (written p.tokens ++ 0x2F ∷ []) ++ l) r.read
           ∙ sym (append_assoc (written p.tokens ++ 0x2F ∷ []) (flat_map escaped token ++ slash on) (left t)) ∙ ap (λ l. l ++ left t) written_on;
       counted =
-          let a = p.counted in
-          let b = r.counted in
-          let long : length (encode_utf8_all (written p.tokens ++ 0x2F ∷ [])) + length (encode_utf8_all (flat_map escaped token ++ slash on)) ≡ length (encode_utf8_all (written (p.tokens ++ token ∷ []) ++ slash on)) =
-          sym (ap length (ap encode_utf8_all (sym written_on) ∙ encodes-append (written p.tokens ++ 0x2F ∷ []) (flat_map escaped token ++ slash on))
-          ∙ length-append (encode_utf8_all (written p.tokens ++ 0x2F ∷ [])) (encode_utf8_all (flat_map escaped token ++ slash on))) in
-          omega (arith, a, b, long);
+          let long = ap (λ xs. length (encode_utf8_all xs)) (sym written_on) ∙ length-encoded (written p.tokens ++ 0x2F ∷ []) (flat_map escaped token ++ slash on) in
+          omega (arith, p.counted, r.counted, long);
       readable = r.after;
       ended = ended;
       steps_are = is ∙ ap (λ l. l ++ units token ∷ []) p.steps_are ∙ sym (map-append units p.tokens (token ∷ []));
@@ -187,12 +174,7 @@ not_read text s steps place p m =
     let front : List ℕ = (written p.tokens ++ 0x2F ∷ []) ++ m.front in
     let all : chars text ≡ front ++ m.tail = p.read ∙ ap (λ l. (written p.tokens ++ 0x2F ∷ []) ++ l) m.read ∙ sym (append_assoc (written p.tokens ++ 0x2F ∷ []) m.front m.tail) in
     let closed : IsClosed front = closed-append (written p.tokens ++ 0x2F ∷ []) m.front (closed_written p.tokens (0x2F ∷ []) (closed-cons 0x2F [] (λ e. omega (arith, e)) closed-nil)) m.closed in
-    let at : place ≡ length (encode_utf8_all front) =
-    let a = p.counted in
-    let b = m.counted in
-    let long : length (encode_utf8_all front) ≡ length (encode_utf8_all (written p.tokens ++ 0x2F ∷ [])) + length (encode_utf8_all m.front) =
-    ap length (encodes-append (written p.tokens ++ 0x2F ∷ []) m.front) ∙ length-append (encode_utf8_all (written p.tokens ++ 0x2F ∷ [])) (encode_utf8_all m.front) in
-    omega (arith, a, b, long) in
+    let at : place ≡ length (encode_utf8_all front) = omega (arith, p.counted, m.counted, length-encoded (written p.tokens ++ 0x2F ∷ []) m.front) in
     let begun = begins p.tokens (m.front ++ m.tail) in
     let is : chars text ≡ 0x2F ∷ begun.0 = all ∙ append_assoc (written p.tokens ++ 0x2F ∷ []) m.front m.tail ∙ begun.1 in
     subst (IsNoPath text) (sym at) (first_wrong text front m.tail begun.0 all is closed m.loose)

@@ -8,6 +8,7 @@ use Rattle.bplist_objects.specs.Heads.{Content, Spells, refs}
 use Rattle.bplist_objects.specs.Holds.{Holds, HoldEach, HoldPairs}
 use Rattle.bplist_cursor.specs.Nodes.{cap, nodes, nodes_of, nodes_of_pairs}
 use Rattle.bplist_cursor.specs.Measured.{Measured}
+use Rattle.bplist_cursor.proofs.Counts.{pair_counts}
 use Rattle.bplist_objects.proofs.ObjectValues.{OneHead}
 use Rattle.bplist_objects.proofs.Lists.{all_front, all_behind}
 
@@ -30,12 +31,10 @@ module _ (f : List ℕ) (F : Frame) (one : OneHead f F) (M : List ℕ) (S : ℕ 
     nodes_at (leaf l) n s h = leaf_at n l s h
     nodes_at (array vs) n s h =
         let a = at_head n _ s h.1 in
-        let b = members_at vs h.0 a.1 h.2 in
-        omega (arith, a.0, b)
+        omega (arith, a.0, members_at vs h.0 a.1 h.2)
     nodes_at (set vs) n s h =
         let a = at_head n _ s h.1 in
-        let b = members_at vs h.0 a.1 h.2 in
-        omega (arith, a.0, b)
+        omega (arith, a.0, members_at vs h.0 a.1 h.2)
     nodes_at (dict ps) n s h =
         let a = at_head n _ s h.2 in
         let b = pairs_at ps h.0 h.1 (all_front S h.0 h.1 a.1) (all_behind S h.0 h.1 a.1) h.3 in
@@ -43,23 +42,13 @@ module _ (f : List ℕ) (F : Frame) (one : OneHead f F) (M : List ℕ) (S : ℕ 
 
     pub members_at : (vs : Values) (ms : List ℕ) → AllByRecursion S ms → HoldEach f F ms vs → cap (sum_by at ms) ≡ cap (nodes_of vs)
     members_at no_values [] s h = refl
-    members_at no_values (m ∷ ms) s h = absurd h
-    members_at (value v vs) [] s h = absurd h
     members_at (value v vs) (m ∷ ms) s h =
-        let a = nodes_at v m s.0 h.0 in
-        let b = members_at vs ms s.1 h.1 in
-        omega (arith, a, b, sum_by-cons at m ms)
+        omega (arith, nodes_at v m s.0 h.0, members_at vs ms s.1 h.1, sum_by-cons at m ms)
+    members_at _ _ _ h = absurd h
 
     pub pairs_at : (ps : Pairs) (ks ms : List ℕ) → AllByRecursion S ks → AllByRecursion S ms → HoldPairs f F ks ms ps → cap (sum_by at ks + sum_by at ms) ≡ cap (nodes_of_pairs ps)
     pairs_at no_pairs [] [] s t h = refl
-    pairs_at no_pairs [] (m ∷ ms) s t h = absurd h
-    pairs_at no_pairs (k ∷ ks) [] s t h = absurd h
-    pairs_at no_pairs (k ∷ ks) (m ∷ ms) s t h = absurd h
-    pairs_at (pair u v ps) [] [] s t h = absurd h
-    pairs_at (pair u v ps) [] (m ∷ ms) s t h = absurd h
-    pairs_at (pair u v ps) (k ∷ ks) [] s t h = absurd h
     pairs_at (pair u v ps) (k ∷ ks) (m ∷ ms) s t h =
-        let k1 = leaf_at k (text u) s.0 h.0 in
-        let a = nodes_at v m t.0 h.1 in
         let b = pairs_at ps ks ms s.1 t.1 h.2 in
-        omega (arith, k1, a, b, sum_by-cons at k ks, sum_by-cons at m ms)
+        omega (arith, leaf_at k (text u) s.0 h.0, nodes_at v m t.0 h.1, b, sum_by-cons at k ks, sum_by-cons at m ms)
+    pairs_at ps ks ms s t h = absurd (let c = pair_counts f F ks ms ps h in omega (arith, c.0, c.1))

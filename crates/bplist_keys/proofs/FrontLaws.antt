@@ -10,10 +10,9 @@ use Rattle.bplist_keys.specs.Fronts.{AreNarrow, FitsFronts, IsFront, IsWideFront
 
 -- the first unit is smaller
 first_less : (us vs : List ℕ) → slice_index us 0 < slice_index vs 0 → compare_units us vs ≡ Less
-first_less [] [] l = absurd (omega (arith, l))
 first_less [] (v ∷ vs) l = refl
-first_less (u ∷ us) [] l = absurd (omega (arith, l))
 first_less (u ∷ us) (v ∷ vs) l = sym (ap (λ o. ordering_then o (compare_units us vs)) (nat_cmp_is u v Less l))
+first_less _ _ l = absurd (omega (arith, l))
 
 -- no text comes before the empty one
 none_before : (us : List ℕ) → compare_units us [] ≡ Less → ⊥
@@ -114,11 +113,7 @@ module _ (us vs : List ℕ) (small : AreNarrow us) (small_2 : AreNarrow vs) wher
 -- four narrow units are together below this number
 low_half : (us : List ℕ) → AreNarrow us → narrow_half us 4 < 4294967296
 low_half us small =
-    let a = small 4 in
-    let b = small 5 in
-    let c = small 6 in
-    let d = small 7 in
-    omega (arith, a, b, c, d)
+    omega (arith, small 4, small 5, small 6, small 7)
 
 -- the rest of a narrow text is narrow
 pub small_rest : (n : ℕ) (us : List ℕ) → AreNarrow us → AreNarrow (drop n us)

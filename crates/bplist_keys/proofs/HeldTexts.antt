@@ -39,10 +39,9 @@ module _ (us : List ℕ) (old new : KeyTexts) (b : IsTextBehind us old new) wher
 
   part_same : (start n : ℕ) → start + n ≤ length old.units.items → part new.units.items start n ≡ part old.units.items start n
   part_same start n low =
-      let left = length-drop start old.units.items in
       ap (λ all. part all start n) b.units
       ∙ ap (take n) (drop-append-le start old.units.items us (omega (arith, low)))
-      ∙ take-append-le n (drop start old.units.items) us (omega (arith, low, left))
+      ∙ take-append-le n (drop start old.units.items) us (omega (arith, low, length-drop start old.units.items))
 
   held_still : (text : ℕ → List ℕ) (x : Item) → IsHeld text old x → IsHeld text new x
   held_still text x h =

@@ -1,9 +1,9 @@
 -- How many units texts have together.
-use Rattle.std.proofs.Common.{◌≡◌, ℕ, zero, suc, ◌+◌, ◌-◌, ◌<◌, ◌≤◌, Bool, true, false, cond, List, [], ◌∷◌, ◌++◌, length, map, take, count_by, refl, ap, ◌∙◌, inl, inr, arith}
+use Rattle.std.proofs.Common.{◌≡◌, ℕ, suc, ◌+◌, ◌-◌, ◌<◌, ◌≤◌, Bool, true, false, cond, List, [], ◌∷◌, ◌++◌, length, map, take, count_by, refl, ap, ◌∙◌, inl, inr, arith}
 use Rattle.std.specs.List.{AllByRecursion}
 use Rattle.std.specs.List.Sorted.{IsPermutation}
 use Rattle.std.proofs.lemmas.Bool.{cases_lt, false≢true}
-use Rattle.std.proofs.lemmas.List.Sums.{sum_by_push, sum_by-cons}
+use Rattle.std.proofs.lemmas.List.Sums.{sum_by_more, sum_by_push, sum_by-cons}
 use Rattle.std.proofs.lemmas.List.Sorted.{sum_by-IsPermutation}
 use Rattle.bplist_objects.specs.declared.frame.Frame.{Frame}
 use Rattle.bplist_objects.specs.declared.head.Head.{Head}
@@ -29,18 +29,16 @@ units_count f F m key text safe =
     ap length (text_units-head f F m key text) ∙ length-units_at f key.kind key.count key.body text.1 (omega (arith, safe.body.body, safe.body.within))
 
 one_fewer : (x y : Bool) → (x ≡ true → y ≡ true) → cond x 1 0 ≤ cond y 1 0
-one_fewer true true only = omega arith
 one_fewer true false only = absurd (false≢true (only refl))
-one_fewer false _ only = omega arith
+one_fewer _ _ only = omega arith
 
 -- if fewer objects are marked, their number is no greater
 pub marked_fewer : (some all : List Bool) → length some ≡ length all → ((m : ℕ) → IsMarked some m → IsMarked all m) → count_by (λ marked. marked) some ≤ count_by (λ marked. marked) all
 marked_fewer [] [] e only = omega arith
-marked_fewer [] (_ ∷ _) e only = absurd (omega (arith, e))
-marked_fewer (_ ∷ _) [] e only = absurd (omega (arith, e))
 marked_fewer (x ∷ xs) (y ∷ ys) e only =
     let rest = marked_fewer xs ys (omega (arith, e)) (λ m. only (suc m)) in
     omega (arith, rest, one_fewer x y (only 0), sum_by-cons (λ (marked : Bool). cond marked 1 0) x xs, sum_by-cons (λ (marked : Bool). cond marked 1 0) y ys)
+marked_fewer _ _ e only = absurd (omega (arith, e))
 
 -- the objects of the items ascend
 abbrev pub Ascend : List Item → Type 0
@@ -67,16 +65,7 @@ module _ (f : List ℕ) (F : Frame) where
 
   -- the first items and one more
   pub units_taken : (xs : List Item) (k : ℕ) → k < length xs → units_in f F (take (k + 1) xs) ≡ units_in f F (take k xs) + length (text_units f F (item_at xs k).object)
-  units_taken xs k low =
-      let next : k + 1 ≡ suc k = omega arith in
-      rw next (go xs k low)
-    where
-      go : (xs : List Item) (k : ℕ) → k < length xs → units_in f F (take (suc k) xs) ≡ units_in f F (take k xs) + length (text_units f F (item_at xs k).object)
-      go [] k low = absurd (omega (arith, low))
-      go (x ∷ xs) zero low = refl
-      go (x ∷ xs) (suc k) low =
-          let g : Item → ℕ = λ y. length (text_units f F y.object) in
-          omega (arith, go xs k (omega (arith, low)), sum_by-cons g x (take (suc k) xs), sum_by-cons g x (take k xs))
+  units_taken xs k low = sum_by_more (λ (y : Item). length (text_units f F y.object)) xs k (record { object = 0; group = 0; number = 0 }) low
 
   -- the items in another order
   pub units_permuted : (listed before sorted : List Item) → before ≡ listed → IsPermutation before sorted → units_in f F sorted ≡ units_in f F listed

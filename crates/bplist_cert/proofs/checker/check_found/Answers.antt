@@ -58,7 +58,6 @@ returns-in_ok-check-in-Err-Fault-clause-exact g c = λ honest none.
     let same = ap (λ (x : Lists). x.keys) c.cert.view_is in
     let fault = (rw c.in-Err-Fault.field-0-is at c.in-Err-Fault.ensures.exact) honest none in
     let s = fault.0 in
-    let found = fault.1 in
     let shown = c.deref-heights.ensures.value ∙ ap (λ (x : Lists). x.heights) c.cert.view_is in
     let named = c.object_of.ensures _ (seen_object f F heights keys _ s) in
     let inside = vouched_inside heights F.objects s.object c.requires s.vouched in
@@ -67,7 +66,7 @@ returns-in_ok-check-in-Err-Fault-clause-exact g c = λ honest none.
     let seen = subst (KeepBeforeKeysBelow f F heights) (sym bound) s.seen in
     let reads = rw c.in-Err-Fault.field-0-is at c.in-Err-Fault.ensures.reads in
     let keyed = rw (reads, same, shown) at c.in_ok-check-in-Err-Fault.ensures.exact in
-    let good = keyed honest seen (c.forget.ensures f F c.args.cert.now c.min.result found) in
+    let good = keyed honest seen (c.forget.ensures f F c.args.cert.now c.min.result fault.1) in
     seen_first f F heights keys _ s (λ n lt v. good n (omega (arith, lt, bound)) v)
 
 pub returns-in_ok-check-in-Ok-clause-asks : goal.returns-in_ok-check-in-Ok-clause-asks

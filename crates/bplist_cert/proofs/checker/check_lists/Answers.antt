@@ -1,4 +1,4 @@
-use Rattle.std.proofs.Common.{◌≡◌, ap, length, slice_index, inr, arith, rules}
+use Rattle.std.proofs.Common.{◌≡◌, ap, length, slice_index, inr, arith}
 use Rattle.std.proofs.lemmas.Grind.{get_or_default_zero}
 use Rattle.bplist_cert.specs.Lists.{Lists}
 use Rattle.bplist_cert.specs.Valid.{IsVouchedBy}
@@ -18,11 +18,3 @@ returns-in_err-check_objects-clause-exact g c = λ honest.
     let top : IsVouchedBy heights frame.top.0 = omega (arith, ap (λ (x : Lists). slice_index x.heights frame.top.0) c.cert.view_is, c.index.ensures, c.if-index-eq0.false, same_at) in
     let exact = (rw (c.new-file.ensures.frame, c.new-file.ensures.means, c.in_ok-frame.ensures.reads) at c.in_err-check_objects.ensures.exact) honest in
     on_err _ _ _ _ c.from_residual-in_err-check_objects.ensures.1 (refused_weaker _ _ c.in_err-check_objects.field-0.0 (λ fault h. inr (frame, c.in_ok-frame.ensures.exact honest, inr (count, top, h))) exact)
-
-pub returns-clause-asks : goal.returns-clause-asks
-returns-clause-asks g c = λ honest none.
-    let frame = c.in_ok-frame.frame in
-    let made = c.new-file.ensures in
-    let told = (rw (made.frame, made.means, c.in_ok-frame.ensures.reads) at c.in_ok-check_objects.ensures.asks) honest none in
-    let after : g.S.Source.asked c.src-1.given.0 ≡ g.S.Source.asked c.check_objects.new.src.source.now = search rules in
-    rw after (omega (arith, c.in_ok-frame.ensures.asks, made.asked, told, c.in_ok-frame.ensures.safe.safe.room))

@@ -1,13 +1,7 @@
 use Rattle.std.proofs.Common.{◌∙◌, arith, refl}
 use Rattle.bplist_cert.specs.Versions.{is_keyed}
-use Rattle.bplist_cert.proofs.CertificateBytes.{front_is, header_is, length_refused}
+use Rattle.bplist_cert.proofs.CertificateBytes.{front_is, length_refused}
 use Rattle.bplist_cert.proofs.decoding.header_of.Goals as goal
-
-pub returns-then-fits-clause-exact : goal.returns-then-fits-clause-exact
-returns-then-fits-clause-exact g c = λ honest.
-    let f = (g.S.Source.means c.args.src.now).octets in
-    let front = c.in_ok-read_at.ensures.filled honest ∙ front_is f _ c.min.result refl (omega arith) in
-    header_is f c.read_at.new.into _ c.count_in-count.result front c.in-Some.ensures c.count_in-count.ensures
 
 pub returns-else-fits-clause-exact : goal.returns-else-fits-clause-exact
 returns-else-fits-clause-exact g c = λ honest.

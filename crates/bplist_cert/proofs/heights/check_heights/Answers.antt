@@ -1,11 +1,6 @@
-use Rattle.std.proofs.Common.{inl}
 use Rattle.bplist_objects.specs.Framed.{frame_in}
-use Rattle.bplist_cert.proofs.CheckSteps.{given_weaker, heights_checked, on_err}
+use Rattle.bplist_cert.proofs.CheckSteps.{heights_checked}
 use Rattle.bplist_cert.proofs.heights.check_heights.Goals as goal
-
-pub returns-in_err-check_refs-clause-exact : goal.returns-in_err-check_refs-clause-exact
-returns-in_err-check_refs-clause-exact g c = λ honest.
-    on_err _ _ _ _ c.from_residual.ensures.1 (given_weaker _ _ c.in_err-check_refs.field-0.0 (λ fault h. inl h) (c.in_err-check_refs.ensures.exact honest))
 
 pub returns-clause-exact : goal.returns-clause-exact
 returns-clause-exact g c = λ honest.

@@ -2,18 +2,11 @@ use Rattle.std.proofs.Common.{◌≡◌, ◌+◌, ◌∙◌, length, refl, subst
 use Rattle.std.proofs.lemmas.List.{length-take-le}
 use Rattle.bplist_objects.specs.declared.frame.Frame.{Frame}
 use Rattle.bplist_objects.specs.Framed.{frame_in}
-use Rattle.bplist_objects.specs.Safe.{ref_count}
-use Rattle.bplist_objects.proofs.BodyLaws.{refs_fit}
 use Rattle.bplist_objects.proofs.ScanLaws.{asked_on}
 use Rattle.bplist_cert.specs.Heights.{AreMet}
-use Rattle.bplist_cert.proofs.Blocks.{HasCollectedFirst, met_more, unmet_there, collected_none, collected_more, collected_all}
+use Rattle.bplist_cert.proofs.Blocks.{HasCollectedFirst, met_more, unmet_there, collected_more, collected_all}
 use Rattle.bplist_cert.specs.Walks.{IfCollected}
 use Rattle.bplist_cert.proofs.heights.check_refs.Goals as goal
-
-pub refs_of-refs-requires : goal.refs_of-refs-requires
-refs_of-refs-requires g c =
-    let fit = refs_fit (frame_in (g.P.Source.means c.args.src.now)).ref_size c.args.container.head.now.count c.args.container.head.now.kind c.frame-frame.ensures.framed.safe.safe.ref_low in
-    omega (arith, fit.1, c.requires.head.body)
 
 pub returns-in-Some-clause-exact : goal.returns-in-Some-clause-exact
 returns-in-Some-clause-exact g c = λ honest.
@@ -50,24 +43,8 @@ loop-done-preserved g c =
           (v.collected honest) c.collect_keys.ensures.stamped);
     }
 
-pub loop-done-init : goal.loop-done-init
-loop-done-init g c = record {
-  same = refl;
-  reached = omega arith;
-  asked = omega arith;
-  stays = λ none. none;
-  met = λ honest k low. absurd (omega (arith, low));
-  collected = λ honest. collected_none (g.P.Source.means c.args.src.now).octets (frame_in (g.P.Source.means c.args.src.now)) c.args.container.head.now (c.args.container.n.0 + 1) c.args.names.now;
-}
-
 pub returns-clause-names : goal.returns-clause-names
 returns-clause-names g c = λ honest.
     let m = g.P.Source.means c.args.src.now in
     collected_all m.octets (frame_in m) c.args.container.head.now (c.args.container.n.0 + 1) c.loop-done.done (omega (arith, c.refs_of-refs.ensures, c.loop-done.invariant.reached, c.loop-done-test.false)) c.args.names.now c.loop-done.names
     (c.loop-done.invariant.collected honest)
-
-pub returns-clause-asks : goal.returns-clause-asks
-returns-clause-asks g c =
-    let head = c.args.container.head.now in
-    let all : c.loop-done.done ≡ ref_count head.kind head.count = omega (arith, c.refs_of-refs.ensures, c.loop-done.invariant.reached, c.loop-done-test.false) in
-    rw all at c.loop-done.invariant.asked

@@ -42,11 +42,10 @@ returns-in-None-clause-exact g c = λ honest low vouched seen learnt.
 
 pub returns-in-Some-clause-exact : goal.returns-in-Some-clause-exact
 returns-in-Some-clause-exact g c = λ honest low vouched seen learnt.
-    let head = c.in_ok-head.head in
     let has = (c.in_ok-head.ensures.rules honest).0 in
     let found = (rw (c.in-Some.is, c.in_ok-head.ensures.reads) at c.in_ok-found.ensures.exact) honest learnt.0 in
     let texts = (rw (c.in_ok-found.ensures.reads, c.in_ok-head.ensures.reads) at c.in_ok-check_texts.ensures.exact) honest learnt.1 in
-    (head, has, (c.in-Dict.is, inr (texts.1, found.1 texts.1)))
+    (c.in_ok-head.head, has, (c.in-Dict.is, inr (texts.1, found.1 texts.1)))
 
 pub returns-in_default : goal.returns-in_default
 returns-in_default g c = record {

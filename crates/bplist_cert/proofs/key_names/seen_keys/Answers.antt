@@ -1,5 +1,3 @@
-use Rattle.std.proofs.Common.{refl, arith}
-use Rattle.bplist_keys.proofs.RankLaws.{marked_inside}
 use Rattle.bplist_cert.proofs.KeysLooks.{stamps_marked}
 use Rattle.bplist_cert.proofs.key_names.seen_keys.Goals as goal
 
@@ -7,9 +5,3 @@ pub returns-then-len-objects-clause-exact : goal.returns-then-len-objects-clause
 returns-then-len-objects-clause-exact g c = λ honest seen given.
     stamps_marked _ _ c.args.heights.now c.args.bound c.in-Some.names c.in_ok-marks_of.field-0.marks.items
     (rw c.deref.ensures.value at c.in_ok-marks_of.ensures.all) (rw c.deref.ensures.value at c.in_ok-marks_of.ensures.exact) (rw c.in-Some.is at given)
-
-pub returns-then-len-objects-clause-vouched : goal.returns-then-len-objects-clause-vouched
-returns-then-len-objects-clause-vouched g c = λ honest walked m marked.
-    let within = marked_inside c.in_ok-marks_of.field-0.marks.items _ m refl marked in
-    let stamped = (rw c.deref.ensures.value at c.in_ok-marks_of.ensures.exact) m (omega (arith, within, rw c.deref.ensures.value at c.in_ok-marks_of.ensures.all)) in
-    (rw c.in-Some.is at walked.collected).3 m (stamped.0 marked)

@@ -15,8 +15,7 @@ returns-in_default-clause-exact g c = λ honest pairs.
         λ more.
             let low = (more c.loop-j.j (omega arith)).0 in
             let text = texts _ low in
-            let inside = text.1.within in
-            omega (arith, high low, inside),
+            omega (arith, high low, text.1.within),
       ),
     )
 

@@ -1,5 +1,4 @@
-use Rattle.std.proofs.Common.{◌≡◌, None, refl, inl, inr, sym, ap, subst, ◌∙◌, arith}
-use Rattle.std.proofs.lemmas.Bool.{false≢true}
+use Rattle.std.proofs.Common.{◌≡◌, None, refl, inl, inr, ap, subst, ◌∙◌, arith}
 use Rattle.bplist_objects.specs.declared.frame.Frame.{Frame}
 use Rattle.bplist_objects.specs.declared.head.Head.{Head}
 use Rattle.bplist_objects.specs.Framed.{frame_in}
@@ -9,7 +8,6 @@ use Rattle.bplist_cert.specs.Looks.{KeepBeforeKeysBelow}
 use Rattle.bplist_cert.proofs.TextObjects.{shape_kept}
 use Rattle.bplist_cert.proofs.CheckSteps.{object_refused, on_err}
 use Rattle.bplist_cert.proofs.KeyRepeats.{none_there, keys_inside, seen_own, sound_keys, good_at, classed_texts, apart_differ, twice_fault}
-use Rattle.bplist_cert.proofs.key_rules.check_dict_repeats.Goals.{else-is_none-via-then-is_none+else-seen-frame, else-is_none-via-else-is_none}
 use Rattle.bplist_cert.proofs.key_rules.check_dict_repeats.Goals as goal
 
 pub returns-in_err-head-clause-exact : goal.returns-in_err-head-clause-exact
@@ -75,9 +73,3 @@ returns-then-seen-frame-clause-asks g c = λ honest whole head has.
     let same = ap (λ (x : Head). x.«end») (HasHead-unique f F c.args.n here head own has) in
     let read = rw c.in_ok-head.ensures.reads at c.in_ok-found.ensures.asks in
     omega (arith, c.in_ok-head.ensures.asks, read, keys_within f F c.args.n here c.frame-frame.ensures.framed.safe.safe.ref_low c.in-Dict.is own, same)
-
-pub returns-in-None-clause-asks : goal.returns-in-None-clause-asks
-returns-in-None-clause-asks g c = λ honest whole head has. absurd (elim c.else-is_none.branch [
-  | else-is_none-via-then-is_none+else-seen-frame w ↦ w.if-seen-frame.false (whole ∙ sym (ap (λ (x : Frame). x.objects) c.frame-frame.ensures.frame))
-  | else-is_none-via-else-is_none w ↦ false≢true (rw (c.in-None.is, w.if-is_none.false) at c.is_none.ensures)
-])

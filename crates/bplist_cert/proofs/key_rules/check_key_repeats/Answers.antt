@@ -4,15 +4,10 @@ use Rattle.std.proofs.lemmas.Result.{on_ok_weaker}
 use Rattle.bplist_objects.specs.declared.frame.Frame.{Frame}
 use Rattle.bplist_objects.specs.Framed.{frame_in}
 use Rattle.bplist_cert.specs.Looks.{KeepBeforeKeysBelow}
-use Rattle.bplist_cert.proofs.CheckSteps.{refused_weaker, on_err}
 use Rattle.bplist_cert.proofs.KeyRepeats.{good_unnamed}
 use Rattle.bplist_cert.proofs.KeysLooks.{collected_apart}
 use Rattle.bplist_cert.proofs.key_rules.check_key_repeats.Goals as goal
 use Rattle.bplist_cert.proofs.key_rules.check_key_repeats.Goals.{then-are_apart, else-are_apart, then-keys-objects+in_ok-keep_places, else-keys-objects}
-
-pub returns-in_err-named-clause-exact : goal.returns-in_err-named-clause-exact
-returns-in_err-named-clause-exact g c = λ honest seen given.
-    on_err _ _ _ _ c.from_residual.ensures.1 (refused_weaker _ _ c.in_err-named.field-0.0 (λ x never. absurd never) (c.in_err-named.ensures.exact honest seen given))
 
 pub returns-then-keys-eq0-clause-exact : goal.returns-then-keys-eq0-clause-exact
 returns-then-keys-eq0-clause-exact g c = λ honest seen given n low vouched.

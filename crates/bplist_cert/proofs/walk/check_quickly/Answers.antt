@@ -1,5 +1,4 @@
 use Rattle.std.proofs.Common.{◌≡◌, ◌+◌, ◌-◌, ◌≤◌, ◌∙◌, ap, subst, arith}
-use Rattle.std.proofs.lemmas.Result.{on_ok_weaker}
 use Rattle.bplist_objects.specs.declared.frame.Frame.{Frame}
 use Rattle.bplist_objects.specs.Framed.{frame_in}
 use Rattle.bplist_objects.specs.Frame.{off}
@@ -65,8 +64,3 @@ returns-in_err-walked-in-Body-clause-exact g c = λ honest place vouched sums.
     let h = rw (place, c.frame-table.ensures.frame) at c.in_err-walked-in-Body.ensures.room in
     let shape = announced_shape _ _ n (c.frame-table.ensures.framed.framed honest) c.requires.within c.in-Body.head visited.0 visited.1 in
     on_err _ _ _ _ c.from_residual-in_err-walked-in-Body.ensures.1 (sum_shown _ _ c.args.cert.now.heights n c.in-Body.head shape vouched c.args.walked.now.used.octets sums h.3)
-
-pub returns-in_ok-walked-in-Body-clause-asks : goal.returns-in_ok-walked-in-Body-clause-asks
-returns-in_ok-walked-in-Body-clause-asks g c =
-    let safe = rw c.in-Body.is at c.in_ok-end.ensures.safe in
-    on_ok_weaker c.check_rest.result (λ asked. omega (arith, asked, c.in_ok-end.ensures.asks, safe.1, c.in_ok-walked-in-Body.ensures.room.0)) c.check_rest.ensures.asks

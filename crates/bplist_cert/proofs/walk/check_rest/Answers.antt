@@ -3,14 +3,9 @@ use Rattle.std.proofs.lemmas.Result.{on_ok_weaker}
 use Rattle.bplist_objects.specs.Framed.{frame_in}
 use Rattle.bplist_objects.specs.Safe.{ref_count}
 use Rattle.bplist_objects.proofs.BodyLaws.{refs_fit}
-use Rattle.bplist_cert.proofs.QuickLooks.{on_ok, rest_by_body, rest_by_heights}
+use Rattle.bplist_cert.proofs.QuickLooks.{rest_by_body, rest_by_heights}
 use Rattle.bplist_cert.proofs.KeysLooks.{no_refs_keys, none_collected, collected_next}
 use Rattle.bplist_cert.proofs.walk.check_rest.Goals as goal
-
-pub refs_of-requires : goal.refs_of-requires
-refs_of-requires g c =
-    let fit = refs_fit (frame_in (g.P.Source.means c.args.src.now)).ref_size c.args.head.now.count c.args.head.now.kind c.frame-frame.ensures.framed.safe.safe.ref_low in
-    omega (arith, fit.1, c.requires.head.body)
 
 pub returns-then-refs_of-eq0-clause-exact : goal.returns-then-refs_of-eq0-clause-exact
 returns-then-refs_of-eq0-clause-exact g c = λ honest place has.
@@ -33,6 +28,3 @@ returns-clause-asks g c =
     let head = c.args.head.now in
     let fit = refs_fit (frame_in (g.P.Source.means c.args.src.now)).ref_size head.count head.kind c.frame-frame.ensures.framed.safe.safe.ref_low in
     on_ok_weaker c.check_refs.result (λ asked. omega (arith, asked, fit.0, c.requires.head.body)) c.check_refs.ensures.asks
-
-pub returns-then-refs_of-eq0-clause-asks : goal.returns-then-refs_of-eq0-clause-asks
-returns-then-refs_of-eq0-clause-asks g c = on_ok c.check_body.result c.check_body.ensures.asks

@@ -41,6 +41,5 @@ returns-in-At-clause-asks_left g c =
     (λ left honest v h.
     let is = subst (IsFound checked checked.frame.top.0 v (steps_in query)) c.in-At.is ((rw c.path_of.ensures at c.in_ok-node.ensures.exact) honest v h) in
     let path = (rw c.path_of.ensures at c.in_ok-node.ensures.asks) honest v h in
-    let told = left honest is.2.0 (is.1, is.2.2) in
-    omega (arith, path, told, reply_to checked.certificate.keys v is.2.0 query is.2.1))
+    omega (arith, path, left honest is.2.0 (is.1, is.2.2), reply_to checked.certificate.keys v is.2.0 query is.2.1))
     (rw c.in_ok-node.ensures.reads at c.answer_at.ensures.asks_left)

@@ -1,4 +1,4 @@
-use Rattle.std.proofs.Common.{arith, ◌≡◌, ℕ, ◌+◌, ◌∙◌, List, [], get_or, slice_index, refl, ap}
+use Rattle.std.proofs.Common.{arith, ◌≡◌, ℕ, ◌∙◌, List, [], get_or, slice_index, refl, ap}
 use Rattle.bplist_octets.proofs.Sources.{slice_never_fails}
 use Rattle.bplist_octets.specs.Meaning.{Meaning}
 use Rattle.bplist_octets.specs.Octets.{part}
@@ -37,14 +37,3 @@ returns-in-Bytes-clause-bytes c =
     let same : c.shape_of.new.src.octets.now ≡ c.new-source.result.octets.now = ap (λ (m : Meaning). m.octets) c.in-Ok.ensures.reads in
     let body = c.borrow.ensures.part ∙ ap (λ f. part f c.in-Ok.head.body c.in-Ok.head.count) (same ∙ octets) in
     (vouched, spells_bytes c.args.checked.now c.frame-frame.ensures.checked c.octets.ensures.honest c.args.node.object.0 vouched c.in-Ok.head has c.in-Bytes.is c.borrow.result.now body)
-
-pub returns-in-Bytes-clause-place : goal.returns-in-Bytes-clause-place
-returns-in-Bytes-clause-place c =
-    let is = c.frame-frame.ensures.checked.framed c.octets.ensures.honest in
-    let octets : c.new-source.result.octets.now ≡ c.args.checked.now.source.octets = c.new-source.ensures.octets ∙ c.octets.ensures.octets in
-    let has = (rw (c.frame-frame.ensures.frame, octets) at c.in-Ok.ensures.exact) refl is in
-    let body = c.in-Ok.head.body in
-    let base = address_in c.args.checked.now.source.extra in
-    let whole = ap (λ (m : Meaning). address_in m.extra) c.in-Ok.ensures.reads ∙ ap (λ (m : Meaning). address_in m.extra) c.new-source.ensures.means ∙ c.octets.ensures.place in
-    let first : base.1 + 0 ≡ base.1 = omega arith in
-    (c.in-Ok.head, has, c.borrow.ensures.place ∙ ap (λ (p : ℕ × ℕ). (p.0, p.1 + body)) whole ∙ ap (λ k. (base.0, k + body)) first)

@@ -1,12 +1,9 @@
 use Rattle.std.proofs.Common.{arith, ◌≡◌, ◌<◌, length, slice_index, sym, ◌∙◌, subst}
-use Rattle.std.proofs.lemmas.Result.{err_from_is_err_and}
 use Rattle.bplist_objects.specs.Value.{text}
 use Rattle.bplist_objects.specs.Heads.{Spells, leaf, dict}
+use Rattle.bplist_cert.proofs.CheckSteps.{on_err}
 use Rattle.bplist_cursor.proofs.Keys.{dict_counts, ref}
 use Rattle.bplist_cursor.proofs.key_search.compare_listed.Goals as goal
-
-pub returns-in_default-clause-exact : goal.returns-in_default-clause-exact
-returns-in_default-clause-exact g c = λ honest n ks ms s e t keyed is room within. absurd (c.in_default.not-Some _ (c.position_of.ensures keyed is room))
 
 pub returns-then-i-head-clause-exact : goal.returns-then-i-head-clause-exact
 returns-then-i-head-clause-exact g c = λ honest n ks ms s e t keyed is room within.
@@ -15,8 +12,7 @@ returns-then-i-head-clause-exact g c = λ honest n ks ms s e t keyed is room wit
 
 pub returns-in_err-k-clause-exact : goal.returns-in_err-k-clause-exact
 returns-in_err-k-clause-exact g c = λ honest n ks ms s e t keyed is room within.
-    let p = err_from_is_err_and c.from_residual.result c.from_residual.ensures.1 in
-    rw (p.1, p.2) (c.in_err-k.ensures.exact honest n (dict ks ms) s e)
+    on_err _ _ _ _ c.from_residual.ensures.1 (c.in_err-k.ensures.exact honest n (dict ks ms) s e)
 
 pub returns-in_err-compare_key-clause-exact : goal.returns-in_err-compare_key-clause-exact
 returns-in_err-compare_key-clause-exact g c = λ honest n ks ms s e t keyed is room within.
@@ -24,8 +20,7 @@ returns-in_err-compare_key-clause-exact g c = λ honest n ks ms s e t keyed is r
     let here : c.in-Some.position < length ks = omega (arith, position, within) in
     let k : c.in_ok-k.k.0 ≡ slice_index ks c.in-Some.position = c.in_ok-k.ensures.exact honest n (dict ks ms) s e ∙ ref ks ms c.in-Some.position here in
     let x = t c.in-Some.position here in
-    let p = err_from_is_err_and c.from_residual-in_err-compare_key.result c.from_residual-in_err-compare_key.ensures.1 in
-    rw (p.1, p.2) ((rw (c.in_ok-k.ensures.reads, k) at c.in_err-compare_key.ensures.exact) honest x.0 x.1)
+    on_err _ _ _ _ c.from_residual-in_err-compare_key.ensures.1 ((rw (c.in_ok-k.ensures.reads, k) at c.in_err-compare_key.ensures.exact) honest x.0 x.1)
 
 pub returns-clause-exact : goal.returns-clause-exact
 returns-clause-exact g c = λ honest n ks ms s e t keyed is room within.

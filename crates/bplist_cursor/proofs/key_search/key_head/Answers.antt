@@ -1,14 +1,13 @@
-use Rattle.std.proofs.lemmas.Result.{err_from_is_err_and}
 use Rattle.bplist_objects.specs.Value.{text}
 use Rattle.bplist_objects.specs.Heads.{leaf}
 use Rattle.bplist_objects.proofs.Leaves.{text_value}
+use Rattle.bplist_cert.proofs.CheckSteps.{on_err}
 use Rattle.bplist_cursor.proofs.Keys.{text_kinds}
 use Rattle.bplist_cursor.proofs.key_search.key_head.Goals as goal
 
 pub returns-in_err-head-clause-exact : goal.returns-in_err-head-clause-exact
 returns-in_err-head-clause-exact g c = λ honest us s.
-    let p = err_from_is_err_and c.from_residual.result c.from_residual.ensures.1 in
-    rw (p.1, p.2) (c.in_err-head.ensures.exact honest (leaf (text us)) s)
+    on_err _ _ _ _ c.from_residual.ensures.1 (c.in_err-head.ensures.exact honest (leaf (text us)) s)
 
 pub returns-in-Ascii-clause-exact : goal.returns-in-Ascii-clause-exact
 returns-in-Ascii-clause-exact g c = λ honest us s.

@@ -1,14 +1,13 @@
 use Rattle.std.proofs.Common.{arith, ◌∙◌, ap, length, sym}
-use Rattle.std.proofs.lemmas.Result.{err_from_is_err_and}
 use Rattle.bplist_objects.proofs.Units.{length-units_at}
+use Rattle.bplist_cert.proofs.CheckSteps.{on_err}
 use Rattle.bplist_cursor.proofs.Causes.{unread_excused}
 use Rattle.bplist_cursor.proofs.VouchedObjects.{gives_weaker}
 use Rattle.bplist_cursor.proofs.key_search.key_text.Goals as goal
 
 pub returns-in_err-head-clause-exact : goal.returns-in_err-head-clause-exact
 returns-in_err-head-clause-exact g c = λ honest us s.
-    let p = err_from_is_err_and c.from_residual.result c.from_residual.ensures.1 in
-    rw (p.1, p.2) (unread_excused c.in_err-head.field-0.0 (c.in_err-head.ensures.exact honest us s))
+    on_err _ _ _ _ c.from_residual.ensures.1 (unread_excused c.in_err-head.field-0.0 (c.in_err-head.ensures.exact honest us s))
 
 pub returns-clause-exact : goal.returns-clause-exact
 returns-clause-exact g c = λ honest us s.

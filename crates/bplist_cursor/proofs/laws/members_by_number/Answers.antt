@@ -1,14 +1,6 @@
-use Rattle.std.proofs.Common.{◌+◌, ◌*◌, ap, refl}
-use Rattle.std.proofs.lemmas.Option.{slice_get-get_or}
-use Rattle.bplist_cursor.specs.Members.{named}
+use Rattle.std.proofs.Common.{◌+◌, ◌*◌, refl}
 use Rattle.bplist_cursor.proofs.Membership.{no_node_from_end, node_of_key, node_of_value}
 use Rattle.bplist_cursor.proofs.laws.members_by_number.Goals as goal
-
-pub returns-clause-array : goal.returns-clause-array
-returns-clause-array c = λ ms i l. ap named (slice_get-get_or ms i 0 l)
-
-pub returns-clause-set : goal.returns-clause-set
-returns-clause-set c = λ ms i l. ap named (slice_get-get_or ms i 0 l)
 
 pub returns-clause-key : goal.returns-clause-key
 returns-clause-key c = λ f F n ks ms j s l. node_of_key f F ks ms n (2 * j) j s refl l

@@ -1,5 +1,5 @@
 use Rattle.std.proofs.Common.{arith, ap, slice_index}
-use Rattle.std.proofs.lemmas.Result.{err_from_is_err_and}
+use Rattle.bplist_cert.proofs.CheckSteps.{on_err}
 use Rattle.bplist_cursor.proofs.Membership.{node_of_number, no_node, number_below}
 use Rattle.bplist_cursor.proofs.VouchedObjects.{vouched_reference}
 use Rattle.bplist_cursor.proofs.members.member_by_head.Goals as goal
@@ -11,8 +11,7 @@ returns-in_default-clause-reference g c = λ honest n vouched content s same.
 
 pub returns-in_err-object-clause-reference : goal.returns-in_err-object-clause-reference
 returns-in_err-object-clause-reference g c = λ honest n vouched content s same.
-    let p = err_from_is_err_and c.from_residual.result c.from_residual.ensures.1 in
-    rw (p.1, p.2) (c.in_err-object.ensures.exact honest n content s same)
+    on_err _ _ _ _ c.from_residual.ensures.1 (c.in_err-object.ensures.exact honest n content s same)
 
 pub returns-then-height-eq0-clause-reference : goal.returns-then-height-eq0-clause-reference
 returns-then-height-eq0-clause-reference g c = λ honest n vouched content s same.
@@ -21,8 +20,7 @@ returns-then-height-eq0-clause-reference g c = λ honest n vouched content s sam
     let below = number_below c.args.checked.now.source.octets c.args.checked.now.frame head.kind head.count head.body content same c.in-Some.k c.in-Some.ensures.within in
     let there = vouched_reference c.args.checked.now c.frame-frame.ensures.checked honest n vouched content s c.in-Some.k below in
     let height = rw c.in_ok-object.ensures.reads at c.height.ensures in
-    let at = ap (slice_index c.args.checked.now.certificate.heights) is in
-    omega (arith, there, height, at)
+    omega (arith, there, height, ap (slice_index c.args.checked.now.certificate.heights) is)
 
 pub returns-clause-reference : goal.returns-clause-reference
 returns-clause-reference g c = λ honest n vouched content s same.

@@ -1,26 +1,15 @@
-use Rattle.std.proofs.Common.{length, sym, ap, ◌∙◌}
-use Rattle.std.proofs.lemmas.Result.{err_from_is_err_and}
+use Rattle.std.proofs.Common.{sym, ap, ◌∙◌}
 use Rattle.bplist_objects.specs.Heads.{content_at}
-use Rattle.bplist_objects.proofs.SafeHeads.{safe_body}
+use Rattle.bplist_cert.proofs.CheckSteps.{on_err}
 use Rattle.bplist_cursor.proofs.Causes.{unread_never}
 use Rattle.bplist_cursor.proofs.node.checked_head.Goals as goal
 
 pub returns-in_err-shape_of-clause-exact : goal.returns-in_err-shape_of-clause-exact
 returns-in_err-shape_of-clause-exact g c = λ honest content s.
     let is = c.frame-frame.ensures.checked.framed honest in
-    let p = err_from_is_err_and c.from_residual.result c.from_residual.ensures.1 in
-    rw (p.1, p.2) (unread_never c.in_err-shape_of.field-0.0 ((rw c.frame-frame.ensures.frame at c.in_err-shape_of.ensures.shaped) honest is s.shape s.has))
+    on_err _ _ _ _ c.from_residual.ensures.1 (unread_never c.in_err-shape_of.field-0.0 ((rw c.frame-frame.ensures.frame at c.in_err-shape_of.ensures.shaped) honest is s.shape s.has))
 
 pub returns-clause-exact : goal.returns-clause-exact
 returns-clause-exact g c = λ honest content s.
     let is = c.frame-frame.ensures.checked.framed honest in
     s.means ∙ ap (content_at c.args.checked.now.source.octets c.args.checked.now.frame) (sym ((rw c.frame-frame.ensures.frame at c.in_ok-shape_of.ensures.shaped) honest is s.shape s.has))
-
-pub returns-clause-body : goal.returns-clause-body
-returns-clause-body g c =
-    safe_body (length c.args.checked.now.source.octets) c.args.checked.now.frame c.in_ok-shape_of.field-0 c.frame-frame.ensures.checked.safe.safe (rw c.frame-frame.ensures.frame at c.in_ok-shape_of.ensures.safe)
-
-pub returns-clause-shape : goal.returns-clause-shape
-returns-clause-shape g c = λ honest.
-    let is = c.frame-frame.ensures.checked.framed honest in
-    (rw c.frame-frame.ensures.frame at c.in_ok-shape_of.ensures.exact) honest is

@@ -1,8 +1,8 @@
 use Rattle.std.proofs.Common.{rules, arith, ◌≡◌, ℕ, subst, sym, replicate, length, drop}
 use Rattle.std.proofs.lemmas.List.{take_at}
-use Rattle.std.proofs.lemmas.Result.{err_from_is_err_and}
 use Rattle.std.proofs.Math.Logic.{∥∥₁_elim}
 use Rattle.bplist_cert.specs.Valid.{IsVouchedBy}
+use Rattle.bplist_cert.proofs.CheckSteps.{on_err}
 use Rattle.bplist_cursor.specs.NodeCounts.{IsCounted}
 use Rattle.bplist_cursor.proofs.Causes.{unread_excused}
 use Rattle.bplist_cursor.proofs.CountSteps.{counted_all, counted_none, counted_prop}
@@ -13,9 +13,8 @@ use Rattle.bplist_cursor.proofs.node_counts.count_all.Goals as goal
 pub returns-in_err-count_in_order-clause-exact : goal.returns-in_err-count_in_order-clause-exact
 returns-in_err-count_in_order-clause-exact g c = λ honest.
     let checked = c.args.checked.now in
-    let p = err_from_is_err_and c.from_residual-in_err-count_in_order.result c.from_residual-in_err-count_in_order.ensures.1 in
     let ones : c.deref_mut.result.now ≡ replicate checked.frame.objects 1 = search rules in
-    rw (p.1, p.2) (∥∥₁_elim (c.frame-objects.ensures.checked.accepted honest) (excused_prop _) (λ a. unread_excused c.in_err-count_in_order.field-0.0
+    on_err _ _ _ _ c.from_residual-in_err-count_in_order.ensures.1 (∥∥₁_elim (c.frame-objects.ensures.checked.accepted honest) (excused_prop _) (λ a. unread_excused c.in_err-count_in_order.field-0.0
     ((rw c.deref.ensures.value at c.in_err-count_in_order.ensures.exact) honest checked.certificate.heights a.valid c.in_ok-order.ensures.order
     (counted_none checked.source.octets checked.frame checked.certificate.heights a.valid c.in_ok-order.order.items c.in_ok-order.ensures.order c.deref_mut.result.now ones))))
 

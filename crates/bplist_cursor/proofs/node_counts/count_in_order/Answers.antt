@@ -1,5 +1,5 @@
 use Rattle.std.proofs.Common.{rules, arith, ◌+◌}
-use Rattle.std.proofs.lemmas.Result.{err_from_is_err_and}
+use Rattle.bplist_cert.proofs.CheckSteps.{on_err}
 use Rattle.bplist_cursor.proofs.CountSteps.{counted_more, refs_counted, value_in}
 use Rattle.bplist_cursor.proofs.PassSteps.{one_asked, within_pass}
 use Rattle.bplist_cursor.proofs.node_counts.count_in_order.Goals as goal
@@ -11,9 +11,8 @@ returns-in_err-counts-clause-exact g c = λ honest heights valid is none.
     let are = c.loop-n.invariant.counted honest heights valid is none in
     let v = value_in f F heights valid c.args.order.now is c.loop-n.n-index c.loop-n-test.true in
     let counted = refs_counted f F heights valid c.args.order.now is c.loop-n.n-index c.loop-n.counts c.loop-n-test.true are in
-    let p = err_from_is_err_and c.from_residual.result c.from_residual.ensures.1 in
     let here = (rw c.loop-n.invariant.same at c.in_err-counts.ensures.exact) honest v.0 v.1 counted in
-    rw (p.1, p.2) here
+    on_err _ _ _ _ c.from_residual.ensures.1 here
 
 pub loop-n-preserved : goal.loop-n-preserved
 loop-n-preserved g c =

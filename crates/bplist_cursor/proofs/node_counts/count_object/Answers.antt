@@ -1,5 +1,5 @@
 use Rattle.std.proofs.Common.{arith, ◌∙◌}
-use Rattle.std.proofs.lemmas.Result.{err_from_is_err_and}
+use Rattle.bplist_cert.proofs.CheckSteps.{on_err}
 use Rattle.bplist_cursor.proofs.CountSteps.{read_weaker, value_counted}
 use Rattle.bplist_cursor.proofs.PassSteps.{refs_fit}
 use Rattle.bplist_cursor.proofs.StepReferences.{content_of_value}
@@ -7,9 +7,8 @@ use Rattle.bplist_cursor.proofs.node_counts.count_object.Goals as goal
 
 pub returns-in_err-head-clause-exact : goal.returns-in_err-head-clause-exact
 returns-in_err-head-clause-exact g c = λ honest v h counted.
-    let p = err_from_is_err_and c.from_residual.result c.from_residual.ensures.1 in
     let x = content_of_value c.args.checked.now.source.octets c.args.checked.now.frame v c.args.n.0 h in
-    rw (p.1, p.2) (c.in_err-head.ensures.exact honest x.0 x.1)
+    on_err _ _ _ _ c.from_residual.ensures.1 (c.in_err-head.ensures.exact honest x.0 x.1)
 
 pub returns-clause-exact : goal.returns-clause-exact
 returns-clause-exact g c = λ honest v h counted.

@@ -5,7 +5,7 @@ use Rattle.bplist_objects.proofs.BlockSteps.{still_of, block_is}
 use Rattle.bplist_cert.specs.CheckedFile.{meaning_of}
 use Rattle.bplist_cursor.specs.Nodes.{cap}
 use Rattle.bplist_cursor.proofs.AddSteps.{refs_block}
-use Rattle.bplist_cursor.proofs.PassSteps.{a_block_more, all_blocks}
+use Rattle.bplist_cursor.proofs.PassSteps.{a_block_more}
 use Rattle.bplist_cursor.proofs.CountSteps.{all_counted, block_counted}
 use Rattle.bplist_cursor.proofs.node_counts.count_refs.Goals as goal
 
@@ -37,18 +37,5 @@ returns-clause-exact g c = λ honest.
     let f = c.args.checked.now.source.octets in
     let F = c.args.checked.now.frame in
     let v = c.loop-refs.invariant in
-    let all = c.in_ok-read.ensures.end c.if-branch.false in
     all_counted f F c.args.head.now c.args.counts.now c.loop-refs.total (cap (1 + sum_by (slice_index c.args.counts.now) (refs (content_at f F c.args.head.now)))) c.loop-refs.refs.next
-    v.fits (omega (arith, all.1, v.of.same_bound)) (v.left honest)
-
-pub returns-in_err-read-clause-asks : goal.returns-in_err-read-clause-asks
-returns-in_err-read-clause-asks g c =
-    let v = c.loop-refs.invariant in
-    let h = c.args.head.now in
-    all_blocks _ _ _ c.loop-refs.refs.next _ (ref_count h.kind h.count) c.args.checked.now.frame.ref_size v.of.same_bound v.asked (rw v.same at c.in_err-read.ensures.asks)
-
-pub returns-clause-asks : goal.returns-clause-asks
-returns-clause-asks g c =
-    let v = c.loop-refs.invariant in
-    let h = c.args.head.now in
-    all_blocks _ _ _ c.loop-refs.refs.next _ (ref_count h.kind h.count) c.args.checked.now.frame.ref_size v.of.same_bound v.asked (rw v.same at c.in_ok-read.ensures.asks)
+    v.fits (omega (arith, (c.in_ok-read.ensures.end c.if-branch.false).1, v.of.same_bound)) (v.left honest)

@@ -1,6 +1,6 @@
 use Rattle.std.proofs.Common.{arith, ◌≡◌, ap, ◌∙◌, sym, subst}
-use Rattle.std.proofs.lemmas.Result.{err_from_is_err_and}
 use Rattle.bplist_objects.specs.Heads.{Spells}
+use Rattle.bplist_cert.proofs.CheckSteps.{on_err}
 use Rattle.bplist_cursor.specs.Shown.{content_face}
 use Rattle.bplist_cursor.proofs.AskedSteps.{same_face}
 use Rattle.bplist_cursor.proofs.Causes.{unread_excused}
@@ -11,20 +11,17 @@ use Rattle.bplist_cursor.proofs.node_face.face.Goals as goal
 
 pub returns-in_err-head-clause-content : goal.returns-in_err-head-clause-content
 returns-in_err-head-clause-content g c = λ honest vouched content s.
-    let p = err_from_is_err_and c.from_residual.result c.from_residual.ensures.1 in
-    rw (p.1, p.2) (unread_excused c.in_err-head.field-0.0 (c.in_err-head.ensures.exact honest vouched content s))
+    on_err _ _ _ _ c.from_residual.ensures.1 (unread_excused c.in_err-head.field-0.0 (c.in_err-head.ensures.exact honest vouched content s))
 
 pub returns-in_err-head-clause-value : goal.returns-in_err-head-clause-value
 returns-in_err-head-clause-value g c = λ honest vouched v h.
     let held = held_face c.args.checked.now.source.octets c.args.checked.now.frame v c.args.node.object.0 h in
-    let p = err_from_is_err_and c.from_residual.result c.from_residual.ensures.1 in
-    rw (p.1, p.2) (unread_excused c.in_err-head.field-0.0 (c.in_err-head.ensures.exact honest vouched held.0 held.1))
+    on_err _ _ _ _ c.from_residual.ensures.1 (unread_excused c.in_err-head.field-0.0 (c.in_err-head.ensures.exact honest vouched held.0 held.1))
 
 pub returns-in_err-head-clause-unchanged : goal.returns-in_err-head-clause-unchanged
 returns-in_err-head-clause-unchanged g c = λ honest vouched.
     let checked = c.args.checked.now in
-    let p = err_from_is_err_and c.from_residual.result c.from_residual.ensures.1 in
-    rw (p.1, p.2) (unread_excused c.in_err-head.field-0.0 (unread_for checked c.frame-frame.ensures.checked honest c.args.node.object.0 vouched c.in_err-head.field-0.0
+    on_err _ _ _ _ c.from_residual.ensures.1 (unread_excused c.in_err-head.field-0.0 (unread_for checked c.frame-frame.ensures.checked honest c.args.node.object.0 vouched c.in_err-head.field-0.0
     (λ v h. let held = held_face checked.source.octets checked.frame v c.args.node.object.0 h in c.in_err-head.ensures.exact honest vouched held.0 held.1)))
 
 pub returns-clause-content : goal.returns-clause-content

@@ -2,11 +2,8 @@ use Rattle.std.proofs.Common.{[], ◌∷◌, ◌++◌, arith, sym, ap, subst, re
 use Rattle.bplist_cursor.specs.Path.{escaped}
 use Rattle.bplist_cursor.specs.Tokens.{Reads, IsClosed, left}
 use Rattle.bplist_cursor.proofs.Escapes.{closed-nil, closed_token}
-use Rattle.bplist_cursor.proofs.TokenSteps.{reads_char, reads_more, left_none, meets_now, meets_later, reading_starts, reading_more}
+use Rattle.bplist_cursor.proofs.TokenSteps.{reads_char, reads_more, left_none, meets_now, meets_later, reading_more}
 use Rattle.bplist_cursor.proofs.path.read_token.Goals as goal
-
-pub loop-place-init : goal.loop-place-init
-loop-place-init c = reading_starts _ _ c.requires
 
 pub returns-then-c-eq47-clause-read : goal.returns-then-c-eq47-clause-read
 returns-then-c-eq47-clause-read c =
@@ -35,9 +32,7 @@ pub loop-place-smaller : goal.loop-place-smaller
 loop-place-smaller c =
     let read = reads_char c.loop-place.chars c.next.new.self c.in-Some.c c.loop-place.invariant.read.after c.in-Some.ensures.steps.1 c.in-Some.ensures.steps.2 in
     let digit = c.in-Some-unescape.ensures in
-    let first = ap length read.read in
-    let then = ap length digit.1.read in
-    omega (arith, first, then, length-append digit.0 (left c.unescape.new.rest))
+    omega (arith, ap length read.read, ap length digit.1.read, length-append digit.0 (left c.unescape.new.rest))
 
 pub loop-place-preserved : goal.loop-place-preserved
 loop-place-preserved c =

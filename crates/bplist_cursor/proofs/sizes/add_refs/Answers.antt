@@ -5,7 +5,7 @@ use Rattle.bplist_objects.proofs.BlockSteps.{still_of, block_is}
 use Rattle.bplist_cert.specs.CheckedFile.{meaning_of}
 use Rattle.bplist_cursor.specs.Sizes.{added}
 use Rattle.bplist_cursor.proofs.AddSteps.{block_added, block_not, refs_block, none_left, none_of}
-use Rattle.bplist_cursor.proofs.PassSteps.{a_block_more, all_blocks}
+use Rattle.bplist_cursor.proofs.PassSteps.{a_block_more}
 use Rattle.bplist_cursor.proofs.sizes.add_refs.Goals as goal
 
 pub returns-in_default-clause-exact : goal.returns-in_default-clause-exact
@@ -47,24 +47,5 @@ loop-refs-preserved g c =
 pub returns-clause-exact : goal.returns-clause-exact
 returns-clause-exact g c = λ honest whole is.
     let v = c.loop-refs.invariant in
-    let all = c.in_ok-read.ensures.end c.if-branch.false in
     none_left c.args.checked.now.source.octets c.args.checked.now.frame c.args.head.now c.args.sizes.now c.loop-refs.total whole c.loop-refs.refs.next
-    (omega (arith, all.1, v.of.same_bound)) (v.left honest whole is)
-
-pub returns-in_err-read-clause-asks : goal.returns-in_err-read-clause-asks
-returns-in_err-read-clause-asks g c =
-    let v = c.loop-refs.invariant in
-    let h = c.args.head.now in
-    all_blocks _ _ _ c.loop-refs.refs.next _ (ref_count h.kind h.count) c.args.checked.now.frame.ref_size v.of.same_bound v.asked (rw v.same at c.in_err-read.ensures.asks)
-
-pub returns-in_default-clause-asks : goal.returns-in_default-clause-asks
-returns-in_default-clause-asks g c =
-    let v = c.loop-refs.invariant in
-    let h = c.args.head.now in
-    all_blocks _ _ _ c.loop-refs.refs.next _ (ref_count h.kind h.count) c.args.checked.now.frame.ref_size v.of.same_bound v.asked (rw v.same at c.in_ok-read.ensures.asks)
-
-pub returns-clause-asks : goal.returns-clause-asks
-returns-clause-asks g c =
-    let v = c.loop-refs.invariant in
-    let h = c.args.head.now in
-    all_blocks _ _ _ c.loop-refs.refs.next _ (ref_count h.kind h.count) c.args.checked.now.frame.ref_size v.of.same_bound v.asked (rw v.same at c.in_ok-read.ensures.asks)
+    (omega (arith, (c.in_ok-read.ensures.end c.if-branch.false).1, v.of.same_bound)) (v.left honest whole is)

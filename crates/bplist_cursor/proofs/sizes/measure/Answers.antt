@@ -1,7 +1,7 @@
 use Rattle.std.proofs.Common.{rules, arith, ◌≡◌, subst, sym, replicate, None, length, drop, ◌∙◌}
 use Rattle.std.proofs.lemmas.List.{take_at}
-use Rattle.std.proofs.lemmas.Result.{err_from_is_err_and}
 use Rattle.std.proofs.Math.Logic.{∥∥₁_elim}
+use Rattle.bplist_cert.proofs.CheckSteps.{on_err}
 use Rattle.bplist_cursor.specs.Sizes.{AreMeasures}
 use Rattle.bplist_cursor.proofs.Causes.{unread_excused}
 use Rattle.bplist_cursor.proofs.OrderSteps.{measured, are_measures_prop, excused_prop, empty_table}
@@ -11,9 +11,8 @@ use Rattle.bplist_cursor.proofs.sizes.measure.Goals as goal
 pub returns-in_err-measure_in_order-clause-exact : goal.returns-in_err-measure_in_order-clause-exact
 returns-in_err-measure_in_order-clause-exact g c = λ honest.
     let checked = c.args.checked.now in
-    let p = err_from_is_err_and c.from_residual-in_err-measure_in_order.result c.from_residual-in_err-measure_in_order.ensures.1 in
     let nothing : c.deref_mut.result.now ≡ replicate checked.frame.objects None = search rules in
-    rw (p.1, p.2) (∥∥₁_elim (c.frame-objects.ensures.checked.accepted honest) (excused_prop _) (λ a. unread_excused c.in_err-measure_in_order.field-0.0
+    on_err _ _ _ _ c.from_residual-in_err-measure_in_order.ensures.1 (∥∥₁_elim (c.frame-objects.ensures.checked.accepted honest) (excused_prop _) (λ a. unread_excused c.in_err-measure_in_order.field-0.0
     ((rw c.deref.ensures.value at c.in_err-measure_in_order.ensures.exact) honest checked.certificate.heights a.valid c.in_ok-order.ensures.order
     (empty_table c.deref_mut.result.now checked.frame.objects nothing))))
 

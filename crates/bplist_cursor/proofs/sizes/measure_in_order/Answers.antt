@@ -1,5 +1,5 @@
 use Rattle.std.proofs.Common.{rules, arith, ◌+◌}
-use Rattle.std.proofs.lemmas.Result.{err_from_is_err_and}
+use Rattle.bplist_cert.proofs.CheckSteps.{on_err}
 use Rattle.bplist_cursor.proofs.OrderSteps.{value_at, refs_sized, set_more}
 use Rattle.bplist_cursor.proofs.PassSteps.{one_asked, within_pass}
 use Rattle.bplist_cursor.proofs.sizes.measure_in_order.Goals as goal
@@ -11,9 +11,8 @@ returns-in_err-size-clause-exact g c = λ honest heights valid is empty.
     let set = c.loop-n.invariant.set honest heights valid is empty in
     let v = value_at f F heights c.args.order.now valid is c.loop-n.n-index c.loop-n-test.true in
     let sized = refs_sized f F heights c.args.order.now valid is c.loop-n.n-index c.loop-n.sizes c.loop-n-test.true set in
-    let p = err_from_is_err_and c.from_residual.result c.from_residual.ensures.1 in
     let here = (rw c.loop-n.invariant.same at c.in_err-size.ensures.exact) honest v.0 v.1 sized in
-    rw (p.1, p.2) here
+    on_err _ _ _ _ c.from_residual.ensures.1 here
 
 pub loop-n-preserved : goal.loop-n-preserved
 loop-n-preserved g c =

@@ -1,6 +1,6 @@
 use Rattle.std.proofs.Common.{rules, arith, ap, ◌∙◌}
-use Rattle.std.proofs.lemmas.Result.{err_from_is_err_and}
 use Rattle.bplist_objects.specs.Heads.{refs, content_at}
+use Rattle.bplist_cert.proofs.CheckSteps.{on_err}
 use Rattle.bplist_cursor.specs.Sizes.{size_of, added}
 use Rattle.bplist_cursor.proofs.StepReferences.{content_of_value}
 use Rattle.bplist_cursor.proofs.ObjectSteps.{container_total, leaf_total}
@@ -9,9 +9,8 @@ use Rattle.bplist_cursor.proofs.sizes.size_of_object.Goals as goal
 
 pub returns-in_err-head-clause-exact : goal.returns-in_err-head-clause-exact
 returns-in_err-head-clause-exact g c = λ honest v h sized.
-    let p = err_from_is_err_and c.from_residual.result c.from_residual.ensures.1 in
     let x = content_of_value c.args.checked.now.source.octets c.args.checked.now.frame v c.args.n.0 h in
-    rw (p.1, p.2) (c.in_err-head.ensures.exact honest x.0 x.1)
+    on_err _ _ _ _ c.from_residual.ensures.1 (c.in_err-head.ensures.exact honest x.0 x.1)
 
 pub returns-in-Array-clause-exact : goal.returns-in-Array-clause-exact
 returns-in-Array-clause-exact g c = λ honest v h sized.

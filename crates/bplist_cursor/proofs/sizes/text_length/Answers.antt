@@ -1,4 +1,4 @@
-use Rattle.std.proofs.Common.{arith, rules, length, inl, inr, ◌≤◌, ◌+◌, ◌*◌, ◌≡◌, ◌∙◌, ap, refl, sym, take, flat_map}
+use Rattle.std.proofs.Common.{arith, rules, length, inl, inr, ◌≤◌, ◌+◌, ◌*◌, ◌≡◌, ◌∙◌, ap, sym, take, flat_map}
 use Rattle.std.specs.List.{list_all}
 use Rattle.bplist_cursor.specs.Nodes.{cap}
 use Rattle.std.specs.Char.{is_ascii_alphanumeric}
@@ -9,7 +9,7 @@ use Rattle.bplist_objects.proofs.BlockSteps.{units_are}
 use Rattle.bplist_objects.proofs.Units.{length-units_at}
 use Rattle.bplist_cert.specs.CheckedFile.{meaning_of}
 use Rattle.bplist_cursor.proofs.LengthSteps.{plain_more, quoted_more, plain_length, quoted_text_length}
-use Rattle.bplist_cursor.proofs.PassSteps.{a_block_more, all_blocks}
+use Rattle.bplist_cursor.proofs.PassSteps.{a_block_more}
 use Rattle.bplist_cursor.proofs.sizes.text_length.Goals.{else-plain-via-then-plain+else-head-gt0, else-plain-via-else-plain}
 use Rattle.bplist_cursor.proofs.sizes.text_length.Goals as goal
 
@@ -61,21 +61,3 @@ returns-else-plain-clause-exact g c = λ honest.
       | else-plain-via-else-plain w ↦ inl (sym w.if-plain.false ∙ p)
     ])
     q
-
-pub returns-in_err-read-clause-asks : goal.returns-in_err-read-clause-asks
-returns-in_err-read-clause-asks g c =
-    let i = c.loop-units.invariant in
-    let h = c.args.head.now in
-    all_blocks _ _ _ c.loop-units.units.next _ h.count (item_size 1 h.kind) refl i.asked (rw i.of at c.in_err-read.ensures.asks)
-
-pub returns-then-head-gt0-clause-asks : goal.returns-then-head-gt0-clause-asks
-returns-then-head-gt0-clause-asks g c =
-    let i = c.loop-units.invariant in
-    let h = c.args.head.now in
-    all_blocks _ _ _ c.loop-units.units.next _ h.count (item_size 1 h.kind) refl i.asked (rw i.of at c.in_ok-read.ensures.asks)
-
-pub returns-else-plain-clause-asks : goal.returns-else-plain-clause-asks
-returns-else-plain-clause-asks g c =
-    let i = c.loop-units.invariant in
-    let h = c.args.head.now in
-    all_blocks _ _ _ c.loop-units.units.next _ h.count (item_size 1 h.kind) refl i.asked (rw i.of at c.in_ok-read.ensures.asks)

@@ -5,6 +5,3 @@ returns-in-None-clause-exact g c = λ honest seen. rw c.in-None.is (λ found. c.
 
 pub returns-in_ok-check_key_orders-in-Some-clause-exact : goal.returns-in_ok-check_key_orders-in-Some-clause-exact
 returns-in_ok-check_key_orders-in-Some-clause-exact g c = λ honest seen. rw c.in-Some.is (λ found. c.in_ok-check_key_orders-in-Some.ensures.exact honest seen found)
-
-pub returns-in-None-clause-asks : goal.returns-in-None-clause-asks
-returns-in-None-clause-asks g c = λ honest none whole walked. c.check_key_repeats.ensures.asks honest whole (rw c.take.ensures.value walked)

@@ -1,9 +1,9 @@
-use Rattle.std.proofs.Common.{◌≡◌, [], ◌∷◌, ◌++◌, arith, sym, ap, subst, ◌∙◌, map, flat_map, true, length, length-append, rules, Err}
+use Rattle.std.proofs.Common.{◌≡◌, [], ◌∷◌, ◌++◌, sym, ap, subst, ◌∙◌, map, true, rules, Err}
 use Rattle.std.proofs.lemmas.List.{map-append}
 use Rattle.std.specs.Str.{IsUtf8, chars}
-use Rattle.bplist_cursor.specs.Path.{IsPathOf, escaped, units}
-use Rattle.bplist_cursor.specs.Tokens.{IsReadable, Reads, left, slash}
-use Rattle.bplist_cursor.proofs.TokenSteps.{IsParsing, reads_char, empty_text, not_begun, parsing_starts, parsing_more, parsing_ends, fails_at}
+use Rattle.bplist_cursor.specs.Path.{IsPathOf, units}
+use Rattle.bplist_cursor.specs.Tokens.{IsReadable, Reads}
+use Rattle.bplist_cursor.proofs.TokenSteps.{IsParsing, reads_char, empty_text, not_begun, parsing_starts, parsing_more, fails_at}
 use Rattle.bplist_cursor.proofs.path.Path.parse.Goals as goal
 
 pub returns-in_default-clause-steps : goal.returns-in_default-clause-steps
@@ -33,19 +33,6 @@ returns-in_err-goes_on-clause-wrong c =
     let parsing = subst (λ b. IsParsing c.args.text.now c.loop-goes_on.chars b (map (λ s. s.items) c.loop-goes_on.steps.items)) c.loop-goes_on-test.true c.loop-goes_on.invariant in
     rw is (fails_at c.args.text.now c.loop-goes_on.chars _ c.in_err-goes_on.field-0.0 parsing c.in_err-goes_on.ensures.wrong)
 
-pub loop-goes_on-smaller : goal.loop-goes_on-smaller
-loop-goes_on-smaller c =
-    let token = c.in_ok-goes_on.ensures.read in
-    let long = ap length token.1.read in
-    let slash_before : length (slash c.loop-goes_on.goes_on) ≡ 1 = ap (λ b. length (slash b)) c.loop-goes_on-test.true in
-    omega (
-      arith,
-      long,
-      slash_before,
-      length-append (flat_map escaped token.0 ++ slash c.in_ok-goes_on.goes_on) (left c.read_token.new.chars),
-      length-append (flat_map escaped token.0) (slash c.in_ok-goes_on.goes_on),
-    )
-
 pub loop-goes_on-preserved : goal.loop-goes_on-preserved
 loop-goes_on-preserved c =
     let token = c.in_ok-goes_on.ensures.read in
@@ -55,8 +42,3 @@ loop-goes_on-preserved c =
     parsing_more c.args.text.now c.loop-goes_on.chars c.read_token.new.chars c.in_ok-goes_on.goes_on _ _ token.0 parsing token.1 token.3
     (ap (map (λ s. s.items)) pushed ∙ map-append (λ s. s.items) c.loop-goes_on.steps.items (c.read_token.new.step ∷ [])
     ∙ ap (λ u. map (λ s. s.items) c.loop-goes_on.steps.items ++ u ∷ []) step)
-
-pub returns-clause-steps : goal.returns-clause-steps
-returns-clause-steps c =
-    parsing_ends c.args.text.now c.loop-goes_on.chars _
-    (subst (λ b. IsParsing c.args.text.now c.loop-goes_on.chars b (map (λ s. s.items) c.loop-goes_on.steps.items)) c.loop-goes_on-test.false c.loop-goes_on.invariant)

@@ -9,7 +9,6 @@ use Rattle.bplist_keys.proofs.key_texts.KeyTexts.number.Goals as goal
 pub loop-k-preserved : goal.loop-k-preserved
 loop-k-preserved c =
     let v = c.loop-k.invariant in
-    let texts = c.args.self.now in
     let k = c.loop-k.k in
     let xs = c.loop-k.items in
     let own = item_at xs k in
@@ -31,7 +30,7 @@ loop-k-preserved c =
         | inl e ↦
             let is = c.text.ensures text (v.held text held k room) in
             let fit = fits k (omega (arith, room, v.all)) in
-            rw (e, put_here xs k x room) ((rw is at c.of.ensures) texts.units.items (rw (v.same k) fit))
+            rw (e, put_here xs k x room) ((rw is at c.of.ensures) c.args.self.now.units.items (rw (v.same k) fit))
         | inr d ↦ rw (put_other xs k j x d) (v.fronts text held fits j (omega (arith, low, d)))
       ];
     }

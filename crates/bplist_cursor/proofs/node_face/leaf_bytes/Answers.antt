@@ -1,6 +1,0 @@
-use Rattle.std.proofs.Common.{arith}
-use Rattle.std.proofs.lemmas.Grind.{common_steps}
-use Rattle.bplist_cursor.proofs.node_face.leaf_bytes.Goals as goal
-
-pub returns-clause-value : goal.returns-clause-value
-returns-clause-value g c = grind (arith, common_steps)
