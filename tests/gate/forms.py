@@ -8,7 +8,8 @@ system counts the bytes that it reads and writes, and its largest memory. For ea
 and write as many bytes as `READ` and `WRITTEN` allow, with `BESIDE` bytes more, and it gets `MEMORY` bytes for its
 data, with `RESIDENT` bytes more: it has to answer all the same. The commands of `LISTINGS` write each value with its
 path, so that their answer may grow with the square of the file's length: their files are short, and their answer has no
-bound, but their memory does. `MORE` names the families for which a command may do more, and how much.
+bound, but their memory does. `MORE` names the families for which a command may do more, and how much. `LONG_TEXTS`
+allows less on a file of long texts, so that no command reads a text once more than it has to.
 
 One command on one family counts as one test. The last line is `N passed, M failed`. With --table it prints what each
 command does on files of about SIZE bytes instead.
@@ -16,6 +17,7 @@ command does on files of about SIZE bytes instead.
 import concurrent.futures
 import os
 import pathlib
+import plistlib
 import subprocess
 import sys
 import tempfile
@@ -76,6 +78,20 @@ MORE = {
     "map --paths": {"map_paths": (READ, 96, MEMORY)},  # each path may have some 5,000 bytes
 }
 
+# How many bytes a command may read for each byte of a file of long texts, with `START` bytes more: one to lint, one for
+# each text that is written, and for `--text` and `print` one for each text whose length is asked for first.
+LONG_TEXTS = {
+    "ls F": 2.1,
+    "ls -R F": 2.1,
+    "ls -R --json F": 2.1,
+    "textconv F": 2.1,
+    "show F /0": 1.4,
+    "show --raw F /0": 1.8,
+    "show --text F /0": 2.8,
+    "print F 1 /0 900000": 2.8,
+}
+START = 1 << 15
+
 
 def measured(words, memory=None):
     """The bytes that a command reads and writes, and its status, with so much memory for its data if that is given."""
@@ -135,6 +151,22 @@ def wrong_of(program, family):
     return wrong
 
 
+def wrong_of_long_texts(program):
+    """What is wrong with each command on a file of three texts of 300,000 bytes, or None."""
+    wrong = {}
+    with tempfile.TemporaryDirectory(prefix="bplint") as folder:
+        names = {"F": os.path.join(folder, "file"), "1": os.path.join(folder, "file.1")}
+        octets = plistlib.dumps([letter * 300_000 for letter in "abc"], fmt=plistlib.FMT_BINARY)
+        pathlib.Path(names["F"]).write_bytes(octets)
+        measured([program, "certify", names["F"], names["1"]])
+        for words, times in LONG_TEXTS.items():
+            most = int(times * len(octets)) + START
+            read, _, status = measured([program, *(names.get(word, word) for word in words.split())])
+            right = status == 0 and read <= most
+            wrong[words] = None if right else f"status {status}, read {read:,} bytes of {len(octets):,}, {most:,} are its bound"
+    return wrong
+
+
 def peak_of(words):
     """The largest memory of a command in bytes, by time(1)."""
     ran = subprocess.run(["time", "-f", "%M", *words], stdout=subprocess.DEVNULL, stderr=subprocess.PIPE, text=True, check=False)
@@ -158,13 +190,15 @@ def main():
     if len(sys.argv) == 4:
         return print_table(program, int(sys.argv[3]))
     families = [*FAMILIES, *REFUSED_PAIRS]
-    passed = failed = 0
     with concurrent.futures.ThreadPoolExecutor(len(os.sched_getaffinity(0))) as pool:
-        for family, wrong in zip(families, pool.map(lambda family: wrong_of(program, family), families)):
-            for command, why in wrong.items():
-                passed, failed = (passed + 1, failed) if why is None else (passed, failed + 1)
-                if why is not None:
-                    print(f"{family.__name__}, {command}: {why}")
+        found = {family.__name__: wrong for family, wrong in zip(families, pool.map(lambda family: wrong_of(program, family), families))}
+    found["long texts"] = wrong_of_long_texts(program)
+    passed = failed = 0
+    for name, wrong in found.items():
+        for command, why in wrong.items():
+            passed, failed = (passed + 1, failed) if why is None else (passed, failed + 1)
+            if why is not None:
+                print(f"{name}, {command}: {why}")
     print(f"{passed} passed, {failed} failed")
     return 1 if failed else 0
 

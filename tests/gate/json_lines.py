@@ -375,6 +375,7 @@ def main():
         trials = [
             ("units", try_units, (program, path)),
             ("numbers", try_numbers, (program, path)),
+            ("dates", try_dates, (program, path)),
             ("missing", try_missing, (program, path)),
             ("limit", try_limit, (program, path)),
             ("unread", try_unread, (program, folder)),

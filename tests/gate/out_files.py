@@ -31,6 +31,8 @@ FILES = [
     ("short header", b"bplis", False, False),
     ("short certificate", b"bplcer", False, False),
     ("capital certificate", b"BPLCERT1", False, False),
+    ("other letters", b"bplcxxx1", False, False),
+    ("other digits", b"bplcxxx1".hex().encode(), False, False),
     ("XML", b'<?xml version="1.0"?><plist/>', False, False),
     ("old style", b"{ a = b; }", False, False),
     ("mail", b"From: a\n\nb\n", False, False),

@@ -2,9 +2,10 @@
 """run_library.py [--only PREFIX] TABLE PROGRAM
 
 Gives all rows of TABLE to PROGRAM, one request on each line, and prints every answer that differs. It also lets PROGRAM
-count the bytes that each call asks its source for, and prints every count above the bound of the call. A last test
-lowers a bound below its count, and wants that to be noticed. The last line is `N passed, M failed`. The exit status is
-1 if one failed. tests/vectors/README.md describes the columns, and the page of bplist_calls the form of a request.
+count the bytes that each call asks its source for, and prints every count above the bound of the call. Two last tests
+lower a bound below its count, and want that to be noticed, and look at what all `form` calls ask for. The last line is
+`N passed, M failed`. The exit status is 1 if one failed. tests/vectors/README.md describes the columns, and the page of
+bplist_calls the form of a request.
 """
 import argparse
 import os
@@ -18,6 +19,9 @@ from helpers.contents import content  # noqa: E402
 from helpers.tables import SHOWN, escaped, read_calls, readable  # noqa: E402
 
 SECONDS = 300
+# How many bytes a call of `form` may ask for on average in a table with many. The bounds of single calls leave room for
+# an object or a text that is read once more.
+MANY, PRINTED = 100, 160
 WITH_PATH = ("size", "keys")
 
 
@@ -55,6 +59,15 @@ def is_lowered_bound_noticed(counts):
     return asked > 0 and excess(b"%d %d" % (asked, asked)) is None and excess(b"%d %d" % (asked, asked - 1)) is not None
 
 
+def excess_of_printing(vectors, counts):
+    """What is wrong with the counts of all `form` calls, or None."""
+    forms = [count.split()[0] for vector, count in zip(vectors, counts) if vector.call.startswith("form ")]
+    printed = [int(count) for count in forms if count.isdigit()]
+    if len(printed) < MANY or sum(printed) <= PRINTED * len(printed):
+        return None
+    return f"{len(printed)} calls of form ask for {sum(printed)} bytes, and {PRINTED * len(printed)} are their bound"
+
+
 def report(vectors, told, counts, complaint):
     """Prints the differences and the closing line, and answers how many failed."""
     failed = 0
@@ -68,9 +81,13 @@ def report(vectors, told, counts, complaint):
     if not is_lowered_bound_noticed(counts):
         failed += 1
         print("a bound below the count is not noticed, or no call asks for a byte")
+    printing = excess_of_printing(vectors, counts)
+    if printing:
+        failed += 1
+        print(printing)
     if complaint:
         print(f"bplist_calls says: {readable(complaint)}")
-    passed = len(vectors) + 1 - failed
+    passed = len(vectors) + 2 - failed
     if complaint and not failed:
         failed = 1
     print(f"{passed} passed, {failed} failed")
