@@ -90,7 +90,7 @@ LONG_TEXTS = {
     "show --text F /0": 2.8,
     "print F 1 /0 900000": 2.8,
 }
-START = 1 << 15
+START = 1 << 16
 
 
 def measured(words, memory=None):
