@@ -14,9 +14,7 @@ use bplint_lines::{
     Naming, RunFault, bytes_line_of, is_about_certificates, key_line_of, object_line_of,
     path_line_of, rule_line_of,
 };
-use bplist_objects::{
-    Failure, Fault, Frame, Kind, ObjectNo, Rule, offset_of,
-};
+use bplist_objects::{Failure, Fault, Frame, Kind, ObjectNo, Rule, offset_of};
 use bplist_octets::{SliceSource, Source};
 use std::alloc::{AllocError, Global};
 
