@@ -90,8 +90,8 @@ file_asked f F spelled safe start read made after paid first same asked =
     let bound : after ≤ start + (40 + 36 * length f + 2212 * F.objects) = omega (arith, first, same, asked, each, safe.safe.room, safe.top) in
     subst (λ (n : ℕ). after ≤ start + (40 + 36 * length f + 2212 * n)) (sym said) bound
 
--- the texts that are named share no byte, the reached objects have room before the table, and no more are named than there
--- are
+-- the texts that are named share no byte, the reached objects have room before the table, and no more are named than
+-- there are
 abbrev pub HaveBounds : List ℕ → Frame → Reached → List Bool → Type 0
 HaveBounds f F reached named = HaveRoom f F (IsMarkedText f F named) × (extents_below f F (is_marked reached.marks.items) F.objects + 8 ≤ F.table) × (count_by (λ marked. marked) named ≤ F.objects)
 
