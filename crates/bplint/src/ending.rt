@@ -50,10 +50,7 @@ impl Ending {
     pub fn of_text(alloc: Global, led: Result<Led, RunFault>) -> Ending
         ensures { result.answer ≡ answer_of_led (led_of led) }
     {
-        match led {
-            Ok(led) => Ending::of_led(alloc, Ok(led)),
-            Err(fault) => Ending::with(alloc, fault),
-        }
+        Ending::of_led(alloc, led.map_err(RawFault::Run))
     }
 
     /// The end of a run with this fault, with nothing below it.

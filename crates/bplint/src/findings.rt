@@ -132,10 +132,7 @@ impl<'a, R: Files<File = File> + Print + Eprint> Findings<'a, R> {
     }
 
     fn prints_json(&self) -> bool {
-        match self.lint.printed {
-            Printed::Json => true,
-            _ => false,
-        }
+        matches!(self.lint.printed, Printed::Json)
     }
 
     /// Counts the file too.

@@ -33,10 +33,7 @@ pub trait Folders {
 
 impl Folders for HostRuntime {
     fn is_folder(&self, name: &str) -> bool {
-        match fs::metadata(self, name) {
-            Ok(metadata) => metadata.is_dir(),
-            Err(_) => false,
-        }
+        fs::metadata(self, name).is_ok_and(|metadata| metadata.is_dir())
     }
 
     fn entry_at(&self, path: &str) -> Result<Entry, InputFault> {

@@ -17,7 +17,7 @@ use crate::unread::Unread;
 use bplint_engine::undo_hex;
 use bplint_lines::RunFault;
 use bplist_cert::{CertRefusal, Certificate, Refusal};
-use bplist_octets::{FileSource, Pages, ReadFault, SeekSource, Source};
+use bplist_octets::{FileSource, Pages, ReadFault, SeekSource, SliceSource, Source};
 use std::alloc::Global;
 use std::fs::{File, Files};
 use std::io::{ErrorKind, Read};
@@ -71,8 +71,12 @@ pub enum Operand {
     /// All of its bytes.
     Memory(Vec<u8>),
     /// It is read by place.
-    Disk(Box<Pages<FileSource>>),
+    Disk(PagedFile),
 }
+
+/// A file that is read by place. Boxed, since it has buffers and is handed on by value.
+#[derive(Drop)]
+pub struct PagedFile(Box<Pages<FileSource>>);
 
 /// The inputs of a command.
 #[derive(Drop)]
@@ -86,32 +90,42 @@ pub struct Inputs {
 impl Source for Operand {
     ghost means = { λ operand. elim operand [
       | Memory bytes ↦ in_memory bytes.items
-      | Disk pages ↦ ⟦<Pages<FileSource> as Source>⟧.means pages.value
+      | Disk file ↦ ⟦<PagedFile as Source>⟧.means file
     ] };
 
     ghost asked = { λ operand. elim operand [
       | Memory _ ↦ 0
-      | Disk pages ↦ ⟦<Pages<FileSource> as Source>⟧.asked pages.value
+      | Disk file ↦ ⟦<PagedFile as Source>⟧.asked file
     ] };
 
     fn len(&self) -> u64 {
         match self {
             Operand::Memory(bytes) => bytes.len() as u64,
-            Operand::Disk(pages) => pages.len(),
+            Operand::Disk(file) => file.len(),
         }
+    }
+
+    fn read_at(&mut self, at: u64, into: &mut [u8]) -> Result<(), ReadFault> {
+        match self {
+            Operand::Memory(bytes) => SliceSource::new(bytes).read_at(at, into),
+            Operand::Disk(file) => file.read_at(at, into),
+        }
+    }
+}
+
+impl Source for PagedFile {
+    ghost means = { λ file. ⟦<Pages<FileSource> as Source>⟧.means file.0.value };
+
+    ghost asked = { λ file. ⟦<Pages<FileSource> as Source>⟧.asked file.0.value };
+
+    fn len(&self) -> u64 {
+        self.0.len()
     }
 
     // Inlined as in `Pages`.
     #[inline(always)]
     fn read_at(&mut self, at: u64, into: &mut [u8]) -> Result<(), ReadFault> {
-        match self {
-            Operand::Memory(bytes) => {
-                let start = at as usize;
-                into.copy_from_slice(&bytes[start..start + into.len()]);
-                Ok(())
-            }
-            Operand::Disk(pages) => pages.read_at(at, into),
-        }
+        self.0.read_at(at, into)
     }
 }
 
@@ -133,9 +147,9 @@ impl Operand {
     {
         match self {
             Operand::Memory(bytes) => Ok(bytes),
-            Operand::Disk(pages) => {
-                let mut pages = pages;
-                bytes_in(alloc, &mut *pages)
+            Operand::Disk(file) => {
+                let mut file = file;
+                bytes_in(alloc, &mut file)
             }
         }
     }
@@ -270,7 +284,8 @@ fn open_file<R: Files<File = File>>(
         return Ok(Operand::Memory(read_whole(alloc, &mut file)?));
     }
     let source = SeekSource::new(file).map_err(|error| InputFault::Open(error.kind()))?;
-    Ok(Operand::Disk(Box::new(alloc, Pages::new(alloc, source))?))
+    let pages = Box::new(alloc, Pages::new(alloc, source))?;
+    Ok(Operand::Disk(PagedFile(pages)))
 }
 
 /// Reads an input as a whole. `-` is standard input.

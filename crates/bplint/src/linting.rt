@@ -5,11 +5,11 @@ ghost use Rattle.std.specs.Prelude.{◌≤◌};
 use crate::args::Lint;
 use crate::findings::Findings;
 use crate::folders::{Entry, Folders};
-use crate::input::{open_input, read_input};
+use crate::input::{Operand, open_input, read_input};
 use crate::input_fault::InputFault;
 use crate::looks::{Look, look_at, look_at_found};
 use crate::unread::Unread;
-use bplist_octets::{ReadFault, Source};
+use bplist_octets::{ReadFault, SliceSource, Source};
 use std::alloc::Global;
 use std::fs::{File, Files};
 
@@ -134,7 +134,10 @@ impl<'a, R: Files<File = File> + Folders + Input + Print + Eprint> Linter<'a, R>
             Err(fault) => return findings.add_unread(Unread::new(name, fault)),
         };
         match self.look(name, found, &mut file) {
-            Ok(Look::Lint) => findings.add(name, file),
+            Ok(Look::Lint) => match file {
+                Operand::Memory(bytes) => findings.add(name, SliceSource::new(&bytes)),
+                Operand::Disk(file) => findings.add(name, file),
+            },
             Ok(Look::OtherForm) => findings.tally.other_form(),
             Ok(Look::PassOver) => findings.tally.pass_over(),
             Err(fault) => findings.add_unread(Unread::new(name, InputFault::Read(fault))),

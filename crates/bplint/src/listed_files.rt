@@ -79,7 +79,7 @@ fn run_named<R: Files<File = File> + Input + Print + Eprint>(
         Err(_) => return Ended::with(end(rt, alloc, "", Ending::with(alloc, RunFault::Memory))),
     };
     match open_inputs(rt, alloc, line) {
-        Ok(inputs) => run_opened(rt, alloc, line, inputs.file, inputs.cert),
+        Ok(inputs) => run_opened(rt, alloc, line, inputs),
         Err(unread) => {
             let ending = unread.ending(alloc, line.explain);
             Ended::with(end(rt, alloc, &line.prefix, ending))

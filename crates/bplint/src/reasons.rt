@@ -227,10 +227,6 @@ fn wrong_path<'a>(alloc: Global, ask: &'a Ask<'a>) -> Option<&'a str> {
 }
 
 fn first_wrong(alloc: Global, paths: &[String]) -> Option<&str> {
-    for path in paths {
-        if Path::parse(alloc, path).is_err() {
-            return Some(path.as_str());
-        }
-    }
-    None
+    let mut texts = paths.iter().map(|path| path.as_str());
+    texts.find(|text| Path::parse(alloc, text).is_err())
 }

@@ -7,7 +7,7 @@ ghost use Rattle.bplint.specs.Questions.{EndsAsked, LeavesAsked, StatusAsked, an
 use crate::args::{Ask, Run};
 use crate::ending::{Ending, end, refuse_line};
 use crate::first_lines::FirstLines;
-use crate::input::{WHOLE_LIMIT, bytes_in, decode, open_inputs};
+use crate::input::{Inputs, Operand, WHOLE_LIMIT, bytes_in, decode, open_inputs};
 use crate::labels::Labelled;
 use crate::lists::with_listed_paths;
 use crate::output::{OutFault, OutFile};
@@ -18,7 +18,7 @@ use bplint_engine::{
     print_on, show_on, show_raw_on, show_readable_on, show_text_on,
 };
 use bplint_lines::{RawFault, RunFault, Said};
-use bplist_octets::Source;
+use bplist_octets::{SliceSource, Source};
 use std::alloc::{AllocError, Global};
 use std::fs::{File, Files};
 use std::io::Write;
@@ -59,13 +59,33 @@ pub fn run<R: Files<File = File> + Input + Print + Eprint>(
         }
     };
     match with_listed_paths(rt, alloc, line) {
-        Ok(line) => run_opened(rt, alloc, &line, inputs.file, inputs.cert).status,
+        Ok(line) => run_opened(rt, alloc, &line, inputs).status,
         Err(status) => status,
     }
 }
 
 /// Answers what is asked about inputs that are open.
-pub fn run_opened<R: Files<File = File> + Print + Eprint, S: Source + Drop, C: Source + Drop>(
+// The two kinds of FILE are told apart once. If each read did so, `check` of standard input would take a tenth longer.
+pub fn run_opened<R: Files<File = File> + Print + Eprint>(
+    rt: &R,
+    alloc: Global,
+    line: &Run<'_>,
+    inputs: Inputs,
+) -> Ended
+    ensures exact { IsTrue (⟦<Operand as Source>⟧.means inputs.file).honest
+        → IsTrue (⟦<Operand as Source>⟧.means inputs.cert).honest → line.now.most ≡ None
+        → StatusAsked line.now.ask line.now.hex (⟦<Operand as Source>⟧.means inputs.file).octets
+        (⟦<Operand as Source>⟧.means inputs.cert).octets result.status }
+    ensures few { result.status ≤ 4 }
+{
+    let Inputs { file, cert } = inputs;
+    match file {
+        Operand::Memory(bytes) => run_sources(rt, alloc, line, SliceSource::new(&bytes), cert),
+        Operand::Disk(file) => run_sources(rt, alloc, line, file, cert),
+    }
+}
+
+fn run_sources<R: Files<File = File> + Print + Eprint, S: Source + Drop, C: Source + Drop>(
     rt: &R,
     alloc: Global,
     line: &Run<'_>,
