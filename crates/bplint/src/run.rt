@@ -85,7 +85,8 @@ pub fn run_opened<R: Files<File = File> + Print + Eprint>(
     }
 }
 
-fn run_sources<R: Files<File = File> + Print + Eprint, S: Source + Drop, C: Source + Drop>(
+/// Answers what is asked about FILE and CERT, which may be any sources.
+pub fn run_sources<R: Files<File = File> + Print + Eprint, S: Source + Drop, C: Source + Drop>(
     rt: &R,
     alloc: Global,
     line: &Run<'_>,
