@@ -9,7 +9,7 @@ use crate::answer::UpgradeFault;
 use crate::key_rules::{KeySorting, unlisted};
 use bplist_cert::{Certificate, Checked, KeyLists, Refusal, vouched_keys};
 use bplist_keys::{KeyNumbers, ranks_of};
-use bplist_objects::{Framed, Kind, Objects, Offsets, object_kind, object_shape, offsets_of};
+use bplist_objects::{Framed, Kind, Objects, Offsets, object_shape, offsets_of};
 use bplist_octets::Source;
 use std::alloc::Global;
 
@@ -18,7 +18,7 @@ fn list_object<P: Offsets>(src: &mut P, n: u32, lists: &mut KeySorting) -> Resul
     requires within { n < (frame_in (P.means src.old)).objects }
     requires few { vec_len lists.old.positions ≤ 4294967295 }
     ensures reads { OnlyReads (refused_read result) (P.means src.old) (P.means src.new) }
-    ensures asks { HonestlyIn (P.means src.old) (λ f F. P.asked src.new ≤ P.asked src.old + (53 + extent f F n)) }
+    ensures asks { HonestlyIn (P.means src.old) (λ f F. P.asked src.new ≤ P.asked src.old + (36 + extent f F n)) }
     ensures same { lists.new.ranks.table.items ≡ lists.old.ranks.table.items }
     ensures few { IfOk result (λ _. vec_len lists.new.positions ≤ 4294967295) }
     ensures exact { HonestlyIn (P.means src.old) (λ f F. (named : List Bool) (heights starts : List ℕ)
@@ -28,13 +28,6 @@ fn list_object<P: Offsets>(src: &mut P, n: u32, lists: &mut KeySorting) -> Resul
         → Judges (λ start. Listed f F heights (n + 1) (set starts n start) lists.new.positions.items) Never result) }
 {
     let _frame = src.frame();
-    // The marker alone says of most objects that they are no dictionary.
-    let Some(kind) = object_kind(src, n)? else {
-        return Ok(0);
-    };
-    if kind != Kind::Dict {
-        return Ok(0);
-    }
     let head = object_shape(src, n)?;
     match head.kind {
         Kind::Dict => {
@@ -61,7 +54,7 @@ pub fn list_by_ranks<P: Offsets>(
     ensures reads { OnlyReads (refused_read result) (P.means src.old) (P.means src.new) }
     ensures asks { HonestlyIn (P.means src.old) (λ f F. (marks : List Bool)
         → ((n : ℕ) → IsVouchedBy heights.items n → IsMarked marks n)
-        → P.asked src.new ≤ P.asked src.old + (53 * F.objects + extents_below f F (is_marked marks) F.objects)) }
+        → P.asked src.new ≤ P.asked src.old + (36 * F.objects + extents_below f F (is_marked marks) F.objects)) }
     ensures heights { IfOk result (λ certificate. certificate.heights ≡ heights.items) }
     ensures exact { HonestlyIn (P.means src.old) (λ f F. IsValid f F heights.items
         → RankKeys f F (IsVouchedBy heights.items) ranks.table.items

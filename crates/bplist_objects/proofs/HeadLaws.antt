@@ -1,6 +1,6 @@
 -- Laws of heads: what marker and count announce is what is found there, and so an object has at most one announced
 -- head.
-use Rattle.std.proofs.Common.{◌≡◌, ℕ, ◌+◌, ◌-◌, ◌*◌, ◌^◌, ◌<◌, ◌≤◌, Bool, true, false, ◌&&◌, nat_le, nat_eq, if◌then◌else◌, List, [], ◌∷◌, length, slice_index, Option, Some, None, MatchOption, find, sym, ap, ap₂, ◌∙◌, arith, drop, length-drop, refl, inl, inr, subst}
+use Rattle.std.proofs.Common.{◌≡◌, ℕ, ◌+◌, ◌-◌, ◌*◌, ◌^◌, ◌<◌, ◌≤◌, Bool, true, false, ◌&&◌, nat_le, nat_eq, if◌then◌else◌, List, [], ◌∷◌, length, slice_index, Option, Some, None, find, sym, ap, ap₂, ◌∙◌, arith, drop, length-drop, refl, inl, inr, subst}
 use Rattle.std.proofs.lemmas.Bool.Decides.{nat_tests}
 use Rattle.std.proofs.lemmas.Bool.{cases_eq}
 use Rattle.std.specs.Option.{option_map, option_and_then}
@@ -216,11 +216,6 @@ module _ (f : List ℕ) (p : ℕ) where
           let b : (16 ≤ next) × (next ≤ 20) = grind (arith, nat_tests) in
           inr (at, (next - 16, omega (arith, b), omega (arith, b), sym (ap (λ y. y.0) r.1), sym (ap (λ y. y.1) r.1)))
 
--- what a look at a marker finds is its kind
-pub kind_known : (m : ℕ) (kind : Kind) → Marks m kind → (found : Option Kind) → MatchOption found (IsMarker m → ⊥) (Marks m) → found ≡ Some kind
-kind_known m kind marks None none = absurd (none (marks_marker m kind marks))
-kind_known m kind marks (Some other) some = sym (kind_marked m other some) ∙ kind_marked m kind marks
-
 -- ---- the head
 module _ (f : List ℕ) (F : Frame) (n : ℕ) where
   abbrev o : ℕ
@@ -267,10 +262,6 @@ module _ (f : List ℕ) (F : Frame) (n : ℕ) where
 
   pub found_head : (head : Head) → head.body ≤ length f → head_found f F n ≡ Some head → HasHead f F n head
   found_head head within e = head_announced head within (found_parts head e)
-
-  -- its marker is one of its kind
-  pub head_marks : (head : Head) → HasHead f F n head → Marks (slice_index f o) head.kind
-  head_marks head h = announced_marks f o (markers_of head.kind) head.count head.body (head_parts head h).0
 
   -- its body begins in the file
   pub head_within : (head : Head) → HasHead f F n head → head.body ≤ length f

@@ -18,7 +18,7 @@
 //! | rule_texts | [`texts_of`], a sentence and an example for each rule |
 //! | fault | [`Fault`], a broken rule; [`ObjectFault`], that or a failed read; [`Failure`], a failed read or refused memory |
 //! | frame | [`Frame`], the trailer's five numbers: [`trailer_of`] by rules 1 to 12, [`frame_of`] by rules 1 to 13 |
-//! | offsets | places of objects: [`offset_of`], [`read_offsets`], [`offsets_of`], and [`check_offsets`] by rule 13; [`Offsets`], a source that gives them; [`object_shape`], [`object_kind`] |
+//! | offsets | places of objects: [`offset_of`], [`read_offsets`], [`offsets_of`], and [`check_offsets`] by rule 13; [`Offsets`], a source that gives them; [`object_shape`] |
 //! | head | [`Kind`], the kinds of objects; [`Head`], what marker and count say, by rules 14 to 17: [`shape_of`], and [`shape_at`] for a known place |
 //! | marker | what the marker alone says: the kind, by rule 15, the count and the size |
 //! | body | heads by rules 14 to 20: [`head_of`], [`head_at`]; [`check_body`] |
@@ -72,9 +72,7 @@ pub use laws::{
 pub use leaf::{int_of, key_cmp, octets_at, read_units, uid_of, unit_at};
 pub use leaf_laws::{leaves_by_parts, units_are_ordered};
 pub use objects::Objects;
-pub use offsets::{
-    Offsets, check_offsets, object_kind, object_shape, offset_of, offsets_of, read_offsets,
-};
+pub use offsets::{Offsets, check_offsets, object_shape, offset_of, offsets_of, read_offsets};
 pub use ref_blocks::RefBlocks;
 pub use refs::{read_refs, ref_at, refs_of};
 pub use rule::{Rule, rule_name, rule_number, rule_of_number};

@@ -333,6 +333,7 @@ impl<S: Source> Pages<S> {
 
     #[inline(always)]
     fn copy_from(&self, number: usize, at: u64, into: &mut [u8]) -> bool
+        requires { at + length into.old ≤ length (S.means self.now.window.source).octets }
         ensures { IsTrue result → IsTrue (S.means self.now.window.source).honest
             → into.new ≡ part (S.means self.now.window.source).octets at (length into.old) }
     {
@@ -340,10 +341,13 @@ impl<S: Source> Pages<S> {
             return false;
         }
         let page = &self.pages[number];
-        let Some(from) = index_in(page.start, page.held, at, into.len()) else {
+        let Some(from) = at.checked_sub(page.start) else {
             return false;
         };
-        copy_part(page, from, into);
+        if from + into.len() as u64 > page.held as u64 {
+            return false;
+        }
+        copy_part(page, from as usize, into);
         true
     }
 

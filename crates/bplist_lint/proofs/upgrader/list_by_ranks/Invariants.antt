@@ -14,7 +14,7 @@ invariant-loop-n g l =
     record {
       reads : means l.src ≡ means l.fn.src;
       asked : HonestlyIn (means l.fn.src) (λ f F. (marks : List Bool) → ((n : ℕ) → IsVouchedBy l.fn.heights.items n → IsMarked marks n)
-          → g.P.Source.asked l.src ≤ g.P.Source.asked l.fn.src + 53 * l.n + extents_below f F (is_marked marks) l.n);
+          → g.P.Source.asked l.src ≤ g.P.Source.asked l.fn.src + 36 * l.n + extents_below f F (is_marked marks) l.n);
       all : vec_len l.starts ≡ (frame_in (means l.fn.src)).objects;
       few : vec_len l.lists.positions ≤ 4294967295;
       same : l.lists.ranks.table.items ≡ l.fn.ranks.table.items;

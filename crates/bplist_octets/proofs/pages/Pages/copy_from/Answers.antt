@@ -8,4 +8,4 @@ returns g c = λ _ honest.
     let m = g.S.Source.means c.args.self.now.window.source in
     let page = subst (IsPage m.octets m.honest c.args.number) (sym c.index-page.ensures) (c.args.self.now.pages_hold _ _ (omega arith)) in
     c.copy_part.ensures
-    ∙ page_part m.octets m.honest _ _ _ c.in-Some.from _ page c.in-Some.ensures.0 (omega (arith, c.in-Some.ensures.1)) honest
+    ∙ page_part m.octets m.honest _ _ _ _ _ page (omega arith) (omega arith) honest
