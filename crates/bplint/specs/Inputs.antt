@@ -39,7 +39,7 @@ starts_with_bplist f = bytes_eq (codes "bplist") (take 6 f)
 -- the input is not longer than the limit for inputs that are read as a whole
 abbrev pub IsShort : Operand → Type 0
 IsShort (Memory text) = vec_len text ≤ 67108864
-IsShort (Disk file) = file.0.value.len ≤ 67108864
+IsShort (Disk file) = file.len ≤ 67108864
 
 -- the input is empty
 abbrev pub IsNothing : Operand → Type 0

@@ -71,12 +71,8 @@ pub enum Operand {
     /// All of its bytes.
     Memory(Vec<u8>),
     /// It is read by place.
-    Disk(PagedFile),
+    Disk(Pages<FileSource>),
 }
-
-/// A file that is read by place. Boxed, since it has buffers and is handed on by value.
-#[derive(Drop)]
-pub struct PagedFile(Box<Pages<FileSource>>);
 
 /// The inputs of a command.
 #[derive(Drop)]
@@ -90,12 +86,12 @@ pub struct Inputs {
 impl Source for Operand {
     ghost means = { λ operand. elim operand [
       | Memory bytes ↦ in_memory bytes.items
-      | Disk file ↦ ⟦<PagedFile as Source>⟧.means file
+      | Disk file ↦ ⟦<Pages<FileSource> as Source>⟧.means file
     ] };
 
     ghost asked = { λ operand. elim operand [
       | Memory _ ↦ 0
-      | Disk file ↦ ⟦<PagedFile as Source>⟧.asked file
+      | Disk file ↦ ⟦<Pages<FileSource> as Source>⟧.asked file
     ] };
 
     fn len(&self) -> u64 {
@@ -110,22 +106,6 @@ impl Source for Operand {
             Operand::Memory(bytes) => SliceSource::new(bytes).read_at(at, into),
             Operand::Disk(file) => file.read_at(at, into),
         }
-    }
-}
-
-impl Source for PagedFile {
-    ghost means = { λ file. ⟦<Pages<FileSource> as Source>⟧.means file.0.value };
-
-    ghost asked = { λ file. ⟦<Pages<FileSource> as Source>⟧.asked file.0.value };
-
-    fn len(&self) -> u64 {
-        self.0.len()
-    }
-
-    // Inlined as in `Pages`.
-    #[inline(always)]
-    fn read_at(&mut self, at: u64, into: &mut [u8]) -> Result<(), ReadFault> {
-        self.0.read_at(at, into)
     }
 }
 
@@ -284,8 +264,7 @@ fn open_file<R: Files<File = File>>(
         return Ok(Operand::Memory(read_whole(alloc, &mut file)?));
     }
     let source = SeekSource::new(file).map_err(|error| InputFault::Open(error.kind()))?;
-    let pages = Box::new(alloc, Pages::new(alloc, source))?;
-    Ok(Operand::Disk(PagedFile(pages)))
+    Ok(Operand::Disk(Pages::new(alloc, source)?))
 }
 
 /// Reads an input as a whole. `-` is standard input.

@@ -115,32 +115,35 @@ const PAGES: &[(u64, &[Read])] = &[
 ];
 
 #[test]
-fn pages(rt: HostRuntime) {
+fn pages(rt: HostRuntime) -> Result<(), Fail> {
     let bytes = numbered();
     for (fails, reads) in PAGES {
-        let mut pages = Pages::new(rt.alloc(), FaultySource::new(&bytes, *fails));
+        let mut pages = Pages::new(rt.alloc(), FaultySource::new(&bytes, *fails))?;
         all_answer(&rt, &mut pages, &bytes, reads);
     }
+    Ok(())
 }
 
 /// Reads 4,096 bytes, and then each of the five pages. The seventh read of the source would fail.
 #[test]
-fn forward_in_whole_pages(rt: HostRuntime) {
+fn forward_in_whole_pages(rt: HostRuntime) -> Result<(), Fail> {
     let bytes = numbered();
-    let mut pages = Pages::new(rt.alloc(), FaultySource::new(&bytes, 6));
+    let mut pages = Pages::new(rt.alloc(), FaultySource::new(&bytes, 6))?;
     for k in 0..700 {
         answers(&rt, &mut pages, &bytes, (k * 100, 100, Ok(())));
     }
+    Ok(())
 }
 
 /// The same backward: reads the last 368 bytes, and then each page.
 #[test]
-fn backward_in_whole_pages(rt: HostRuntime) {
+fn backward_in_whole_pages(rt: HostRuntime) -> Result<(), Fail> {
     let bytes = numbered();
-    let mut pages = Pages::new(rt.alloc(), FaultySource::new(&bytes, 6));
+    let mut pages = Pages::new(rt.alloc(), FaultySource::new(&bytes, 6))?;
     for k in 1..701 {
         answers(&rt, &mut pages, &bytes, (70_000 - k * 100, 100, Ok(())));
     }
+    Ok(())
 }
 
 /// A source that is read through a borrow, so that its counts are there afterwards.
@@ -174,22 +177,35 @@ struct Places {
     step: u64,
 }
 
-/// Reads four bytes at each of these places. Returns how many bytes the source is asked for, and with how many reads.
+/// Reads four bytes at each of these places, through pages of a source that has these bytes.
+fn read_at_places<S: Source>(
+    rt: &impl Abort,
+    alloc: Global,
+    source: S,
+    bytes: &[u8],
+    places: &Places,
+) -> Result<(), AllocError>
+where
+    S: Drop,
+{
+    let mut pages = Pages::new(alloc, source)?;
+    let mut state = 0u64;
+    for _ in 0..places.count {
+        let at = (state >> 32) % (LENGTH as u64 - 4);
+        answers(rt, &mut pages, bytes, (at, 4, Ok(())));
+        state = state.wrapping_mul(places.factor).wrapping_add(places.step);
+    }
+    Ok(())
+}
+
+/// The same over bytes in memory. Returns how many bytes the source is asked for, and with how many reads.
 fn asked_by(rt: &impl Abort, alloc: Global, places: &Places) -> Result<(u64, u64), AllocError> {
     let bytes = vec![in alloc; 7u8; LENGTH]?;
     let mut counting = CountingSource::new(SliceSource::new(&bytes));
-    {
-        let borrowed = Borrowed {
-            source: &mut counting,
-        };
-        let mut pages = Pages::new(alloc, borrowed);
-        let mut state = 0u64;
-        for _ in 0..places.count {
-            let at = (state >> 32) % (LENGTH as u64 - 4);
-            answers(rt, &mut pages, &bytes, (at, 4, Ok(())));
-            state = state.wrapping_mul(places.factor).wrapping_add(places.step);
-        }
-    }
+    let borrowed = Borrowed {
+        source: &mut counting,
+    };
+    read_at_places(rt, alloc, borrowed, &bytes, places)?;
     Ok((counting.asked, counting.reads))
 }
 

@@ -3,8 +3,8 @@ use Rattle.std.specs.Prelude.{◌≡◌, ℕ, ◌+◌, ◌*◌, ◌-◌, ◌/◌
 use Rattle.bplist_octets.specs.Octets.{part}
 use Rattle.bplist_octets.specs.declared.pages.Page.{Page}
 
--- what is kept of this page is inside it and has the bytes, if the source is honest; after two reads it is all of it, and
--- before the first nothing
+-- what is kept of this page is inside it and has the bytes, if the source is honest; before the first read it is nothing,
+-- and after two reads all of the page
 pub record IsPage (f : List ℕ) (honest : Bool) (number : ℕ) (page : Page) : Type 0 where
   pub place : page.start / 16384 ≡ number
   pub room : page.held ≤ vec_len page.octets

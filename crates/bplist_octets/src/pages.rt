@@ -11,7 +11,7 @@ ghost use Rattle.bplist_octets.specs.Pages.{ArePages, AreUnread, IsPage, IsUnrea
 
 use crate::source::{ReadFault, Source};
 use crate::window::{JUMP, Window, index_in};
-use std::alloc::Global;
+use std::alloc::{AllocError, Global};
 use std::mem;
 
 /// The number of bytes of a page. Pages begin at multiples of it.
@@ -121,36 +121,29 @@ fn hold<S: Source>(
     Ok(true)
 }
 
-/// Returns the first `count` pages of a source, of which nothing is kept, or none if there is no memory for the table.
-fn pages_of(alloc: Global, count: usize) -> Vec<Page>
+/// Returns the first `count` pages of a source, of which nothing is kept.
+fn pages_of(alloc: Global, count: usize) -> Result<Vec<Page>, AllocError>
     requires { count ≤ 262145 }
-    ensures count { vec_len result ≤ count }
-    ensures unread { AreUnread result.items }
-    ensures all { vec_len result ≡ count ⊎ vec_len result ≡ 0 }
+    ensures { IfOk result (λ pages. (vec_len pages ≡ count) × AreUnread pages.items) }
 {
-    let Ok(mut pages) = Vec::with_capacity(alloc, count) else {
-        return Vec::new(alloc);
-    };
+    let mut pages = Vec::with_capacity(alloc, count)?;
     for number in 0..count {
-        let page = Page {
+        pages.push(Page {
             start: (number * PAGE) as u64,
             held: 0,
             octets: Vec::new(alloc),
             reads: 0,
             taken: 0,
-        };
-        if pages.push(page).is_err() {
-            return Vec::new(alloc);
-        }
+        })?;
     }
-    pages
+    Ok(pages)
 }
 
 /// A source over a source, which it reads through a [`Window`], and of which it keeps pages of 16,384 bytes. It has the
 /// bytes, the honesty, the count of failed reads and the last fault of that source.
 ///
 /// A page is found by its number. If it has all bytes of a request, nothing is read. A request of more than 8,192 bytes
-/// goes straight to the window, and so does each request if the source is longer than 4 GiB.
+/// goes straight to the window, and so does each request behind the first page if the source is longer than 4 GiB.
 ///
 /// A reader goes on if it comes to a page beside one that it used lately. The page of such a reader takes the place of
 /// one that was used long ago, if 8 pages are kept. A reader that does not go on jumps, and a jump takes a page more,
@@ -166,10 +159,11 @@ fn pages_of(alloc: Global, count: usize) -> Vec<Page>
 /// `asked` is the number of whole pages that the source was asked for.
 #[derive(Drop)]
 pub struct Pages<S: Source> {
-    window: Window<S>,
+    window: Box<Window<S>>,
     /// The number of bytes of the source.
     len: u64,
-    /// The pages of the source, by their numbers. None if the source is too long, or if there was no memory for them.
+    /// The pages of the source, by their numbers. Only the first if the source is too long, or if there was no memory
+    /// for them all.
     pages: Vec<Page>,
     /// The numbers of the pages of which something is kept.
     kept: Vec<usize>,
@@ -184,38 +178,47 @@ pub struct Pages<S: Source> {
     /// Whether all pages may be kept, and no memory for them was refused.
     bounded: bool,
     alloc: Global,
-    ghost whole: { len ≡ length (S.means window.source).octets },
+    ghost whole: { len ≡ length (S.means window.value.source).octets },
+    ghost some: { last < vec_len pages },
     ghost all: { IsTrue bounded → len < 16384 * vec_len pages },
-    ghost pages_hold: { ArePages (S.means window.source).octets (S.means window.source).honest pages.items },
+    ghost pages_hold: { ArePages
+        (S.means window.value.source).octets (S.means window.value.source).honest pages.items },
 }
 
 impl<S: Source> Pages<S> {
-    /// Returns a source over `source`. It takes memory for the bytes of pages when it needs them.
-    pub fn new(alloc: Global, source: S) -> Pages<S>
-        ensures means { ⟦<Pages<S> as Source>⟧.means result ≡ S.means source }
-        ensures asked { ⟦<Pages<S> as Source>⟧.asked result ≡ S.asked source / 16384 }
-        ensures left { pages_left result.spare result.pages.items
-            ≤ 163840 * (length (S.means source).octets / 16384 + 1) }
+    /// Returns a source over `source`, or an error if there is no memory for a window and a table of one page. It takes
+    /// memory for the bytes of pages when it needs them.
+    pub fn new(alloc: Global, source: S) -> Result<Pages<S>, AllocError>
+    where
+        S: Drop,
+        ensures means { IfOk result (λ p. ⟦<Pages<S> as Source>⟧.means p ≡ S.means source) }
+        ensures asked { IfOk result (λ p. ⟦<Pages<S> as Source>⟧.asked p ≡ S.asked source / 16384) }
+        ensures left { IfOk result (λ p. pages_left p.spare p.pages.items
+            ≤ 163840 * (length (S.means source).octets / 16384 + 1)) }
     {
         let len = source.len();
+        let all = len / PAGE as u64 + 1;
         let count = if len <= LONGEST_SOURCE {
-            (len / PAGE as u64) as usize + 1
+            all as usize
         } else {
-            0
+            1
         };
-        let pages = pages_of(alloc, count);
-        Pages {
-            window: Window::new(source),
+        let pages = match pages_of(alloc, count) {
+            Ok(pages) => pages,
+            Err(_) => pages_of(alloc, 1)?,
+        };
+        Ok(Pages {
+            window: Box::new(alloc, Window::new(source))?,
             len,
-            bounded: pages.len() > 0 && pages.len() <= MOST,
+            bounded: pages.len() as u64 == all && pages.len() <= MOST,
+            spare: pages.len().saturating_mul(TIMES),
             pages,
             kept: Vec::new(alloc),
             last: 0,
             hand: 0,
             turn: 0,
-            spare: count.saturating_mul(TIMES),
             alloc,
-        }
+        })
     }
 
     fn taken(&self, slot: usize) -> u64
@@ -333,13 +336,11 @@ impl<S: Source> Pages<S> {
 
     #[inline(always)]
     fn copy_from(&self, number: usize, at: u64, into: &mut [u8]) -> bool
-        requires { at + length into.old ≤ length (S.means self.now.window.source).octets }
-        ensures { IsTrue result → IsTrue (S.means self.now.window.source).honest
-            → into.new ≡ part (S.means self.now.window.source).octets at (length into.old) }
+        requires number { number < vec_len self.now.pages }
+        requires inside { at + length into.old ≤ length (S.means self.now.window.value.source).octets }
+        ensures { IsTrue result → IsTrue (S.means self.now.window.value.source).honest
+            → into.new ≡ part (S.means self.now.window.value.source).octets at (length into.old) }
     {
-        if number >= self.pages.len() {
-            return false;
-        }
         let page = &self.pages[number];
         let Some(from) = at.checked_sub(page.start) else {
             return false;
@@ -353,16 +354,18 @@ impl<S: Source> Pages<S> {
 
     /// Reads through the page if there is memory for it.
     fn read_page(&mut self, at: u64, into: &mut [u8]) -> Result<(), ReadFault>
-        requires inside { at + length into.old ≤ length (S.means self.old.window.source).octets }
+        requires inside { at + length into.old ≤ length (S.means self.old.window.value.source).octets }
         requires fits { at % 16384 + length into.old ≤ 16384 }
-        ensures reads { OnlyReads (result_err result) (S.means self.old.window.source) (S.means self.new.window.source) }
-        ensures asks { S.asked self.new.window.source ≤ S.asked self.old.window.source + 16384 * length into.old }
-        ensures most { S.asked self.new.window.source ≤ S.asked self.old.window.source + 16384 }
+        ensures reads { OnlyReads (result_err result)
+            (S.means self.old.window.value.source) (S.means self.new.window.value.source) }
+        ensures asks { S.asked self.new.window.value.source
+            ≤ S.asked self.old.window.value.source + 16384 * length into.old }
+        ensures most { S.asked self.new.window.value.source ≤ S.asked self.old.window.value.source + 16384 }
         ensures left { OnOk result (IsTrue self.new.bounded → IsTrue self.old.bounded
-            × (S.asked self.new.window.source + pages_left self.new.spare self.new.pages.items
-            ≤ S.asked self.old.window.source + pages_left self.old.spare self.old.pages.items)) }
-        ensures filled { OnOk result (IsTrue (S.means self.old.window.source).honest
-            → into.new ≡ part (S.means self.old.window.source).octets at (length into.old)) }
+            × (S.asked self.new.window.value.source + pages_left self.new.spare self.new.pages.items
+            ≤ S.asked self.old.window.value.source + pages_left self.old.spare self.old.pages.items)) }
+        ensures filled { OnOk result (IsTrue (S.means self.old.window.value.source).honest
+            → into.new ≡ part (S.means self.old.window.value.source).octets at (length into.old)) }
     {
         if into.is_empty() {
             return Ok(());
@@ -373,7 +376,7 @@ impl<S: Source> Pages<S> {
         }
         let whole = self.turn_to(number, (at % PAGE as u64) as usize);
         let page = &mut self.pages[number];
-        if !hold(&mut self.window, page, at, into.len(), whole)? {
+        if !hold(&mut *self.window, page, at, into.len(), whole)? {
             self.bounded = false;
             return self.window.read_at(at, into);
         }
@@ -383,19 +386,23 @@ impl<S: Source> Pages<S> {
 
     /// Reads bytes that the page used last lacks. They are in one page or in two.
     fn read_pages(&mut self, at: u64, into: &mut [u8]) -> Result<(), ReadFault>
-        requires inside { at + length into.old ≤ length (S.means self.old.window.source).octets }
-        ensures reads { OnlyReads (result_err result) (S.means self.old.window.source) (S.means self.new.window.source) }
-        ensures asks { S.asked self.new.window.source ≤ S.asked self.old.window.source + 16384 * length into.old }
-        ensures below { S.asked self.new.window.source ≤ S.asked self.old.window.source + max (length into.old) 32768 }
+        requires inside { at + length into.old ≤ length (S.means self.old.window.value.source).octets }
+        ensures reads { OnlyReads (result_err result)
+            (S.means self.old.window.value.source) (S.means self.new.window.value.source) }
+        ensures asks { S.asked self.new.window.value.source
+            ≤ S.asked self.old.window.value.source + 16384 * length into.old }
+        ensures below { S.asked self.new.window.value.source
+            ≤ S.asked self.old.window.value.source + max (length into.old) 32768 }
         ensures left { OnOk result (IsTrue self.new.bounded → IsTrue self.old.bounded
-            × (S.asked self.new.window.source + pages_left self.new.spare self.new.pages.items
-            ≤ S.asked self.old.window.source + pages_left self.old.spare self.old.pages.items + past_pages (length into.old))) }
-        ensures filled { OnOk result (IsTrue (S.means self.old.window.source).honest
-            → into.new ≡ part (S.means self.old.window.source).octets at (length into.old)) }
+            × (S.asked self.new.window.value.source + pages_left self.new.spare self.new.pages.items
+            ≤ S.asked self.old.window.value.source + pages_left self.old.spare self.old.pages.items
+            + past_pages (length into.old))) }
+        ensures filled { OnOk result (IsTrue (S.means self.old.window.value.source).honest
+            → into.new ≡ part (S.means self.old.window.value.source).octets at (length into.old)) }
     {
         let number = (at / PAGE as u64) as usize;
         // A reader of a file in no order mostly finds another page that is kept, for which nothing is chosen or read.
-        if self.copy_from(number, at, into) {
+        if number < self.pages.len() && self.copy_from(number, at, into) {
             self.turn = self.turn.wrapping_add(1);
             self.mark_used(number);
             return Ok(());
@@ -413,10 +420,10 @@ impl<S: Source> Pages<S> {
 }
 
 impl<S: Source> Source for Pages<S> {
-    ghost means = { λ p. S.means p.window.source };
+    ghost means = { λ p. S.means p.window.value.source };
 
     // In pages, since a request of a byte may read a whole one.
-    ghost asked = { λ p. S.asked p.window.source / 16384 };
+    ghost asked = { λ p. S.asked p.window.value.source / 16384 };
 
     fn len(&self) -> u64 {
         self.len
@@ -425,15 +432,19 @@ impl<S: Source> Source for Pages<S> {
     // Inlined, so that reading one byte costs no call if the page used last has it.
     #[inline(always)]
     fn read_at(&mut self, at: u64, into: &mut [u8]) -> Result<(), ReadFault>
-        requires { at + length into.old ≤ length (S.means self.old.window.source).octets }
-        ensures reads { OnlyReads (result_err result) (S.means self.old.window.source) (S.means self.new.window.source) }
-        ensures filled { OnOk result (IsTrue (S.means self.old.window.source).honest
-            → into.new ≡ part (S.means self.old.window.source).octets at (length into.old)) }
-        ensures asks { S.asked self.new.window.source / 16384 ≤ S.asked self.old.window.source / 16384 + length into.old }
-        ensures below { S.asked self.new.window.source ≤ S.asked self.old.window.source + max (length into.old) 32768 }
+        requires { at + length into.old ≤ length (S.means self.old.window.value.source).octets }
+        ensures reads { OnlyReads (result_err result)
+            (S.means self.old.window.value.source) (S.means self.new.window.value.source) }
+        ensures filled { OnOk result (IsTrue (S.means self.old.window.value.source).honest
+            → into.new ≡ part (S.means self.old.window.value.source).octets at (length into.old)) }
+        ensures asks { S.asked self.new.window.value.source / 16384
+            ≤ S.asked self.old.window.value.source / 16384 + length into.old }
+        ensures below { S.asked self.new.window.value.source
+            ≤ S.asked self.old.window.value.source + max (length into.old) 32768 }
         ensures left { OnOk result (IsTrue self.new.bounded → IsTrue self.old.bounded
-            × (S.asked self.new.window.source + pages_left self.new.spare self.new.pages.items
-            ≤ S.asked self.old.window.source + pages_left self.old.spare self.old.pages.items + past_pages (length into.old))) }
+            × (S.asked self.new.window.value.source + pages_left self.new.spare self.new.pages.items
+            ≤ S.asked self.old.window.value.source + pages_left self.old.spare self.old.pages.items
+            + past_pages (length into.old))) }
     {
         if self.copy_from(self.last, at, into) {
             return Ok(());

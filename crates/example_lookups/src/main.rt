@@ -25,7 +25,7 @@ fn main(rt: HostRuntime) -> Result<()> {
     let alloc = rt.alloc();
     let mut kept = FileSource::open(&rt, "Info.cert")?;
     let certificate = Certificate::from_source(alloc, &mut kept)?;
-    let source = Pages::new(alloc, FileSource::open(&rt, "Info.plist")?);
+    let source = Pages::new(alloc, FileSource::open(&rt, "Info.plist")?)?;
     let mut checked = check(alloc, source, certificate).map_err(|refused| refused.0)?;
     for line in rt.lines(alloc) {
         match look_up(alloc, &mut checked, &line?) {

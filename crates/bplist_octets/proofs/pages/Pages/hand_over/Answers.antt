@@ -6,7 +6,7 @@ use Rattle.bplist_octets.proofs.pages.Pages.hand_over.Goals as goal
 
 pub invariant_of-self-2 : goal.invariant_of-self-2
 invariant_of-self-2 g c =
-    let m = g.S.Source.means c.args.self.now.window.source in
+    let m = g.S.Source.means c.args.self.now.window.value.source in
     let pages = c.args.self.now.pages_hold in
     let low = c.in-Some.ensures.variant.0 refl in
     let page = record c.in-Some.page.now { octets = c.replace.new.dest; held = 0; reads = 0 } in
@@ -17,6 +17,7 @@ invariant_of-self-2 g c =
     let unread = ap (λ p. p.reads) c.index_mut-2.ensures.value ∙ still_unread c.args.self.now.pages.items c.replace-given_up.result _ page _ (omega (arith, low)) refl c.requires.unread in
     record {
       whole = c.args.self.now.whole;
+      some = c.args.self.now.some;
       all = c.args.self.now.all;
       pages_hold = pages_set _ _ _ _ _ first (emptied _ _ _ _ _ then refl (then.none unread) unread);
     }
