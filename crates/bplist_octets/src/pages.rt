@@ -342,9 +342,10 @@ impl<S: Source> Pages<S> {
             → into.new ≡ part (S.means self.now.window.value.source).octets at (length into.old) }
     {
         let page = &self.pages[number];
-        let Some(from) = at.checked_sub(page.start) else {
+        if at < page.start {
             return false;
-        };
+        }
+        let from = at - page.start;
         if from + into.len() as u64 > page.held as u64 {
             return false;
         }
