@@ -3,7 +3,7 @@
 //! A reader that goes on from where it was needs few of them. A reader that jumps, as in a file whose objects lie in no
 //! order, takes a page more with each jump, so that in the end it reads the file once.
 
-ghost use Rattle.std.specs.Prelude.{◌≡◌, ◌⊎◌, ◌+◌, ◌*◌, ◌/◌, ◌%◌, ◌<◌, ◌≤◌, IfOk, IsTrue, length, max, Ok, OnOk, false, take, vec_len};
+ghost use Rattle.std.specs.Prelude.{◌≡◌, ◌+◌, ◌*◌, ◌/◌, ◌%◌, ◌<◌, ◌≤◌, IfOk, IsTrue, length, max, Ok, OnOk, false, take, vec_len};
 ghost use Rattle.std.specs.Result.{result_err};
 ghost use Rattle.bplist_octets.specs.Octets.{part};
 ghost use Rattle.bplist_octets.specs.Meaning.{OnlyReads};
