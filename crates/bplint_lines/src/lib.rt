@@ -14,7 +14,7 @@
 //! | write the line of a fault, get its exit status | [`RunFault`]: `line`, `status` |
 //! | the same for raw bytes | [`RawFault`] |
 //! | explain a rule, tell who asks for it | [`rule_text`], [`is_profile`] |
-//! | write the lines that explain a fault: of its rule, the file | [`rule_line_of`], [`file_line_of`], [`hint_line_of`] |
+//! | write the lines that explain a fault | [`rule_line_of`], [`file_line_of`], [`hint_line_of`] |
 //! | of an object, a wrong key, a path | [`object_line_of`], [`key_line_of`], [`path_line_of`] |
 //! | of the bytes around a place | [`bytes_line_of`] |
 //! | write the line of an answer | [`add_lint`], [`add_check`], [`add_face`], [`add_missing`] |

@@ -33,13 +33,13 @@
 //! | to know whether a file is sound | [`lint`] |
 //! | to read some values of a file | [`lint_checked`], then [`answer`] or [`answer_all`] |
 //! | to read values of one file in many runs | once [`lint`] and `Certificate::write_to`; then `Certificate::from_source` and [`check`] |
-//! | to look up many keys in large dictionaries | [`lint_checked`] with `Keys::Ranks`, whose certificate has sorted keys |
+//! | to look up many keys in large dictionaries | [`lint_checked`] with `Keys::Ranks`, which sorts the keys |
 //! | to walk through the tree | [`face`] and [`member`], from the node of `Checked::frame().top` on |
 //! | the bytes of a data object or text, without a copy | [`bytes_of`], over a [`SliceSource`] |
 //! | the text of a value in old-style form | [`measure`], then [`print`] |
 //! | the number of nodes of a value | [`answer`] to `Query::Size` |
 //! | one answer from a file and a certificate of someone else | [`answer_certified`] |
-//! | the objects of a file, sound or not | [`frame_of`], [`offset_of`], [`head_of`], and the calls that take a [`Head`] |
+//! | the objects of a file, sound or not | [`frame_of`], [`offset_of`], [`head_of`], and calls that take a [`Head`] |
 //! | to know how many bytes are read | a [`CountingSource`] around the source |
 //!
 //! # Errors

@@ -20,13 +20,13 @@
 //! | named_keys | [`NamedKeys`], a mark for each object that is named as a key; [`name_keys`], which sets them; [`count_marked`], [`numbers_of`] |
 //! | text | [`object_text`], the head of a key; [`text_order`], the order of two texts |
 //! | ranks | [`KeyNumbers`], a number for each key; [`ranks_of`], which gives them in the order of the units |
-//! | classes | [`classes_of`], for callers that compare only for equality: by fingerprints, so that most texts are read no further than their first units |
-//! | class_table | [`ClassTable`], which finds a dictionary's first [`KeyDefect`], a key that is wrong by rule 21 or 22 |
+//! | classes | [`classes_of`], for equality alone: by fingerprints, so that most texts are read only at the front |
+//! | class_table | [`ClassTable`], which finds a dictionary's first [`KeyDefect`], a key wrong by rule 21 or 22 |
 //! | sorting | the order of texts, by a merge sort |
 //! | fronts | the front of a text: some of its first units as one number |
 //! | key_texts | how two texts are compared: in memory, where each is read once, or by reading them |
 //! | long_texts | [`LongTexts`], ranks of long texts in a table of fixed size |
-//! | run_cache | [`RunCache`], what earlier comparisons found of texts that overlap, so that shared units are not read again |
+//! | run_cache | [`RunCache`], what comparisons found of texts that overlap, so that shared units are not read again |
 #![tactic(auto)]
 
 mod class_table;

@@ -25,7 +25,7 @@
 //! | linter | the passes of the linter, in their order | [`lint`], [`Keys`] |
 //! | checked | a linted file as a `Checked` | [`lint_checked`] |
 //! | walk | the one walk over the reached objects: rules 14 to 20 and 31 | |
-//! | tally | sums over the reached objects: rule 31; and the first fault of these rules, if the walk met one | [`Tally`] |
+//! | tally | sums over the reached objects: rule 31; and the first fault of these rules, if any | [`Tally`] |
 //! | reach | which objects are reached, if the walk met a fault | |
 //! | bit_set | the sets of places that the search in reach uses | |
 //! | key_rules | rules 21 and 22, and sorting the keys of a dictionary | |
